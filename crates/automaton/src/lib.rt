@@ -1,0 +1,136 @@
+// The automaton by value, and the questions that are asked of it.
+ghost use mathlib.Core.Path.{_≡_};
+ghost use mathlib.Core.List.{[], _∷_, _++_, map};
+ghost use Prim.Native.Nat.{_<_, _+_};
+ghost use Rattle.automaton.specs.Automaton.{listed, moves, member, isInitial, isRejecting};
+ghost use Rattle.automaton.specs.Decoded.{keysOf, statesOf, transitionOf, automatonOf};
+
+// What the automaton sees of a run.
+pub enum Event {
+    Action(u8),
+    Call(u8),
+    Return(u8),
+}
+
+// A list of keys, ascending: the first `count` are in use. Transitions are kept in one, and edges in another.
+pub struct Table {
+    pub count: usize,
+    pub keys: [u32; 256],
+}
+
+// A list of states, ascending: the first `count` are in use.
+pub struct States {
+    pub count: usize,
+    pub list: [u8; 8],
+}
+
+pub struct DecodedAutomaton {
+    pub states: u8,
+    pub actions: u8,
+    pub transitions: Table,
+    pub initial: States,
+    pub rejecting: States,
+}
+
+pub fn no_keys() -> Table
+    ensures { λ r. ⌜ (keysOf r ≡ []) × (r .count ≡ 0) ⌝ }
+{
+    let keys = [0u32; 256];
+    Table { count: 0, keys }
+}
+
+// The table with one key more at its end. The reader has judged that there is room (refusal 6) before it adds.
+pub fn with_key(t: Table, key: u32) -> Table
+    requires { ⌜ t .count < 256 ⌝ }
+    ensures { λ r. ⌜ (keysOf r ≡ keysOf t ++ (key ∷ [])) × (r .count ≡ t .count + 1) ⌝ }
+{
+    let n = t.count;
+    let mut longer = t;
+    longer.keys[n] = key;
+    longer.count = n + 1;
+    longer
+}
+
+pub fn no_states() -> States
+    ensures { λ r. ⌜ (statesOf r ≡ []) × (r .count ≡ 0) ⌝ }
+{
+    let list = [0u8; 8];
+    States { count: 0, list }
+}
+
+// The list with one state more at its end. Ascending states below 8 are at most 8, so that there is room.
+pub fn with_state(s: States, q: u8) -> States
+    requires { ⌜ s .count < 8 ⌝ }
+    ensures { λ r. ⌜ (statesOf r ≡ statesOf s ++ (q ∷ [])) × (r .count ≡ s .count + 1) ⌝ }
+{
+    let n = s.count;
+    let mut longer = s;
+    longer.list[n] = q;
+    longer.count = n + 1;
+    longer
+}
+
+// Whether the transition from q to s on a is in a table.
+fn has_transition(t: Table, q: u8, a: u8, s: u8) -> bool
+    ensures { λ y. ⌜ y ≡ listed q a s (map transitionOf (keysOf t)) ⌝ }
+{
+    let keys = t.keys;
+    let count = t.count;
+    let mut i: usize = 0;
+    while i < 256 {
+        if count <= i {
+            return false;
+        }
+        let k = keys[i];
+        if (k / 0x10000 == q as u32) & (k / 0x100 % 256 == a as u32) & (k % 256 == s as u32) {
+            return true;
+        }
+        i = i + 1;
+    }
+    false
+}
+
+// Whether a state is in a list.
+fn has_state(s: States, q: u8) -> bool
+    ensures { λ y. ⌜ y ≡ member q (statesOf s) ⌝ }
+{
+    let list = s.list;
+    let count = s.count;
+    let mut i: usize = 0;
+    while i < 8 {
+        if count <= i {
+            return false;
+        }
+        if list[i] == q {
+            return true;
+        }
+        i = i + 1;
+    }
+    false
+}
+
+// Whether the automaton may go from one state to another by an event.
+pub fn allows(r: DecodedAutomaton, q: u8, e: Event, s: u8) -> bool
+    ensures { λ y. ⌜ y ≡ moves (automatonOf r) q e s ⌝ }
+{
+    let transitions = r.transitions;
+    match e {
+        Event::Action(a) => has_transition(transitions, q, a, s),
+        Event::Call(_) => (q < r.states) & (q == s),
+        Event::Return(_) => (q < r.states) & (q == s),
+    }
+}
+
+pub fn is_initial(r: DecodedAutomaton, q: u8) -> bool
+    ensures { λ y. ⌜ y ≡ isInitial (automatonOf r) q ⌝ }
+{
+    let initial = r.initial;
+    has_state(initial, q)
+}
+
+pub fn is_rejecting(r: DecodedAutomaton, q: u8) -> bool
+    ensures { λ y. ⌜ y ≡ isRejecting (automatonOf r) q ⌝ }
+{
+    let rejecting = r.rejecting;
+    has_state(rejecting, q)
+}

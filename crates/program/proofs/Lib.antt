@@ -1,0 +1,12 @@
+pub mod Samples
+pub mod Turns
+pub mod Sections
+pub mod Judged
+pub mod Limit
+pub mod Sound
+pub mod Refusals
+pub mod Lines
+pub mod Bytes
+pub mod Back
+pub mod Again
+pub mod Theorems

@@ -1,0 +1,24 @@
+-- The program as it is kept by value, and the program that it stands for.
+use Prim.Native.Nat.{ℕ, _/_, _%_}
+use mathlib.Core.List.{List, map}
+use lib.ListN.{take}
+use Rattle.automaton.specs.Decoded.{keysOf, automatonOf}
+use Rattle.program.specs.Program.{Edge, Program}
+use Rattle.program.specs.declared.Nodes.{Nodes}
+use Rattle.program.specs.declared.DecodedProgram.{DecodedProgram}
+
+abbrev pub nodesOf : Nodes → List ℕ
+nodesOf n = take (n .count) (n .list)
+
+-- an edge is kept as one number in base 256
+abbrev pub edgeOf : ℕ → Edge
+edgeOf k = record { routine = k / 0x1000000; source = k / 0x10000 % 256; label = k / 0x100 % 256; target = k % 256 }
+
+abbrev pub programOf : DecodedProgram → Program
+programOf d =
+    record {
+      routines = d .routines;
+      nodes = nodesOf (d .nodes);
+      edges = map edgeOf (keysOf (d .edges));
+      automaton = automatonOf (d .automaton);
+    }

@@ -1,0 +1,74 @@
+-- Frames: the numbers of one line, the kind first.
+use Prim.Native.Nat.{ℕ, _+_, _*_, _/_, _%_}
+use mathlib.Core.Bool.{cond}
+use mathlib.Core.List.{List, [], _∷_}
+use lib.Dec.{eqb}
+use lib.ListN.{getD}
+use Rattle.text.specs.declared.Line.{Line}
+use Rattle.automaton.specs.Automaton.{Transition}
+use Rattle.program.specs.Program.{Edge}
+
+-- a kind's place in the table of kinds, from 1; 0 for an unknown kind
+abbrev pub rank : ℕ → ℕ
+rank k =
+    cond (eqb k 0x50) 1 (cond (eqb k 0x52) 2 (cond (eqb k 0x53) 3 (cond (eqb k 0x54) 4
+    (cond (eqb k 0x49) 5 (cond (eqb k 0x46) 6 (cond (eqb k 0x45) 7 0))))))
+
+-- how many numbers a frame of that rank has, its kind among them
+abbrev pub size : ℕ → ℕ
+size k = cond (eqb k 1) 4 (cond (eqb k 2) 3 (cond (eqb k 3) 5 (cond (eqb k 4) 4 (cond (eqb k 7) 3 2))))
+
+-- the numbers of a line, the kind at 0
+abbrev pub num : Line → ℕ → ℕ
+num l i = getD (l .numbers) i 0
+
+abbrev pub kind : Line → ℕ
+kind l = rank (num l 0)
+
+-- four numbers as one in base 256, so that less means earlier, compared left to right
+abbrev pub packed : ℕ → ℕ → ℕ → ℕ → ℕ
+packed a b c d = ((a * 256 + b) * 256 + c) * 256 + d
+
+abbrev pub word : Line → ℕ
+word l = packed (num l 1) (num l 2) (num l 3) (num l 4)
+
+-- a frame's rank and numbers as one number, its key: less means that it stands earlier in a file
+abbrev pub keyOf : ℕ → ℕ → ℕ
+keyOf k w = k * 0x100000000 + w
+
+-- ---- the frames of a program's parts
+
+abbrev pub headerFrame : ℕ → ℕ → ℕ → List ℕ
+headerFrame r q a = 0x50 ∷ r ∷ q ∷ a ∷ []
+
+abbrev pub nodesFrame : ℕ → ℕ → List ℕ
+nodesFrame f n = 0x52 ∷ f ∷ n ∷ []
+
+abbrev pub edgeFrame : Edge → List ℕ
+edgeFrame e = 0x53 ∷ e .routine ∷ e .source ∷ e .label ∷ e .target ∷ []
+
+abbrev pub transitionFrame : Transition → List ℕ
+transitionFrame t = 0x54 ∷ t .before ∷ t .action ∷ t .after ∷ []
+
+abbrev pub initialFrame : ℕ → List ℕ
+initialFrame q = 0x49 ∷ q ∷ []
+
+abbrev pub rejectingFrame : ℕ → List ℕ
+rejectingFrame q = 0x46 ∷ q ∷ []
+
+-- the end frame has the count of the frames before it, high number first
+abbrev pub endFrame : ℕ → List ℕ
+endFrame n = 0x45 ∷ n / 256 ∷ n % 256 ∷ []
+
+-- their keys
+abbrev pub edgeKey : Edge → ℕ
+edgeKey e = keyOf 3 (packed (e .routine) (e .source) (e .label) (e .target))
+
+abbrev pub transitionKey : Transition → ℕ
+transitionKey t = keyOf 4 (packed (t .before) (t .action) (t .after) 0)
+
+abbrev pub initialKey : ℕ → ℕ
+initialKey q = keyOf 5 (packed q 0 0 0)
+
+abbrev pub rejectingKey : ℕ → ℕ
+rejectingKey q = keyOf 6 (packed q 0 0 0)

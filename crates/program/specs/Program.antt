@@ -1,0 +1,57 @@
+-- A measuring program, as lists.
+use Prim.Native.Nat.{ℕ, _+_}
+use mathlib.Core.Bool.{Bool, _&&_, _||_, not}
+use mathlib.Core.List.{List, []}
+use lib.Dec.{ltb, leb, eqb}
+use lib.ListN.{getD}
+use Rattle.automaton.specs.Automaton.{Transition, Automaton}
+
+-- an edge leads from one node of a routine to another (paper: a step from place to place);
+-- its label is the number of an action, or 40 + f (hexadecimal) for a call of routine f
+pub record Edge : Type 0 where
+  pub routine : ℕ
+  pub source : ℕ
+  pub label : ℕ
+  pub target : ℕ
+
+-- routine 0 is the main routine; `nodes` has the count of nodes of each routine; node 0 is the entry, node 1 the exit
+pub record Program : Type 0 where
+  pub routines : ℕ
+  pub nodes : List ℕ
+  pub edges : List Edge
+  pub automaton : Automaton
+
+-- nothing is known of the program yet
+abbrev pub noProgram : Program
+noProgram =
+    record {
+      routines = 0;
+      nodes = [];
+      edges = [];
+      automaton = record { states = 0; actions = 0; transitions = []; initial = []; rejecting = [] };
+    }
+
+-- ---- ranges
+
+abbrev pub within : ℕ → ℕ → ℕ → Bool
+within lo hi x = leb lo x && leb x hi
+
+-- routines, states and actions
+abbrev pub countsFit : ℕ → ℕ → ℕ → Bool
+countsFit r q a = within 1 16 r && within 1 8 q && within 1 32 a
+
+-- a label is an action or a call of a routine
+abbrev pub labelFits : ℕ → ℕ → ℕ → Bool
+labelFits routines actions a = ltb a actions || (leb 0x40 a && ltb a (0x40 + routines))
+
+-- an edge of a routine that has so many nodes; no edge leaves the exit
+abbrev pub placed : ℕ → ℕ → ℕ → Bool
+placed nodes n m = ltb n nodes && ltb m nodes && not (eqb n 1)
+
+abbrev pub edgeFits : Program → Edge → Bool
+edgeFits p e =
+    ltb (e .routine) (p .routines) && placed (getD (p .nodes) (e .routine) 0) (e .source) (e .target)
+    && labelFits (p .routines) (p .automaton .actions) (e .label)
+
+abbrev pub transitionFits : Automaton → Transition → Bool
+transitionFits r t = ltb (t .before) (r .states) && ltb (t .action) (r .actions) && ltb (t .after) (r .states)

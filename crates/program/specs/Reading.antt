@@ -1,0 +1,146 @@
+-- Reading a file: line after line, and the first faulty line decides.
+use Prim.Native.Nat.{ℕ, _+_, _*_}
+use mathlib.Core.Bool.{Bool, true, false, cond, _&&_, _||_, not}
+use mathlib.Core.List.{List, [], _∷_, _++_}
+use lib.Dec.{ltb, leb, eqb}
+use lib.ListN.{length, getD}
+use Rattle.text.specs.Lines.{lines, numbers, lineFrom}
+use Rattle.text.specs.declared.Line.{Line}
+use Rattle.automaton.specs.Automaton.{Transition, Automaton}
+use Rattle.program.specs.Program.{Edge, Program, noProgram, within, countsFit, placed, labelFits, edgeFits, transitionFits}
+use Rattle.program.specs.Frames.{size, num, kind, word, keyOf}
+use Rattle.program.specs.declared.Verdict.{Verdict}
+use Rattle.program.specs.declared.Verdict.the-variants.{Accepted, Refused}
+
+-- what is known after some frames: the last one's key (0 before the first), how many there were, whether the last was an
+-- end frame, and the program so far
+pub record Progress : Type 0 where
+  pub last : ℕ
+  pub frames : ℕ
+  pub ended : Bool
+  pub program : Program
+
+abbrev pub start : Progress
+start = record { last = 0; frames = 0; ended = false; program = noProgram }
+
+-- ---- what one line meets; k is the rank of its kind
+
+-- the routine frame that is due; with all of them there, one more is out of range (5) and not out of order
+abbrev pub due : ℕ → ℕ → ℕ → Bool
+due routines done f = eqb f done || (leb routines done && ltb done f)
+
+-- 50 comes first and only there; the others ascend; routine frames run from 0 without a gap, and all are there
+-- before what follows them
+abbrev pub ordered : ℕ → ℕ → ℕ → ℕ → ℕ → Line → Bool
+ordered last frames routines done k l =
+    ltb last (keyOf k (word l))
+    && ((eqb k 1 && eqb frames 0)
+    || (eqb k 2 && ltb 0 frames && due routines done (num l 1))
+    || (ltb 2 k && ltb 0 frames && eqb done routines))
+
+abbrev pub edgeIn : Line → Edge
+edgeIn l = record { routine = num l 1; source = num l 2; label = num l 3; target = num l 4 }
+
+abbrev pub transitionIn : Line → Transition
+transitionIn l = record { before = num l 1; action = num l 2; after = num l 3 }
+
+abbrev pub ranged : Program → ℕ → Line → Bool
+ranged p k l =
+    (eqb k 1 && countsFit (num l 1) (num l 2) (num l 3))
+    || (eqb k 2 && ltb (num l 1) (p .routines) && within 2 16 (num l 2))
+    || (eqb k 3 && edgeFits p (edgeIn l))
+    || (eqb k 4 && transitionFits (p .automaton) (transitionIn l))
+    || (within 5 6 k && ltb (num l 1) (p .automaton .states))
+    || eqb k 7
+
+-- the 257th edge or transition
+abbrev pub full : ℕ → ℕ → ℕ → Bool
+full edges transitions k = (eqb k 3 && leb 256 edges) || (eqb k 4 && leb 256 transitions)
+
+-- an end frame with a wrong count
+abbrev pub miscounted : ℕ → ℕ → Line → Bool
+miscounted frames k l = eqb k 7 && not (eqb (num l 1 * 256 + num l 2) frames)
+
+-- the lowest number that is met, or 0
+abbrev pub lowest : Bool → Bool → Bool → Bool → Bool → Bool → Bool → ℕ
+lowest a b c d e f g = cond a 1 (cond b 2 (cond c 3 (cond d 4 (cond e 5 (cond f 6 (cond g 7 0))))))
+
+-- the refusal that a line meets after this progress, or 0
+unfoldable pub judgeAs : Progress → ℕ → Line → ℕ
+judgeAs s k l =
+    lowest (eqb (l .count) 0) (eqb k 0) (not (eqb (l .count) (size k)))
+    (not (ordered (s .last) (s .frames) (s .program .routines) (length (s .program .nodes)) k l))
+    (not (ranged (s .program) k l))
+    (full (length (s .program .edges)) (length (s .program .automaton .transitions)) k)
+    (miscounted (s .frames) k l)
+
+unfoldable pub judge : Progress → Line → ℕ
+judge s l = judgeAs s (kind l) l
+
+-- ---- what is known after a line without a fault
+
+-- one more at the end, if the test holds
+abbrev pub more : {A : Type 0} → Bool → A → List A → List A
+more t x xs = cond t (xs ++ x ∷ []) xs
+
+abbrev pub automatonAfter : Automaton → ℕ → Line → Automaton
+automatonAfter r k l =
+    record {
+      states = cond (eqb k 1) (num l 2) (r .states);
+      actions = cond (eqb k 1) (num l 3) (r .actions);
+      transitions = more (eqb k 4) (transitionIn l) (r .transitions);
+      initial = more (eqb k 5) (num l 1) (r .initial);
+      rejecting = more (eqb k 6) (num l 1) (r .rejecting);
+    }
+
+abbrev pub programAfter : Program → ℕ → Line → Program
+programAfter p k l =
+    record {
+      routines = cond (eqb k 1) (num l 1) (p .routines);
+      nodes = more (eqb k 2) (num l 2) (p .nodes);
+      edges = more (eqb k 3) (edgeIn l) (p .edges);
+      automaton = automatonAfter (p .automaton) k l;
+    }
+
+unfoldable pub afterAs : Progress → ℕ → Line → Progress
+afterAs s k l =
+    record { last = keyOf k (word l); frames = s .frames + 1; ended = eqb k 7; program = programAfter (s .program) k l }
+
+unfoldable pub after : Progress → Line → Progress
+after s l = afterAs s (kind l) l
+
+-- ---- a whole file
+
+-- accepted, with the program; or refused by a number at a line, and then there is no program
+pub record Outcome : Type 0 where
+  pub verdict : Verdict
+  pub program : Program
+
+abbrev pub accepted : Program → Outcome
+accepted p = record { verdict = Accepted; program = p }
+
+abbrev pub refused : ℕ → ℕ → Outcome
+refused n line = record { verdict = Refused n line; program = noProgram }
+
+-- the line after these frames: it comes after the end, or it is faulty, or the rest decides
+abbrev pub decided : Progress → ℕ → Outcome → Outcome
+decided s n rest = cond (s .ended) (refused 8 (s .frames + 1)) (cond (ltb 0 n) (refused n (s .frames + 1)) rest)
+
+unfoldable pub readFrom : Progress → List (List ℕ) → Outcome
+readFrom s [] = cond (s .ended) (accepted (s .program)) (refused 8 (s .frames + 1))
+readFrom s (l ∷ ls) = decided s (judge s (lineFrom (numbers l))) (readFrom (after s (lineFrom (numbers l))) ls)
+
+unfoldable pub readFile : List ℕ → Outcome
+readFile file = readFrom start (lines file)
+
+-- ---- the numbers of a verdict
+
+-- the refusal's number; 0 where there is none
+abbrev pub refusal : Verdict → ℕ
+refusal Accepted = 0
+refusal (Refused n line) = n
+
+-- the line of a refusal, counted from 1; 0 where there is none
+abbrev pub refusalLine : Verdict → ℕ
+refusalLine Accepted = 0
+refusalLine (Refused n line) = line

@@ -1,0 +1,16 @@
+-- What the reader's private functions ask: there is room for one more in the list that a frame of rank k adds to.
+use Prim.Native.Nat.{ℕ, _<_}
+use mathlib.Core.Path.{_≡_}
+use lib.ListN.{length}
+use Rattle.automaton.specs.Automaton.{Automaton}
+use Rattle.program.specs.Program.{Program}
+
+pub record RoomInAutomaton (r : Automaton) (k : ℕ) : Type 0 where
+  pub transitions : k ≡ 4 → length (r .transitions) < 256
+  pub initial : k ≡ 5 → length (r .initial) < 8
+  pub rejecting : k ≡ 6 → length (r .rejecting) < 8
+
+pub record Room (p : Program) (k : ℕ) : Type 0 where
+  pub nodes : k ≡ 2 → length (p .nodes) < 16
+  pub edges : k ≡ 3 → length (p .edges) < 256
+  pub automaton : RoomInAutomaton (p .automaton) k

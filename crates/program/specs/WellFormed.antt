@@ -1,0 +1,34 @@
+-- Well-formed programs: complete, in range, ascending, within the limits.
+use Prim.Native.Nat.{ℕ, _<_, _≤_}
+use mathlib.Core.Path.{_≡_}
+use mathlib.Core.Bool.{Bool, true}
+use mathlib.Core.List.{List, [], _∷_, map}
+use lib.ListN.{length}
+use lib.Dec.{ltb}
+use Rattle.program.specs.Program.{Program, within, countsFit, edgeFits, transitionFits}
+use Rattle.program.specs.Frames.{edgeKey, transitionKey, initialKey, rejectingKey}
+
+-- every element passes a test
+unfoldable pub All : {A : Type 0} → (A → Bool) → List A → Type 0
+All t [] = Unit
+All t (x ∷ xs) = (t x ≡ true) × All t xs
+
+-- each number is above the one before it, and the first is above this one
+unfoldable pub Ascending : ℕ → List ℕ → Type 0
+Ascending low [] = Unit
+Ascending low (k ∷ ks) = (low < k) × Ascending k ks
+
+pub record WellFormed (p : Program) : Type 0 where
+  pub counts-fit : countsFit (p .routines) (p .automaton .states) (p .automaton .actions) ≡ true
+  pub complete : length (p .nodes) ≡ p .routines
+  pub nodes-fit : All (within 2 16) (p .nodes)
+  pub edges-fit : All (edgeFits p) (p .edges)
+  pub edges-ascend : Ascending 0 (map edgeKey (p .edges))
+  pub edges-limited : length (p .edges) ≤ 256
+  pub transitions-fit : All (transitionFits (p .automaton)) (p .automaton .transitions)
+  pub transitions-ascend : Ascending 0 (map transitionKey (p .automaton .transitions))
+  pub transitions-limited : length (p .automaton .transitions) ≤ 256
+  pub initial-fit : All (λ q. ltb q (p .automaton .states)) (p .automaton .initial)
+  pub initial-ascend : Ascending 0 (map initialKey (p .automaton .initial))
+  pub rejecting-fit : All (λ q. ltb q (p .automaton .states)) (p .automaton .rejecting)
+  pub rejecting-ascend : Ascending 0 (map rejectingKey (p .automaton .rejecting))

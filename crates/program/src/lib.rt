@@ -1,0 +1,23 @@
+// The program of a file, decoded: counts, nodes, edges and the automaton, by value.
+use automaton::DecodedAutomaton;
+use automaton::Table;
+
+// How many nodes each routine has: the first `count` are in use.
+pub struct Nodes {
+    pub count: usize,
+    pub list: [u8; 16],
+}
+
+// The decoded program. Edges are kept as ascending keys of four numbers.
+pub struct DecodedProgram {
+    pub routines: u8,
+    pub nodes: Nodes,
+    pub edges: Table,
+    pub automaton: DecodedAutomaton,
+}
+
+// A file is accepted, or refused by a number at a line.
+pub enum Verdict {
+    Accepted,
+    Refused(u8, usize),
+}

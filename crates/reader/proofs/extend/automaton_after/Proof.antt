@@ -1,0 +1,59 @@
+use Rattle.program.specs.Reading.{transitionIn}
+use lib.Dec.{eqb}
+use Rattle.reader.proofs.Views.{as-many, map-more, automaton-parts}
+use Rattle.automaton.specs.Decoded.{keysOf, transitionOf}
+use borrow.Author.Tests.{eqb-true}
+use mathlib.Core.Path.{_∙_}
+use borrow.Author.Needs.{needs}
+use Rattle.reader.proofs.extend.automaton_after.Statement.{statement}
+use Rattle.reader.proofs.extend.automaton_after.Tie as tie
+
+number-requires : tie.Need-number-requires
+number-requires c κs = search needs
+
+transition-key-requires : tie.Need-transition-key-requires
+transition-key-requires c κs = search needs
+
+add-key-requires : tie.Need-add-key-requires
+add-key-requires c κs = λ e. let z = c .before .before .before .before .before in as-many transitionOf (keysOf (z .args .a .transitions)) 256 (z .pre .transitions (eqb-true _ 4 e))
+
+add-state-requires : tie.Need-add-state-requires
+add-state-requires c κs = λ e. c .before .before .before .before .before .before .pre .initial (eqb-true _ 5 e)
+
+add-state-requires-2 : tie.Need-add-state-requires-2
+add-state-requires-2 c κs = λ e. c .before .before .before .before .before .before .before .pre .rejecting (eqb-true _ 6 e)
+
+number-requires-2 : tie.Need-number-requires-2
+number-requires-2 c κs = search needs
+
+choose-requires : tie.Need-choose-requires
+choose-requires c κs = search needs
+
+number-requires-3 : tie.Need-number-requires-3
+number-requires-3 c κs = search needs
+
+choose-requires-2 : tie.Need-choose-requires-2
+choose-requires-2 c κs = search needs
+
+returns : tie.Need-returns
+returns c =
+    let z = c .before .before .before .before .before .before .before .before .before .before .before .before in
+    let n = c .before .before .before .before .before .before .before .before .number .ensures in
+    automaton-parts _ (c .before .before .choose .ensures ∙ rw (c .before .before .before .number2 .ensures)) (c .choose2 .ensures ∙ rw (c .before .number3 .ensures))
+    (map-more transitionOf (eqb (z .args .k) 4) _ (transitionIn (z .args .l)) (keysOf (z .args .a .transitions)) _ (c .before .before .before .before .before .before .add-key .ensures) (c .before .before .before .before .before .before .before .transition-key .ensures))
+    (c .before .before .before .before .before .add-state .ensures ∙ rw n) (c .before .before .before .before .add-state2 .ensures ∙ rw n)
+
+pub automaton-after-spec : {M : Type 1} → statement M
+automaton-after-spec =
+    tie.close
+    (tie.spec
+    number-requires
+    transition-key-requires
+    add-key-requires
+    add-state-requires
+    add-state-requires-2
+    number-requires-2
+    choose-requires
+    number-requires-3
+    choose-requires-2
+    returns)

@@ -1,0 +1,50 @@
+use Rattle.program.specs.Reading.{edgeIn}
+use lib.Dec.{eqb}
+use Rattle.reader.proofs.Views.{as-many, map-more, program-parts}
+use Rattle.program.specs.Decoded.{edgeOf}
+use Rattle.automaton.specs.Decoded.{keysOf}
+use borrow.Author.Tests.{eqb-true}
+use mathlib.Core.Path.{_∙_}
+use borrow.Author.Needs.{needs}
+use Rattle.reader.proofs.extend.program_after.Statement.{statement}
+use Rattle.reader.proofs.extend.program_after.Tie as tie
+
+number-requires : tie.Need-number-requires
+number-requires c κs = search needs
+
+add-node-requires : tie.Need-add-node-requires
+add-node-requires c κs = λ e. c .before .before .before .before .pre .nodes (eqb-true _ 2 e)
+
+edge-key-requires : tie.Need-edge-key-requires
+edge-key-requires c κs = search needs
+
+add-key-requires : tie.Need-add-key-requires
+add-key-requires c κs = λ e. let z = c .before .before .before .before .before .before in as-many edgeOf (keysOf (z .args .p .edges)) 256 (z .pre .edges (eqb-true _ 3 e))
+
+automaton-after-requires : tie.Need-automaton-after-requires
+automaton-after-requires c κs = c .before .before .before .before .before .before .before .pre .automaton
+
+number-requires-2 : tie.Need-number-requires-2
+number-requires-2 c κs = search needs
+
+choose-requires : tie.Need-choose-requires
+choose-requires c κs = search needs
+
+returns : tie.Need-returns
+returns c =
+    let z = c .before .before .before .before .before .before .before .before .before .before in
+    program-parts _ (c .choose .ensures ∙ rw (c .before .number2 .ensures)) (c .before .before .before .before .before .add-node .ensures ∙ rw (c .before .before .before .before .before .before .number .ensures))
+    (map-more edgeOf (eqb (z .args .k) 3) _ (edgeIn (z .args .l)) (keysOf (z .args .p .edges)) _ (c .before .before .before .add-key .ensures) (c .before .before .before .before .edge-key .ensures)) (c .before .before .automaton-after .ensures)
+
+pub program-after-spec : {M : Type 1} → statement M
+program-after-spec =
+    tie.close
+    (tie.spec
+    number-requires
+    add-node-requires
+    edge-key-requires
+    add-key-requires
+    automaton-after-requires
+    number-requires-2
+    choose-requires
+    returns)

@@ -1,0 +1,32 @@
+use Rattle.reader.proofs.Views.{automaton-parts, program-parts}
+use Rattle.program.specs.Decoded.{edgeOf}
+use Rattle.program.specs.Program.{noProgram}
+use Rattle.automaton.specs.Decoded.{transitionOf}
+use mathlib.Core.List.{map}
+use mathlib.Core.Path.{refl, ap}
+use borrow.Author.Needs.{needs}
+use Rattle.reader.proofs.no_program.Statement.{statement}
+use Rattle.reader.proofs.no_program.Tie as tie
+
+no-keys-requires : tie.Need-no-keys-requires
+no-keys-requires c κs = search needs
+
+no-keys-requires-2 : tie.Need-no-keys-requires-2
+no-keys-requires-2 c κs = search needs
+
+no-states-requires : tie.Need-no-states-requires
+no-states-requires c κs = search needs
+
+no-states-requires-2 : tie.Need-no-states-requires-2
+no-states-requires-2 c κs = search needs
+
+returns : tie.Need-returns
+returns c =
+    program-parts noProgram refl refl (ap (map edgeOf) (c .before .before .before .no-keys .ensures .0))
+    (automaton-parts (noProgram .automaton) refl refl (ap (map transitionOf) (c .before .before .no-keys2 .ensures .0)) (c .before .no-states .ensures .0)
+    (c .no-states2 .ensures .0))
+
+pub no-program-spec : {M : Type 1} → statement M
+no-program-spec =
+    tie.close
+    (tie.spec no-keys-requires no-keys-requires-2 no-states-requires no-states-requires-2 returns)

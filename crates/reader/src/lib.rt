@@ -1,0 +1,122 @@
+// Reading a file: the verdict, and the decoded program.
+mod extend;
+mod frame;
+mod judge;
+
+use automaton::DecodedAutomaton;
+use extend::after_frame;
+use judge::fault_of;
+use program::DecodedProgram;
+use program::Nodes;
+use program::Verdict;
+ghost use mathlib.Core.Path.{_≡_};
+ghost use Rattle.program.specs.Program.{noProgram};
+ghost use Rattle.program.specs.Reading.{start, accepted, refused, readFile};
+ghost use Rattle.program.specs.Decoded.{programOf};
+ghost use Rattle.reader.specs.Parts.{progressOf};
+ghost use Rattle.reader.specs.Outcome.{outcomeOf};
+
+// The verdict on a file, and its program.
+pub struct Reading {
+    pub verdict: Verdict,
+    pub program: DecodedProgram,
+}
+
+// What is known after some frames.
+pub struct Reader {
+    pub last: u64,
+    pub frames: usize,
+    pub ended: bool,
+    pub program: DecodedProgram,
+}
+
+// What bounds the numbers of a frame.
+pub struct Limits {
+    pub routines: u8,
+    pub states: u8,
+    pub actions: u8,
+    pub nodes: Nodes,
+}
+
+fn no_program() -> DecodedProgram
+    ensures { λ r. ⌜ programOf r ≡ noProgram ⌝ }
+{
+    let nodes = Nodes {
+        count: 0,
+        list: [0u8; 16],
+    };
+    let edges = automaton::no_keys();
+    let transitions = automaton::no_keys();
+    let initial = automaton::no_states();
+    let rejecting = automaton::no_states();
+    let automaton = DecodedAutomaton {
+        states: 0,
+        actions: 0,
+        transitions,
+        initial,
+        rejecting,
+    };
+    DecodedProgram {
+        routines: 0,
+        nodes,
+        edges,
+        automaton,
+    }
+}
+
+fn refuse(number: u8, line: usize) -> Reading
+    ensures { λ r. ⌜ outcomeOf r ≡ refused number line ⌝ }
+{
+    let program = no_program();
+    Reading {
+        verdict: Verdict::Refused(number, line),
+        program,
+    }
+}
+
+fn accept(program: DecodedProgram) -> Reading
+    ensures { λ r. ⌜ outcomeOf r ≡ accepted (programOf program) ⌝ }
+{
+    Reading {
+        verdict: Verdict::Accepted,
+        program,
+    }
+}
+
+fn start_reader() -> Reader
+    ensures { λ r. ⌜ progressOf r ≡ start ⌝ }
+{
+    let program = no_program();
+    Reader {
+        last: 0,
+        frames: 0,
+        ended: false,
+        program,
+    }
+}
+
+// Reads a file: the verdict, and the program where it is accepted.
+pub fn read(file: &[u8]) -> Reading
+    ensures { λ r. ⌜ outcomeOf r ≡ readFile (now (file .entry)) ⌝ }
+{
+    let mut s = start_reader();
+    let mut at: usize = 0;
+    while at < file.len() {
+        if s.ended {
+            return refuse(8, s.frames + 1);
+        }
+        let next = text::read_line(file, at);
+        let l = next.line;
+        let n = fault_of(s, l);
+        if 0 < n {
+            return refuse(n, s.frames + 1);
+        }
+        s = after_frame(s, l);
+        at = next.next;
+    }
+    if s.ended {
+        let p = s.program;
+        return accept(p);
+    }
+    refuse(8, s.frames + 1)
+}

@@ -1,0 +1,6 @@
+pub mod Ways
+pub mod Digits
+pub mod RoundTrip
+pub mod Split
+pub mod Gather
+pub mod Stores

@@ -1,0 +1,26 @@
+-- `text::grow` meets its contract: at six numbers and more the store of `grown` is past the end.
+use mathlib.Core.Path.{_≡_}
+use lib.ListN.{length}
+use lib.Seq.{set-out}
+use native.Mathlib.Omega.{arith}
+use borrow.Author.Needs.{needs}
+use Rattle.text.proofs.grow.Statement.{statement}
+use Rattle.text.proofs.grow.Tie as tie
+
+add-longer : tie.Need-add-longer
+add-longer c = search needs
+
+element-write-longer : tie.Need-element-write-longer
+element-write-longer c = search needs
+
+returns : tie.Need-returns
+returns c = search needs
+
+returns-2 : tie.Need-returns-2
+returns-2 c =
+    let l = c .before .args .l in
+    let six : length (l .numbers) ≡ 6 = search needs in
+    rw (set-out (l .numbers) (l .count) (c .before .args .x) (omega arith))
+
+pub grow-spec : {M : Type 1} → statement M
+grow-spec = tie.close (tie.spec add-longer element-write-longer returns returns-2)

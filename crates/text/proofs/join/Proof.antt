@@ -1,0 +1,23 @@
+-- `text::join` meets its contract: each way through the code is one of `joined`'s cases.
+use Rattle.text.proofs.Ways.{tests}
+use borrow.Author.Needs.{needs}
+use Rattle.text.proofs.join.Statement.{statement}
+use Rattle.text.proofs.join.Tie as tie
+
+mul-result : tie.Need-mul-result
+mul-result c = search needs
+
+add-result : tie.Need-add-result
+add-result c = search needs
+
+returns : tie.Need-returns
+returns c = search (tests, needs)
+
+returns-2 : tie.Need-returns-2
+returns-2 c = search (tests, needs)
+
+returns-3 : tie.Need-returns-3
+returns-3 c = search (tests, needs)
+
+pub join-spec : {M : Type 1} → statement M
+join-spec = tie.close (tie.spec mul-result add-result returns returns-2 returns-3)

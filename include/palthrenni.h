@@ -1,0 +1,98 @@
+/*
+ * Palthrenni: the checker of measuring programs, as C calls it.
+ *
+ * Link with libdesk.a.
+ *
+ * Buffers. A buffer is a pointer and a length in bytes. The pointer has to be
+ * valid for that many bytes during the call; with length 0 it is not looked
+ * at and may be NULL. No two buffers of a call may overlap, and the numbers
+ * that a call sets may not lie inside a buffer or be the same number twice.
+ * A file is lent for reading only and is never changed. It need not end with
+ * a zero byte.
+ *
+ * Answers. Each function returns the number of the refusal it met, or
+ * PALTHRENNI_OK. Every pointer to a number has to be valid, and every number
+ * is set on every call, to 0 where there is nothing to say.
+ */
+#ifndef PALTHRENNI_H
+#define PALTHRENNI_H
+
+#include <stddef.h>
+#include <stdint.h>
+
+#ifdef __cplusplus
+extern "C" {
+#endif
+
+/* Nothing was refused. */
+#define PALTHRENNI_OK 0
+
+/*
+ * Refusals of a file, 1 to 8. They come with the line, counted from 1. The
+ * first faulty line decides, and in it the lowest number; but whatever
+ * follows the end frame is 8.
+ */
+
+/* A line is empty, has an odd count of digits, holds a byte other than the
+ * digits 0-9 A-F, or has no byte 0A at its end. */
+#define PALTHRENNI_BAD_LINE 1
+/* The first number of a line is no kind of frame. */
+#define PALTHRENNI_UNKNOWN_KIND 2
+/* The kind has another count of numbers. */
+#define PALTHRENNI_WRONG_COUNT 3
+/* The first frame is not 50, there is a second 50, the kinds or the numbers
+ * within a kind do not ascend, or a routine frame is left out or repeated. */
+#define PALTHRENNI_ORDER 4
+/* A number is outside its range, or a step leaves the exit. */
+#define PALTHRENNI_RANGE 5
+/* The 257th step, or the 257th rule line. */
+#define PALTHRENNI_TABLE_FULL 6
+/* The end frame does not say how many frames came before it. */
+#define PALTHRENNI_END_COUNT 7
+/* The input ends without an end frame (the line is then the one after the
+ * last), or a line follows the end frame (the line is that one). */
+#define PALTHRENNI_FILE_END 8
+
+/* Refusals of buffers. They come with line 0. */
+
+/* The output has fewer than PALTHRENNI_OUTPUT_SIZE bytes. */
+#define PALTHRENNI_OUTPUT_SHORT 10
+
+/* The longest file, and so the least length of an output. */
+#define PALTHRENNI_OUTPUT_SIZE 5328
+
+/*
+ * Reads a program file and says whether it is accepted.
+ *
+ *   file, file_len  the file's bytes, of any length
+ *   line            set to the line of a refusal 1 to 8, else to 0
+ *
+ * Returns 1 to 8, or PALTHRENNI_OK.
+ */
+uint32_t palthrenni_read(const uint8_t *file, size_t file_len, uint32_t *line);
+
+/*
+ * Reads a program file and writes its program back. The bytes written are
+ * those of the file.
+ *
+ *   file, file_len      the file's bytes, of any length
+ *   output, output_len  where the program is written: PALTHRENNI_OUTPUT_SIZE
+ *                       bytes or more
+ *   line                set to the line of a refusal 1 to 8, else to 0
+ *   written             set to how many bytes were written, or to 0 if the
+ *                       call was refused
+ *
+ * Returns 1 to 8; then 10, if the file is accepted and the output is too
+ * short; else PALTHRENNI_OK. On PALTHRENNI_OK the program's bytes are at the
+ * start of the output and the rest of the output is unchanged. On a refusal
+ * all of the output is unchanged.
+ */
+uint32_t palthrenni_write(const uint8_t *file, size_t file_len,
+                          uint8_t *output, size_t output_len,
+                          uint32_t *line, uint32_t *written);
+
+#ifdef __cplusplus
+}
+#endif
+
+#endif

@@ -1,0 +1,28 @@
+//! Says where the proved library lies, so that the comparisons can link it.
+//!
+//! Only the files in `tests/` ask for the library. The reference itself builds and runs its own
+//! tests (`cargo test --lib`) without it.
+
+use std::env;
+use std::path::{Path, PathBuf};
+
+fn library_folder() -> PathBuf {
+    match env::var_os("PALTHRENNI_LIB_DIR") {
+        Some(folder) => PathBuf::from(folder),
+        None => {
+            let here = env::var_os("CARGO_MANIFEST_DIR").expect("cargo names the crate's folder");
+            Path::new(&here).join("../target/staticlib")
+        }
+    }
+}
+
+fn main() {
+    let folder = library_folder();
+    println!("cargo:rustc-link-search=native={}", folder.display());
+    println!(
+        "cargo:rerun-if-changed={}",
+        folder.join("libdesk.a").display()
+    );
+    println!("cargo:rerun-if-changed=build.rs");
+    println!("cargo:rerun-if-env-changed=PALTHRENNI_LIB_DIR");
+}
