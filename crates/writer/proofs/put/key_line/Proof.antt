@@ -1,0 +1,35 @@
+-- `program::put::key_line` meets its contract.
+use mathlib.Core.Path.{_≡_}
+use Prim.Native.Nat.{ℕ, _/_, _%_}
+use native.Mathlib.Omega.{arith}
+use borrow.Author.Needs.{needs}
+use borrow.Author.Tests.{eq-eqb, ne-eqb}
+use Rattle.writer.proofs.put.key_line.Statement.{statement}
+use Rattle.writer.proofs.put.key_line.Tie as tie
+
+cast-a : tie.Need-cast-a
+cast-a c = search needs
+
+cast-b : tie.Need-cast-b
+cast-b c = search needs
+
+cast-c : tie.Need-cast-c
+cast-c c = search needs
+
+cast-t12 : tie.Need-cast-t12
+cast-t12 c = search needs
+
+returns : tie.Need-returns
+returns c = simp (eq-eqb _ _ (c .if1 .taken))
+
+-- the lower three numbers of a key
+lower : (k : ℕ) → (k % 0x1000000 / 0x10000 ≡ k / 0x10000 % 256) × ((k % 0x1000000 / 0x100 % 256 ≡ k / 0x100 % 256) × (k % 0x1000000 % 256 ≡ k % 256))
+lower k = (omega arith, (omega arith, omega arith))
+
+returns-2 : tie.Need-returns-2
+returns-2 c =
+    let e = lower (c .before .args .key) in
+    rw (ne-eqb _ _ (c .if1 .left), e .0, e .1 .0, e .1 .1)
+
+pub key-line-spec : {M : Type 1} → statement M
+key-line-spec = tie.close (tie.spec cast-a cast-b cast-c cast-t12 returns returns-2)

@@ -1,0 +1,77 @@
+-- `program::put::put_keys` meets its contract. The loop's invariant: the frames of the first `i` keys were written.
+use mathlib.Core.Path.{_≡_}
+use mathlib.Core.List.{map}
+use Prim.Native.Nat.{_-_}
+use native.Mathlib.Omega.{arith}
+use lib.ListN.{length, take}
+use borrow.Author.Needs.{needs}
+use Rattle.writer.specs.Parts.{keyFrame}
+use Rattle.writer.proofs.Written.{PutSoFar, mapped, none-yet, room, more, all-put, same-long, key-short}
+use Rattle.writer.proofs.put.put_keys.Statement.{statement}
+use Rattle.writer.proofs.put.put_keys.Tie as tie
+
+abbrev Inv-loop : tie.InvT-loop
+Inv-loop out₀ at kind keys count used pos₀ i₀ out pos i =
+    PutSoFar (λ j k. keyFrame kind k) keys used (map (keyFrame kind) (take count keys)) out₀ out at pos i
+
+abbrev μ-loop : tie.MeasureT-loop
+μ-loop out₀ at kind keys count used pos₀ i₀ out pos i = used - i
+
+in-use-requires : tie.Need-in-use-requires Inv-loop μ-loop
+in-use-requires c κs = search needs
+
+loop-holds : tie.Need-loop-holds Inv-loop μ-loop
+loop-holds c =
+    let a = c .before .before .before .args in
+    let n : length (a .t .keys) ≡ 256 = search needs in
+    none-yet (mapped (a .t .keys) (a .t .count) (c .in-use .result) (omega arith) (keyFrame (a .kind)) (key-short (a .kind))) (c .before .before .before .pre)
+
+mul-key-line : tie.Need-mul-key-line Inv-loop μ-loop
+mul-key-line c = search needs
+
+array-read-key-line : tie.Need-array-read-key-line Inv-loop μ-loop
+array-read-key-line c = search needs
+
+key-line-requires : tie.Need-key-line-requires Inv-loop μ-loop
+key-line-requires c κs = search needs
+
+put-line-requires : tie.Need-put-line-requires Inv-loop μ-loop
+put-line-requires c κs =
+    let p = c .before .before in
+    room (p .before .loop .inv) (p .loop-test .taken) _ (c .before .key-line .ensures)
+
+add-i : tie.Need-add-i Inv-loop μ-loop
+add-i c = search needs
+
+loop-less : tie.Need-loop-less Inv-loop μ-loop
+loop-less c = search needs
+
+loop-again : tie.Need-loop-again Inv-loop μ-loop
+loop-again c =
+    let q = c .before .before in
+    let p = q .before .before .before in
+    more (p .before .loop .inv) (p .loop-test .taken) _ (q .before .before .key-line .ensures) (q .put-line .ensures)
+
+same-length : tie.Need-same-length Inv-loop μ-loop
+same-length c = same-long (c .before .loop .inv .put)
+
+returns : tie.Need-returns Inv-loop μ-loop
+returns c = all-put (c .before .loop .inv) (c .loop-test .left)
+
+pub put-keys-spec : {M : Type 1} → statement M
+put-keys-spec =
+    tie.close
+    (tie.spec
+    Inv-loop
+    μ-loop
+    in-use-requires
+    loop-holds
+    mul-key-line
+    array-read-key-line
+    key-line-requires
+    put-line-requires
+    add-i
+    loop-less
+    loop-again
+    same-length
+    returns)
