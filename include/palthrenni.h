@@ -55,11 +55,39 @@ extern "C" {
 
 /* Refusals of buffers. They come with line 0. */
 
+/* The marks do not have exactly PALTHRENNI_MARKS_SIZE bytes. */
+#define PALTHRENNI_MARKS_LENGTH 9
 /* The output has fewer than PALTHRENNI_OUTPUT_SIZE bytes. */
 #define PALTHRENNI_OUTPUT_SHORT 10
+/* The working buffer does not have exactly PALTHRENNI_MARKS_SIZE bytes. */
+#define PALTHRENNI_WORK_LENGTH 11
+/* The marks are not the program's own: some byte is not the one that
+ * palthrenni_analyze would leave there. */
+#define PALTHRENNI_FOREIGN_MARKS 17
 
 /* The longest file, and so the least length of an output. */
 #define PALTHRENNI_OUTPUT_SIZE 5328
+/* The length of the marks, and of the working buffer. */
+#define PALTHRENNI_MARKS_SIZE 16384
+
+/* What palthrenni_next_violation sets where there is no violation. */
+#define PALTHRENNI_NONE UINT32_MAX
+
+/*
+ * A configuration is where a program can be: in which routine, at which node
+ * of it (0 is the entry, 1 the exit), with which root (the state in which the
+ * routine was called, or the start state) and in which state of the rule now.
+ * It has a number below PALTHRENNI_MARKS_SIZE,
+ *
+ *     ((routine * 16 + node) * 8 + root) * 8 + state
+ *
+ * and these are the parts of a number. The marks hold one byte for each
+ * number, 1 if the configuration can occur and 0 if not.
+ */
+#define PALTHRENNI_ROUTINE(number) ((uint32_t)(number) / 1024)
+#define PALTHRENNI_NODE(number) ((uint32_t)(number) / 64 % 16)
+#define PALTHRENNI_ROOT(number) ((uint32_t)(number) / 8 % 8)
+#define PALTHRENNI_STATE(number) ((uint32_t)(number) % 8)
 
 /*
  * Reads a program file and says whether it is accepted.
@@ -90,6 +118,59 @@ uint32_t palthrenni_read(const uint8_t *file, size_t file_len, uint32_t *line);
 uint32_t palthrenni_write(const uint8_t *file, size_t file_len,
                           uint8_t *output, size_t output_len,
                           uint32_t *line, uint32_t *written);
+
+/*
+ * Reads a program file and marks every configuration that can occur in a run
+ * of its program. A violation is one of them whose state is forbidden; so no
+ * run can break the rule if and only if there are no violations.
+ *
+ *   file, file_len    the file's bytes, of any length
+ *   marks, marks_len  where the marks go: PALTHRENNI_MARKS_SIZE bytes, which
+ *                     may hold anything before
+ *   work, work_len    room to work in: PALTHRENNI_MARKS_SIZE bytes, which may
+ *                     hold anything before
+ *   line              set to the line of a refusal 1 to 8, else to 0
+ *   configurations    set to how many configurations can occur
+ *   violations        set to how many of them are violations
+ *   iterations        set to how many times the analysis took a configuration
+ *                     up, always the lowest that was waiting
+ *
+ * Returns 1 to 8; then 9 or 11, the lower first, if the file is accepted and
+ * a buffer has another length; else PALTHRENNI_OK. On PALTHRENNI_OK the marks
+ * are set, each to 0 or 1, and the working buffer is all zero. On a refusal
+ * both buffers are unchanged and the three counts are 0.
+ */
+uint32_t palthrenni_analyze(const uint8_t *file, size_t file_len,
+                            uint8_t *marks, size_t marks_len,
+                            uint8_t *work, size_t work_len,
+                            uint32_t *line, uint32_t *configurations,
+                            uint32_t *violations, uint32_t *iterations);
+
+/*
+ * Reads a program file and finds the first violation at or above a number.
+ * To go through all of them, begin from 0 and go on from the one after the
+ * last that was found.
+ *
+ *   file, file_len    the file's bytes, of any length
+ *   marks, marks_len  the marks as palthrenni_analyze left them for this
+ *                     file; they are lent for reading only
+ *   work, work_len    room to work in: PALTHRENNI_MARKS_SIZE bytes, which may
+ *                     hold anything before
+ *   from              where to begin; any number
+ *   line              set to the line of a refusal 1 to 8, else to 0
+ *   found             set to the number of the violation, to PALTHRENNI_NONE
+ *                     if there is none, or to 0 if the call was refused
+ *
+ * Returns 1 to 8; then 9 or 11, the lower first, if the file is accepted and
+ * a buffer has another length; then 17, if the marks are not the program's
+ * own; else PALTHRENNI_OK. On 1 to 11 the working buffer is unchanged, on 17
+ * and on PALTHRENNI_OK it is all zero.
+ */
+uint32_t palthrenni_next_violation(const uint8_t *file, size_t file_len,
+                                   const uint8_t *marks, size_t marks_len,
+                                   uint8_t *work, size_t work_len,
+                                   uint32_t from,
+                                   uint32_t *line, uint32_t *found);
 
 #ifdef __cplusplus
 }

@@ -1,10 +1,13 @@
 // The functions for C: bytes are handed over, and numbers come back. Every number is set on every call.
+use analysis::AnalyzeAnswer;
+use analysis::NextAnswer;
 use program::Verdict;
 use writer::WriteAnswer;
 ghost use mathlib.Core.Path.{_≡_};
 ghost use Prim.Native.Nat.{_<_, _^_};
 ghost use Rattle.program.specs.Reading.{refusal, refusalLine, readFile};
 ghost use Rattle.writer.specs.Answers.{writeAnswer, outputAfter, refusal as writeRefusal, refusalLine as writeLine, writtenLength};
+ghost use Rattle.analysis.specs.Answers.{analyzeAnswer, marksAfter, workAfter, analyzeRefusal, analyzeLine, configurationCount, violationCount, iterationCount, nextAnswer, nextRefusal, nextLine, nextFound};
 
 fn refusal_of(v: Verdict) -> u32
     ensures { λ r. ⌜ r ≡ refusal v ⌝ }
@@ -84,4 +87,134 @@ pub extern "C" fn palthrenni_write(
     *line = write_line_of(a);
     *written = written_of(a);
     write_refusal_of(a)
+}
+
+fn analyze_refusal_of(a: AnalyzeAnswer) -> u32
+    ensures { λ r. ⌜ r ≡ analyzeRefusal a ⌝ }
+{
+    match a {
+        AnalyzeAnswer::Counts(_, _, _) => 0,
+        AnalyzeAnswer::Refused(n, _) => n as u32,
+    }
+}
+
+fn analyze_line_of(a: AnalyzeAnswer) -> u32
+    requires { ⌜ analyzeLine a < 2 ^ 32 ⌝ }
+    ensures { λ r. ⌜ r ≡ analyzeLine a ⌝ }
+{
+    match a {
+        AnalyzeAnswer::Counts(_, _, _) => 0,
+        AnalyzeAnswer::Refused(_, at) => at as u32,
+    }
+}
+
+// There are 16,384 configurationCount and at most 2,113,536 iterations, so that each count fits.
+fn configurations_of(a: AnalyzeAnswer) -> u32
+    requires { ⌜ configurationCount a < 2 ^ 32 ⌝ }
+    ensures { λ r. ⌜ r ≡ configurationCount a ⌝ }
+{
+    match a {
+        AnalyzeAnswer::Counts(c, _, _) => c as u32,
+        AnalyzeAnswer::Refused(_, _) => 0,
+    }
+}
+
+fn violations_of(a: AnalyzeAnswer) -> u32
+    requires { ⌜ violationCount a < 2 ^ 32 ⌝ }
+    ensures { λ r. ⌜ r ≡ violationCount a ⌝ }
+{
+    match a {
+        AnalyzeAnswer::Counts(_, v, _) => v as u32,
+        AnalyzeAnswer::Refused(_, _) => 0,
+    }
+}
+
+fn iterations_of(a: AnalyzeAnswer) -> u32
+    requires { ⌜ iterationCount a < 2 ^ 32 ⌝ }
+    ensures { λ r. ⌜ r ≡ iterationCount a ⌝ }
+{
+    match a {
+        AnalyzeAnswer::Counts(_, _, i) => i as u32,
+        AnalyzeAnswer::Refused(_, _) => 0,
+    }
+}
+
+// Sets the marks of all reachable configurations of a file's program. The line of a refusal and the three counts are set.
+#[no_mangle]
+pub extern "C" fn palthrenni_analyze(
+    file: &[u8],
+    marks: &mut [u8],
+    work: &mut [u8],
+    line: &mut u32,
+    configurations: &mut u32,
+    violations: &mut u32,
+    iterations: &mut u32,
+) -> u32
+    ensures numbers { λ r. ⌜ (r ≡ analyzeRefusal (analyzeAnswer (now (file .entry)) (now (marks .entry)) (now (work .entry))))
+        × (now (line .exit) ≡ analyzeLine (analyzeAnswer (now (file .entry)) (now (marks .entry)) (now (work .entry))))
+        × (now (configurations .exit) ≡ configurationCount (analyzeAnswer (now (file .entry)) (now (marks .entry)) (now (work .entry))))
+        × (now (violations .exit) ≡ violationCount (analyzeAnswer (now (file .entry)) (now (marks .entry)) (now (work .entry))))
+        × (now (iterations .exit) ≡ iterationCount (analyzeAnswer (now (file .entry)) (now (marks .entry)) (now (work .entry)))) ⌝ }
+    ensures bytes { λ r. ⌜ (now (marks .exit) ≡ marksAfter (now (file .entry)) (now (marks .entry)) (now (work .entry)))
+        × (now (work .exit) ≡ workAfter (now (file .entry)) (now (marks .entry)) (now (work .entry))) ⌝ }
+{
+    let a = analysis::analyze(file, marks, work);
+    *line = analyze_line_of(a);
+    *configurations = configurations_of(a);
+    *violations = violations_of(a);
+    *iterations = iterations_of(a);
+    analyze_refusal_of(a)
+}
+
+fn next_refusal_of(a: NextAnswer) -> u32
+    ensures { λ r. ⌜ r ≡ nextRefusal a ⌝ }
+{
+    match a {
+        NextAnswer::Found(_) => 0,
+        NextAnswer::Nothing => 0,
+        NextAnswer::Refused(n, _) => n as u32,
+    }
+}
+
+fn next_line_of(a: NextAnswer) -> u32
+    requires { ⌜ nextLine a < 2 ^ 32 ⌝ }
+    ensures { λ r. ⌜ r ≡ nextLine a ⌝ }
+{
+    match a {
+        NextAnswer::Found(_) => 0,
+        NextAnswer::Nothing => 0,
+        NextAnswer::Refused(_, at) => at as u32,
+    }
+}
+
+fn found_of(a: NextAnswer) -> u32
+    requires { ⌜ nextFound a < 2 ^ 32 ⌝ }
+    ensures { λ r. ⌜ r ≡ nextFound a ⌝ }
+{
+    match a {
+        NextAnswer::Found(i) => i as u32,
+        NextAnswer::Nothing => 4294967295,
+        NextAnswer::Refused(_, _) => 0,
+    }
+}
+
+// The first violation not below the number. The line of a refusal and the number found are set.
+#[no_mangle]
+pub extern "C" fn palthrenni_next_violation(
+    file: &[u8],
+    marks: &[u8],
+    work: &mut [u8],
+    from: u32,
+    line: &mut u32,
+    found: &mut u32,
+) -> u32
+    ensures numbers { λ r. ⌜ (r ≡ nextRefusal (nextAnswer (now (file .entry)) (now (marks .entry)) (now (work .entry)) from))
+        × (now (line .exit) ≡ nextLine (nextAnswer (now (file .entry)) (now (marks .entry)) (now (work .entry)) from))
+        × (now (found .exit) ≡ nextFound (nextAnswer (now (file .entry)) (now (marks .entry)) (now (work .entry)) from)) ⌝ }
+    ensures bytes { λ r. ⌜ now (work .exit) ≡ workAfter (now (file .entry)) (now (marks .entry)) (now (work .entry)) ⌝ }
+{
+    let a = analysis::next_violation(file, marks, work, from as usize);
+    *line = next_line_of(a);
+    *found = found_of(a);
+    next_refusal_of(a)
 }

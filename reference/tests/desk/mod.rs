@@ -1,5 +1,7 @@
-//! The proved library, called as C calls it.
+//! The proved library, called as C calls it. Each comparison uses a part of it.
+#![allow(dead_code)]
 
+use reference::analysis::{AnalyzeAnswer, NextAnswer};
 use reference::write::{ReadAnswer, WriteAnswer};
 
 #[link(name = "desk", kind = "static")]
@@ -12,6 +14,29 @@ extern "C" {
         output_len: usize,
         line: *mut u32,
         written: *mut u32,
+    ) -> u32;
+    fn palthrenni_analyze(
+        file: *const u8,
+        file_len: usize,
+        marks: *mut u8,
+        marks_len: usize,
+        work: *mut u8,
+        work_len: usize,
+        line: *mut u32,
+        configurations: *mut u32,
+        violations: *mut u32,
+        iterations: *mut u32,
+    ) -> u32;
+    fn palthrenni_next_violation(
+        file: *const u8,
+        file_len: usize,
+        marks: *const u8,
+        marks_len: usize,
+        work: *mut u8,
+        work_len: usize,
+        from: u32,
+        line: *mut u32,
+        found: *mut u32,
     ) -> u32;
 }
 
@@ -84,5 +109,107 @@ pub fn write_to_null(file: &[u8]) -> WriteAnswer {
         refusal,
         line,
         written,
+    }
+}
+
+/// A fresh working: the sheet goes to `marks`.
+pub fn analyze(file: &[u8], marks: &mut [u8], work: &mut [u8]) -> AnalyzeAnswer {
+    // SAFETY: the slices live through the call and do not overlap, as two are lent for changing.
+    unsafe {
+        analyze_at(
+            file,
+            (marks.as_mut_ptr(), marks.len()),
+            (work.as_mut_ptr(), work.len()),
+        )
+    }
+}
+
+/// A fresh working of a file with NULL and length 0 for both other buffers.
+pub fn analyze_to_null(file: &[u8]) -> AnalyzeAnswer {
+    let nowhere = (std::ptr::null_mut(), 0);
+    // SAFETY: the file lives through the call, and a buffer of length 0 is not looked into.
+    unsafe { analyze_at(file, nowhere, nowhere) }
+}
+
+/// A fresh working with NULL and length 0 for the working buffer.
+pub fn analyze_without_work(file: &[u8], marks: &mut [u8]) -> AnalyzeAnswer {
+    let nowhere = (std::ptr::null_mut(), 0);
+    // SAFETY: both slices live through the call and do not overlap, as one is lent for changing; a
+    // buffer of length 0 is not looked into.
+    unsafe { analyze_at(file, (marks.as_mut_ptr(), marks.len()), nowhere) }
+}
+
+/// Both buffers are valid for their lengths, and no two of the three overlap.
+unsafe fn analyze_at(
+    file: &[u8],
+    marks: (*mut u8, usize),
+    work: (*mut u8, usize),
+) -> AnalyzeAnswer {
+    let (mut line, mut standings) = (NOT_SET, NOT_SET);
+    let (mut findings, mut takings) = (NOT_SET, NOT_SET);
+    let refusal = palthrenni_analyze(
+        file.as_ptr(),
+        file.len(),
+        marks.0,
+        marks.1,
+        work.0,
+        work.1,
+        &mut line,
+        &mut standings,
+        &mut findings,
+        &mut takings,
+    );
+    AnalyzeAnswer {
+        refusal,
+        line,
+        standings,
+        findings,
+        takings,
+    }
+}
+
+/// The list of findings: the first at or above a number.
+pub fn next_violation(file: &[u8], marks: &[u8], work: &mut [u8], from: u32) -> NextAnswer {
+    // SAFETY: the slices live through the call, and the one that is lent for changing overlaps no
+    // other.
+    unsafe {
+        next_violation_at(
+            file,
+            (marks.as_ptr(), marks.len()),
+            (work.as_mut_ptr(), work.len()),
+            from,
+        )
+    }
+}
+
+/// The list of findings of a file with NULL and length 0 for both other buffers.
+pub fn next_violation_of_null(file: &[u8]) -> NextAnswer {
+    // SAFETY: the file lives through the call, and a buffer of length 0 is not looked into.
+    unsafe { next_violation_at(file, (std::ptr::null(), 0), (std::ptr::null_mut(), 0), 0) }
+}
+
+/// Both buffers are valid for their lengths, and the working buffer overlaps neither of the others.
+unsafe fn next_violation_at(
+    file: &[u8],
+    marks: (*const u8, usize),
+    work: (*mut u8, usize),
+    from: u32,
+) -> NextAnswer {
+    let (mut line, mut found) = (NOT_SET, NOT_SET);
+    let refusal = palthrenni_next_violation(
+        file.as_ptr(),
+        file.len(),
+        marks.0,
+        marks.1,
+        work.0,
+        work.1,
+        from,
+        &mut line,
+        &mut found,
+    );
+    NextAnswer {
+        refusal,
+        line,
+        found,
     }
 }

@@ -1,0 +1,173 @@
+//! How many programs a second the proved analysis does, through the C interface, beside the same
+//! procedure in plain Rust.
+
+#[path = "../../reference/tests/desk/mod.rs"]
+mod desk;
+mod plain;
+
+use plain::{Search, Tables};
+use reference::file::Program;
+use reference::programs::{hub, program_of_shape, Shape};
+use reference::random::Random;
+use reference::standing::SHEET_SIZE;
+use reference::write::write;
+use std::time::{Duration, Instant};
+
+/// How many programs of each kind are measured.
+const PROGRAMS: usize = 6;
+/// How long each side is measured for each kind, at the least.
+const AT_LEAST: Duration = Duration::from_millis(1500);
+
+const ABOUT: &str = "\
+The analysis of large programs, the library through its C interface beside plain Rust, both
+compiled for release. Each kind is several programs, all of them analyzed in turn by one side
+and then by the other, until each side has had its time; a first turn is not counted.
+The library gets the file and reads it every time; plain Rust gets the program decoded, so the
+column 'reading' says how many files a second the library only reads.
+Nobody clears the buffers between calls: they come as the call before left them. Both sides
+clear what they need, within the time measured.
+'plain' looks for the lowest waiting standing from number 0 every time, 'kept' from the lowest
+number at which one can be. A ratio above 1 means that the library is faster. Standings and
+takings are the means over the programs of a kind.
+";
+
+/// One program in the forms that the two sides take.
+struct Input {
+    file: Vec<u8>,
+    tables: Tables,
+    counts: [u32; 3],
+}
+
+/// The sheet and the working buffer, used for call after call.
+struct Buffers {
+    marks: Vec<u8>,
+    work: Vec<u8>,
+}
+
+fn library(input: &Input, buffers: &mut Buffers) -> [u32; 3] {
+    let answer = desk::analyze(&input.file, &mut buffers.marks, &mut buffers.work);
+    [answer.standings, answer.findings, answer.takings]
+}
+
+fn reading(input: &Input, _: &mut Buffers) -> [u32; 3] {
+    let answer = desk::read(&input.file);
+    assert_eq!(answer.refusal, 0, "the file is accepted");
+    input.counts
+}
+
+fn from_start(input: &Input, buffers: &mut Buffers) -> [u32; 3] {
+    let Buffers { marks, work } = buffers;
+    plain::analyze(&input.tables, Search::FromStart, marks, work)
+}
+
+fn from_lowest(input: &Input, buffers: &mut Buffers) -> [u32; 3] {
+    let Buffers { marks, work } = buffers;
+    plain::analyze(&input.tables, Search::FromLowest, marks, work)
+}
+
+type Side = fn(&Input, &mut Buffers) -> [u32; 3];
+const SIDES: [Side; 4] = [library, reading, from_start, from_lowest];
+
+/// One turn: every program once. The counts have to be right each time.
+fn turn(side: Side, inputs: &[Input], buffers: &mut Buffers) -> Duration {
+    let begin = Instant::now();
+    for input in inputs {
+        let counts = side(input, buffers);
+        assert_eq!(counts, input.counts, "the two sides do not agree");
+    }
+    begin.elapsed()
+}
+
+/// Programs a second for each side. The sides take turns, so that what else the machine does
+/// disturbs them alike.
+fn measure(inputs: &[Input]) -> [f64; 4] {
+    let mut buffers = Buffers {
+        marks: vec![0xA5; SHEET_SIZE],
+        work: vec![0x5A; SHEET_SIZE],
+    };
+    for side in SIDES {
+        turn(side, inputs, &mut buffers);
+    }
+    let (mut times, mut turns) = ([Duration::ZERO; 4], [0; 4]);
+    while times.iter().any(|&time| time < AT_LEAST) {
+        for place in 0..SIDES.len() {
+            if times[place] < AT_LEAST {
+                times[place] += turn(SIDES[place], inputs, &mut buffers);
+                turns[place] += 1;
+            }
+        }
+    }
+    let rate = |place: usize| (turns[place] * inputs.len()) as f64 / times[place].as_secs_f64();
+    [rate(0), rate(1), rate(2), rate(3)]
+}
+
+fn input(program: &Program) -> Input {
+    let tables = Tables::new(program);
+    let (mut marks, mut work) = (vec![0; SHEET_SIZE], vec![0; SHEET_SIZE]);
+    let counts = plain::analyze(&tables, Search::FromStart, &mut marks, &mut work);
+    let file = write(program);
+    let mut given = vec![0xA5; SHEET_SIZE];
+    desk::analyze(&file, &mut given, &mut work);
+    assert_eq!(given, marks, "the two sides do not mark the same");
+    Input {
+        file,
+        tables,
+        counts,
+    }
+}
+
+/// The first programs of a shape, by seed, that have so many standings.
+fn of_shape(shape: Shape, least_standings: u32) -> Vec<Input> {
+    let programs = (0..).map(|seed| program_of_shape(&mut Random::new(seed), shape));
+    let inputs = programs.map(|program| input(&program));
+    let large = inputs.filter(|input| input.counts[0] >= least_standings);
+    large.take(PROGRAMS).collect()
+}
+
+fn mean(inputs: &[Input], count: usize) -> u32 {
+    let sum: u32 = inputs.iter().map(|input| input.counts[count]).sum();
+    sum / inputs.len() as u32
+}
+
+/// Prints a row of the table: its kind, and its cells.
+fn print_row(kind: &str, cells: [String; 8]) {
+    let cells = cells.map(|cell| format!("{cell:>10}"));
+    println!("{kind:<23}{}", cells.concat());
+}
+
+fn measure_row(kind: &str, inputs: &[Input]) {
+    let [library, reading, plain, kept] = measure(inputs);
+    let whole = |rate: f64| format!("{rate:.0}");
+    let ratio = |rate: f64| format!("{:.2}", library / rate);
+    let cells = [
+        mean(inputs, 0).to_string(),
+        mean(inputs, 2).to_string(),
+        whole(library),
+        whole(reading),
+        whole(plain),
+        ratio(plain),
+        whole(kept),
+        ratio(kept),
+    ];
+    print_row(kind, cells);
+}
+
+fn main() {
+    println!("{ABOUT}");
+    let names = [
+        "standings",
+        "takings",
+        "library",
+        "reading",
+        "plain",
+        "ratio",
+        "kept",
+        "ratio",
+    ];
+    print_row("programs a second", names.map(String::from));
+    measure_row("wide, over 2000", &of_shape(Shape::Wide, 2000));
+    measure_row("recursive, over 500", &of_shape(Shape::Recursive, 500));
+    measure_row("full, over 4000", &of_shape(Shape::Full, 4000));
+    measure_row("full, over 10000", &of_shape(Shape::Full, 10_000));
+    measure_row("one place calls all 16", &[input(&hub())]);
+}

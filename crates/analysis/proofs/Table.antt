@@ -1,0 +1,135 @@
+-- Tables of flags that a loop fills: it takes entries in turn and sets one flag for each.
+use mathlib.Core.Path.{_≡_, refl, sym, _∙_}
+use mathlib.Core.Bool.{Bool, true, false, _&&_, _||_, not, or-true, or-false, or-assoc}
+use mathlib.Core.List.{List, map}
+use Prim.Native.Nat.{ℕ, suc, min, _+_, _/_, _%_, _≤_, _<_}
+use native.Mathlib.Numerals.{add-one}
+use native.Mathlib.Omega.{arith}
+use lib.Dec.{eqb}
+use lib.ListN.{length, take, drop, getD, set, replicate, length-take, length-set, length-replicate, getD-replicate, drop-of-length-le}
+use lib.Seq.{drop-cons, getD-take, getD-set-same, getD-set-other}
+use borrow.Author.Tests.{eqb-true, eqb-false, eq-eqb, ne-eqb}
+use Rattle.automaton.specs.Automaton.{Automaton, listed, moves, member}
+use Rattle.automaton.specs.Decoded.{transitionOf}
+use Rattle.automaton.proofs.Entries.{Asks, asks-listed, asks-member}
+use Rattle.program.proofs.Judged.{both}
+use Rattle.analysis.specs.Parts.{nextPlace, Placed, Answers, Rejects}
+
+abbrev pub isSet : List ℕ → ℕ → Bool
+isSet flags at = not (eqb (getD flags at 0) 0)
+
+-- a store sets its own flag, and leaves the others
+set-sets : (flags : List ℕ) (j at : ℕ) → at < length flags → isSet (set flags j 1) at ≡ isSet flags at || eqb j at
+set-sets flags j at h = go (eqb j at) refl
+  where
+    go : (b : Bool) → eqb j at ≡ b → isSet (set flags j 1) at ≡ isSet flags at || b
+    go true e = rw (eqb-true j at e, getD-set-same flags at 1 0 h, or-true (isSet flags at))
+    go false e = rw (getD-set-other flags j at 1 0 (λ d. eqb-false j at e (sym d)), or-false (isSet flags at))
+
+-- f asks whether some entry meets a test, and the flag at this place is to tell: at i, it and the entries from i on decide
+pub record Filled (f : List ℕ → Bool) (xs : List ℕ) (n i : ℕ) (flags : List ℕ) (at : ℕ) : Type 0 where
+  pub decide : isSet flags at || f (drop i (take n xs)) ≡ f (take n xs)
+
+pub filled-none : (f : List ℕ → Bool) (xs : List ℕ) (n size at : ℕ) → at < size → Filled f xs n 0 (replicate size 0) at
+filled-none f xs n size at h = record { decide = rw (getD-replicate {A = ℕ} size at 0 0 h) }
+
+module _ {f : List ℕ → Bool} {p : ℕ → Bool} {xs : List ℕ} {n i : ℕ} {flags : List ℕ} {at : ℕ} (asks : Asks f p) (filled : Filled f xs n i flags at) where
+  pub filled-more : (j : ℕ) → i < n → i < length xs → at < length flags → eqb j at ≡ p (getD xs i 0) → Filled f xs n (i + 1) (set flags j 1) at
+  filled-more j h k l e =
+      let m : i < length (take n xs) = simp length-take (omega arith) in
+      record {
+        decide = rw (set-sets flags j at l, e, or-assoc, add-one, ← (asks .first (getD xs i 0) (drop (suc i) (take n xs))), ← (getD-take n xs i 0 h), ← (drop-cons (take n xs) i 0 m)) (filled .decide);
+      }
+
+  pub filled-all : min n (length xs) ≤ i → isSet flags at ≡ f (take n xs)
+  filled-all h =
+      let l : length (take n xs) ≤ i = simp length-take h in
+      sym (or-false (isSet flags at)) ∙ rw (drop-of-length-le (take n xs) l, asks .empty) at (filled .decide)
+
+-- ---- the place of a transition's flag
+
+-- a number is the place for (q, a, s) just where the parts x, y, z are q, a, s
+module _ (x y z q a s at : ℕ) (to : at ≡ nextPlace q a s → (x ≡ q) × (y ≡ a) × (z ≡ s)) (from : x ≡ q → y ≡ a → z ≡ s → at ≡ nextPlace q a s) where
+  same-place : eqb at (nextPlace q a s) ≡ eqb x q && eqb y a && eqb z s
+  same-place = go (eqb x q && eqb y a && eqb z s) refl
+    where
+      go : (b : Bool) → eqb x q && eqb y a && eqb z s ≡ b → eqb at (nextPlace q a s) ≡ b
+      go true e =
+          let u = both (eqb x q && eqb y a) (eqb z s) e in
+          let v = both (eqb x q) (eqb y a) (u .0) in
+          eq-eqb at (nextPlace q a s) (from (eqb-true x q (v .0)) (eqb-true y a (v .1)) (eqb-true z s (u .1)))
+      go false e = ne-eqb at (nextPlace q a s) (λ d.
+          let w = to d in
+          let t = rw (eq-eqb x q (w .0), eq-eqb y a (w .1), eq-eqb z s (w .2)) at e in
+          let c : _≡_ {A = ℕ} 0 1 = cc in omega arith)
+
+-- the parts of a key
+module _ (key : ℕ) where
+  abbrev x : ℕ
+  x = key / 0x10000
+
+  abbrev y : ℕ
+  y = key / 0x100 % 256
+
+  abbrev z : ℕ
+  z = key % 256
+
+  pub no-place : (x < 8 → y < 32 → z < 8 → ⊥) → Placed key 2048
+  no-place out =
+      record {
+        placed = λ q a s hq ha hs.
+            same-place x y z q a s 2048 (λ d. absurd (omega arith)) (λ u v w. absurd (out (omega arith) (omega arith) (omega arith)));
+      }
+
+  pub its-place : x < 8 → y < 32 → z < 8 → Placed key (nextPlace x y z)
+  its-place hx hy hz =
+      record {
+        placed = λ q a s hq ha hs.
+            same-place x y z q a s (nextPlace x y z) (λ d. (omega arith, omega arith, omega arith)) (λ u v w. omega arith);
+      }
+
+-- ---- the flags of a table's transitions, the first i keys taken
+
+pub record Transitions (keys : List ℕ) (n i : ℕ) (flags : List ℕ) : Type 0 where
+  pub size : length flags ≡ 2048
+  pub flag : (q a s : ℕ) → q < 8 → a < 32 → s < 8 → Filled (λ ks. listed q a s (map transitionOf ks)) keys n i flags (nextPlace q a s)
+
+pub transitions-none : (keys : List ℕ) (n : ℕ) → Transitions keys n 0 (replicate 2048 0)
+transitions-none keys n =
+    record {
+      size = length-replicate {A = ℕ} 2048 0;
+      flag = λ q a s hq ha hs. filled-none (λ ks. listed q a s (map transitionOf ks)) keys n 2048 (nextPlace q a s) (omega arith);
+    }
+
+module _ {keys : List ℕ} {n i : ℕ} {flags : List ℕ} (t : Transitions keys n i flags) where
+  pub transitions-more : (j : ℕ) → i < n → i < length keys → Placed (getD keys i 0) j → Transitions keys n (i + 1) (set flags j 1)
+  transitions-more j h k place =
+      record {
+        size = simp length-set (t .size);
+        flag = λ q a s hq ha hs. filled-more (asks-listed q a s) (t .flag q a s hq ha hs) j h k (omega (arith, t .size)) (place .placed q a s hq ha hs);
+      }
+
+  pub transitions-all : (r : Automaton) → min n (length keys) ≤ i → r .transitions ≡ map transitionOf (take n keys) → Answers r flags
+  unfolding moves
+  transitions-all r h e =
+      record { answers = λ q a s hq ha hs. rw e (filled-all (asks-listed q a s) (t .flag q a s hq ha hs) h) }
+
+-- ---- the flags of a list's states, the first i of them taken
+
+pub record Members (list : List ℕ) (n i : ℕ) (flags : List ℕ) : Type 0 where
+  pub size : length flags ≡ 8
+  pub flag : (q : ℕ) → q < 8 → Filled (member q) list n i flags q
+
+pub members-none : (list : List ℕ) (n : ℕ) → Members list n 0 (replicate 8 0)
+members-none list n = record { size = refl; flag = λ q h. filled-none (member q) list n 8 q h }
+
+module _ {list : List ℕ} {n i : ℕ} {flags : List ℕ} (m : Members list n i flags) where
+  pub members-more : i < n → i < length list → Members list n (i + 1) (set flags (getD list i 0) 1)
+  members-more h k =
+      record {
+        size = simp length-set (m .size);
+        flag = λ q l. filled-more (asks-member q) (m .flag q l) (getD list i 0) h k (omega (arith, m .size)) refl;
+      }
+
+  pub members-all : (r : Automaton) → min n (length list) ≤ i → r .rejecting ≡ take n list → Rejects r flags
+  members-all r h e = record { rejects = λ q l. rw e (filled-all (asks-member q) (m .flag q l) h) }

@@ -1,0 +1,53 @@
+use Rattle.analysis.specs.declared.AnalyzeAnswer.the-variants.{Counts}
+use Rattle.reach.specs.Marks.{countSet, violationsFrom}
+use Rattle.program.specs.Decoded.{programOf}
+use lib.ListN.{length}
+use mathlib.Core.List.{List}
+use mathlib.Core.Path.{ap, _∙_}
+use Prim.Native.Nat.{ℕ}
+use borrow.Author.Needs.{needs}
+use Rattle.analysis.proofs.analyze_counts.Statement.{statement}
+use Rattle.analysis.proofs.analyze_counts.Tie as tie
+
+analyze-program-requires : tie.Need-analyze-program-requires
+analyze-program-requires c κs = search needs
+
+rejecting-flags-requires : tie.Need-rejecting-flags-requires
+rejecting-flags-requires c κs = search needs
+
+count-marks-requires : tie.Need-count-marks-requires
+count-marks-requires c κs = search needs
+
+slice-aggregate-count-violations : tie.Need-slice-aggregate-count-violations
+slice-aggregate-count-violations c = search needs
+
+count-violations-requires : tie.Need-count-violations-requires
+count-violations-requires c κs = search needs
+
+same-length : tie.Need-same-length
+same-length c = search needs
+
+same-length-2 : tie.Need-same-length-2
+same-length-2 c = search needs
+
+returns : tie.Need-returns
+returns c =
+    let z = c .before .before .before .before .before .before .before .before .before .before .before .before .before .before .before .before .before in
+    let p = programOf (z .args .p) in
+    let a = c .before .before .before .before .before .before .before .before .before .before .before .before .analyze-program .ensures in
+    let v = c .count-violations .ensures p (c .before .before .before .before .before .before .rejecting-flags .ensures) in
+    let m = c .before .before .before .count-marks .ensures in
+    ((λ i. Counts ((m ∙ ap countSet (a .0)) i) ((v ∙ ap (λ (l : List ℕ). length (violationsFrom p l 0)) (a .0)) i) (a .2 i)), a .0, a .1)
+
+pub analyze-counts-spec : {M : Type 1} → statement M
+analyze-counts-spec =
+    tie.close
+    (tie.spec
+    analyze-program-requires
+    rejecting-flags-requires
+    count-marks-requires
+    slice-aggregate-count-violations
+    count-violations-requires
+    same-length
+    same-length-2
+    returns)

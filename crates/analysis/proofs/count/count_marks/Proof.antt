@@ -1,0 +1,59 @@
+-- `analysis::count::count_marks` meets its contract. The loop's invariant: `n`, with what is to be counted from `i` on, is the whole count.
+use mathlib.Core.Path.{ap}
+use mathlib.Core.Logic.{⊎-elim}
+use mathlib.Core.Bool.{not}
+use Prim.Native.Nat.{_≤_, _-_}
+use native.Mathlib.Omega.{arith}
+use lib.ListN.{length}
+use borrow.Author.Tests.{eq-eqb, ne-eqb}
+use borrow.Author.Needs.{needs}
+use Rattle.reach.specs.Marks.{countSet}
+use Rattle.analysis.proofs.Counts.{Counted, counts-set, counted-one, counted-none, counted-all}
+use Rattle.analysis.proofs.count.count_marks.Statement.{statement}
+use Rattle.analysis.proofs.count.count_marks.Tie as tie
+
+abbrev Inv-loop : tie.InvT-loop
+Inv-loop marks n₀ i₀ n i = (n ≤ i) × Counted (λ l j. countSet l) marks n i
+
+abbrev μ-loop : tie.MeasureT-loop
+μ-loop marks n₀ i₀ n i = length marks - i
+
+loop-holds : tie.Need-loop-holds Inv-loop μ-loop
+loop-holds c = (omega arith, record { total = omega arith })
+
+shared-slice-read-if1 : tie.Need-shared-slice-read-if1 Inv-loop μ-loop
+shared-slice-read-if1 c = search needs
+
+add-n : tie.Need-add-n Inv-loop μ-loop
+add-n c = search needs
+
+add-i : tie.Need-add-i Inv-loop μ-loop
+add-i c = search needs
+
+loop-less : tie.Need-loop-less Inv-loop μ-loop
+loop-less c = search needs
+
+loop-again : tie.Need-loop-again Inv-loop μ-loop
+loop-again c =
+    let p = c .before .before .before in
+    ⊎-elim
+    (λ w. rw (w .1) (omega arith, counted-one counts-set (p .loop .inv .1) (omega arith) (ap not (ne-eqb _ _ (w .0 .taken)))))
+    (λ w. rw (w .1) (omega arith, counted-none counts-set (p .loop .inv .1) (omega arith) (ap not (eq-eqb _ _ (w .0 .left)))))
+    (c .if1 .came)
+
+returns : tie.Need-returns Inv-loop μ-loop
+returns c = counted-all counts-set (c .before .loop .inv .1) (c .loop-test .left)
+
+pub count-marks-spec : {M : Type 1} → statement M
+count-marks-spec =
+    tie.close
+    (tie.spec
+    Inv-loop
+    μ-loop
+    loop-holds
+    shared-slice-read-if1
+    add-n
+    add-i
+    loop-less
+    loop-again
+    returns)

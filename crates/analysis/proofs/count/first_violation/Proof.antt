@@ -1,0 +1,57 @@
+-- `analysis::count::first_violation` meets its contract. The loop's invariant: the marks from `i` on decide, whichever program has
+-- these rejecting states.
+use mathlib.Core.Path.{sym, _∙_}
+use Prim.Native.Nat.{_-_}
+use native.Mathlib.Omega.{arith}
+use lib.ListN.{length}
+use borrow.Author.Needs.{needs}
+use Rattle.program.specs.Program.{Program}
+use Rattle.analysis.specs.Parts.{Rejects}
+use Rattle.analysis.proofs.Counts.{Sought, sought-none, sought-here, sought-more, sought-all}
+use Rattle.analysis.proofs.count.first_violation.Statement.{statement}
+use Rattle.analysis.proofs.count.first_violation.Tie as tie
+
+abbrev Inv-loop : tie.InvT-loop
+Inv-loop marks rejecting from i₀ i = (p : Program) → Rejects (p .automaton) rejecting → Sought p marks from i
+
+abbrev μ-loop : tie.MeasureT-loop
+μ-loop marks rejecting from i₀ i = length marks - i
+
+loop-holds : tie.Need-loop-holds Inv-loop μ-loop
+loop-holds c p r = sought-none p _ _
+
+is-violation-requires : tie.Need-is-violation-requires Inv-loop μ-loop
+is-violation-requires c κs = search needs
+
+returns : tie.Need-returns Inv-loop μ-loop
+returns c p r =
+    let told = c .before .is-violation .ensures p r in
+    sought-here (c .before .before .before .loop .inv p r) (omega arith) (omega arith) (sym told ∙ c .if1 .taken)
+
+add-i : tie.Need-add-i Inv-loop μ-loop
+add-i c = search needs
+
+loop-less : tie.Need-loop-less Inv-loop μ-loop
+loop-less c = search needs
+
+loop-again : tie.Need-loop-again Inv-loop μ-loop
+loop-again c p r =
+    let told = c .before .is-violation .ensures p r in
+    sought-more (c .before .before .before .loop .inv p r) (omega arith) (sym told ∙ c .if1 .left)
+
+returns-2 : tie.Need-returns-2 Inv-loop μ-loop
+returns-2 c p r = sought-all (c .before .loop .inv p r) (omega arith) (omega arith)
+
+pub first-violation-spec : {M : Type 1} → statement M
+first-violation-spec =
+    tie.close
+    (tie.spec
+    Inv-loop
+    μ-loop
+    loop-holds
+    is-violation-requires
+    returns
+    add-i
+    loop-less
+    loop-again
+    returns-2)

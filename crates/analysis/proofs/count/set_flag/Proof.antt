@@ -1,0 +1,21 @@
+-- `analysis::count::set_flag` meets its contract: past the end a store changes nothing.
+use mathlib.Core.Path.{sym}
+use lib.Seq.{set-out}
+use borrow.Author.Needs.{needs}
+use Rattle.analysis.proofs.count.set_flag.Statement.{statement}
+use Rattle.analysis.proofs.count.set_flag.Tie as tie
+
+slice-write-flags : tie.Need-slice-write-flags
+slice-write-flags c = search needs
+
+same-length : tie.Need-same-length
+same-length c = search needs
+
+returns : tie.Need-returns
+returns c = search needs
+
+returns-2 : tie.Need-returns-2
+returns-2 c = sym (set-out _ _ _ (c .if1 .left))
+
+pub set-flag-spec : {M : Type 1} → statement M
+set-flag-spec = tie.close (tie.spec slice-write-flags same-length returns returns-2)

@@ -1,0 +1,27 @@
+use Rattle.reach.specs.Worklist.{markWhen}
+use borrow.Author.Needs.{needs}
+use Rattle.analysis.proofs.marking.mark_when.Statement.{statement}
+use Rattle.analysis.proofs.marking.mark_when.Tie as tie
+
+mark-requires : tie.Need-mark-requires
+mark-requires c κs = search needs
+
+same-length : tie.Need-same-length
+same-length c = search needs
+
+same-length-2 : tie.Need-same-length-2
+same-length-2 c = search needs
+
+returns : tie.Need-returns
+unfolding markWhen
+returns c =
+    let e = c .before .before .before .before .mark .ensures in
+    let t = c .before .before .before .before .before .before .before .if1 .taken in
+    (record { becomes = λ k n. rw t (e .0 .becomes k n) }, e .1)
+
+returns-2 : tie.Need-returns-2
+unfolding markWhen
+returns-2 c = (record { becomes = λ k n. rw (c .if1 .left) }, λ h. h)
+
+pub mark-when-spec : {M : Type 1} → statement M
+mark-when-spec = tie.close (tie.spec mark-requires same-length same-length-2 returns returns-2)

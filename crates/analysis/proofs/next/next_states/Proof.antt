@@ -1,0 +1,79 @@
+-- `analysis::next::next_states` meets its contract. The loop's invariant: each flag, with the keys from `i` on, decides.
+use mathlib.Core.Path.{_≡_, refl, sym}
+use Prim.Native.Nat.{_-_}
+use native.Mathlib.Omega.{arith}
+use lib.ListN.{length}
+use borrow.Author.Needs.{needs}
+use Rattle.analysis.proofs.Table.{Transitions, transitions-none, transitions-more, transitions-all}
+use Rattle.analysis.proofs.next.next_states.Statement.{statement}
+use Rattle.analysis.proofs.next.next_states.Tie as tie
+
+abbrev Inv-loop : tie.InvT-loop
+Inv-loop keys count flags₀ i₀ flags i = Transitions keys count i flags
+
+abbrev μ-loop : tie.MeasureT-loop
+μ-loop keys count flags₀ i₀ flags i = 256 - i
+
+room : (c : tie.At-loop Inv-loop μ-loop) → length (c .before .before .before .args .r .transitions .keys) ≡ 256
+room c = search needs
+
+loop-holds : tie.Need-loop-holds Inv-loop μ-loop
+loop-holds c = transitions-none _ _
+
+returns : tie.Need-returns Inv-loop μ-loop
+returns c =
+    let p = c .before .before in
+    let n = room p in
+    transitions-all (p .loop .inv) _ (omega arith) refl
+
+mul-place-of : tie.Need-mul-place-of Inv-loop μ-loop
+mul-place-of c = search needs
+
+array-read-place-of : tie.Need-array-read-place-of Inv-loop μ-loop
+array-read-place-of c = search needs
+
+place-of-requires : tie.Need-place-of-requires Inv-loop μ-loop
+place-of-requires c κs = search needs
+
+slice-aggregate-set-flag : tie.Need-slice-aggregate-set-flag Inv-loop μ-loop
+slice-aggregate-set-flag c = sym (c .before .before .before .before .loop .inv .size)
+
+set-flag-requires : tie.Need-set-flag-requires Inv-loop μ-loop
+set-flag-requires c κs = search needs
+
+add-i : tie.Need-add-i Inv-loop μ-loop
+add-i c = search needs
+
+loop-less : tie.Need-loop-less Inv-loop μ-loop
+loop-less c = search needs
+
+loop-again : tie.Need-loop-again Inv-loop μ-loop
+loop-again c =
+    let p = c .before .before .before .before .before .before in
+    let n = room p in
+    rw (c .before .set-flag .ensures)
+    (transitions-more (p .loop .inv) _ (omega arith) (omega arith) (c .before .before .before .place-of .ensures))
+
+returns-2 : tie.Need-returns-2 Inv-loop μ-loop
+returns-2 c =
+    let p = c .before in
+    let n = room p in
+    transitions-all (p .loop .inv) _ (omega arith) refl
+
+pub next-states-spec : {M : Type 1} → statement M
+next-states-spec =
+    tie.close
+    (tie.spec
+    Inv-loop
+    μ-loop
+    loop-holds
+    returns
+    mul-place-of
+    array-read-place-of
+    place-of-requires
+    slice-aggregate-set-flag
+    set-flag-requires
+    add-i
+    loop-less
+    loop-again
+    returns-2)

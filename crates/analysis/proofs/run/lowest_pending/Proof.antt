@@ -1,0 +1,54 @@
+use Rattle.analysis.proofs.Lowest.{is-lowest, none-lowest, none-here}
+use Rattle.analysis.specs.Parts.{NoneBelow}
+use native.Mathlib.Omega.{arith}
+use Prim.Native.Nat.{_-_}
+use borrow.Author.Needs.{needs}
+use Rattle.analysis.proofs.run.lowest_pending.Statement.{statement}
+use Rattle.analysis.proofs.run.lowest_pending.Tie as tie
+
+abbrev Inv-loop : tie.InvT-loop
+Inv-loop pending from i₀ i = NoneBelow pending i
+
+abbrev μ-loop : tie.MeasureT-loop
+μ-loop pending from i₀ i = 16384 - i
+
+loop-holds : tie.Need-loop-holds Inv-loop μ-loop
+loop-holds c = c .pre .1
+
+shared-slice-read-if1 : tie.Need-shared-slice-read-if1 Inv-loop μ-loop
+shared-slice-read-if1 c = search needs
+
+returns : tie.Need-returns Inv-loop μ-loop
+returns c =
+    let p = c .before .before .before in
+    let z = p .before in
+    (is-lowest (z .args .pending .now) (p .loop .i) (z .pre .0) (p .loop .inv) (omega arith) (c .if1 .taken), p .loop .inv)
+
+add-i : tie.Need-add-i Inv-loop μ-loop
+add-i c = search needs
+
+loop-less : tie.Need-loop-less Inv-loop μ-loop
+loop-less c = search needs
+
+loop-again : tie.Need-loop-again Inv-loop μ-loop
+loop-again c = none-here _ _ (c .before .before .before .loop .inv) (c .if1 .left)
+
+returns-2 : tie.Need-returns-2 Inv-loop μ-loop
+returns-2 c =
+    let p = c .before in
+    let z = p .before in
+    (none-lowest (z .args .pending .now) (p .loop .i) (z .pre .0) (p .loop .inv) (omega arith), p .loop .inv)
+
+pub lowest-pending-spec : {M : Type 1} → statement M
+lowest-pending-spec =
+    tie.close
+    (tie.spec
+    Inv-loop
+    μ-loop
+    loop-holds
+    shared-slice-read-if1
+    returns
+    add-i
+    loop-less
+    loop-again
+    returns-2)

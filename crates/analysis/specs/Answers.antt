@@ -1,0 +1,109 @@
+-- The answers of the analysis and of the list of violations, and the lent bytes afterwards: functions of everything lent.
+use Prim.Native.Nat.{ℕ}
+use mathlib.Core.Bool.{Bool, true, false, cond, _&&_}
+use mathlib.Core.Option.{Option, some, none}
+use mathlib.Core.List.{List, [], _∷_}
+use lib.Dec.{eqb}
+use lib.ListN.{length}
+use Rattle.program.specs.Program.{Program}
+use Rattle.program.specs.Reading.{readFile}
+use Rattle.program.specs.declared.Verdict.{Verdict}
+use Rattle.program.specs.declared.Verdict.the-variants as verdict
+use Rattle.reach.specs.Configurations.{none-set}
+use Rattle.reach.specs.Worklist.{analysis}
+use Rattle.reach.specs.Marks.{freshMarks, countSet, violations, firstFrom}
+use Rattle.analysis.specs.declared.AnalyzeAnswer.{AnalyzeAnswer}
+use Rattle.analysis.specs.declared.AnalyzeAnswer.the-variants as analyzed
+use Rattle.analysis.specs.declared.NextAnswer.{NextAnswer}
+use Rattle.analysis.specs.declared.NextAnswer.the-variants as next
+
+-- ---- the checks before anything is touched: the file (1 to 8), then the marks' length (9), then the working buffer's (11)
+
+abbrev pub checkedBy : Verdict → ℕ → ℕ → Verdict
+checkedBy verdict.Accepted marks work =
+    cond (eqb marks 16384) (cond (eqb work 16384) verdict.Accepted (verdict.Refused 11 0)) (verdict.Refused 9 0)
+checkedBy (verdict.Refused n line) marks work = verdict.Refused n line
+
+unfoldable pub checked : List ℕ → ℕ → ℕ → Verdict
+checked file marks work = checkedBy (readFile file .verdict) marks work
+
+-- ---- `analyze`
+
+-- the counts of configurations, of violations and of iterations, or the refusal
+abbrev pub analyzeBy : Verdict → Program → AnalyzeAnswer
+analyzeBy verdict.Accepted p = analyzed.Counts (countSet (freshMarks p)) (length (violations p)) (analysis p .iterations)
+analyzeBy (verdict.Refused n line) p = analyzed.Refused n line
+
+unfoldable pub analyzeAnswer : List ℕ → List ℕ → List ℕ → AnalyzeAnswer
+analyzeAnswer file marks work = analyzeBy (checked file (length marks) (length work)) (readFile file .program)
+
+-- the new bytes on success, the old ones on a refusal
+abbrev pub onSuccess : Verdict → List ℕ → List ℕ → List ℕ
+onSuccess verdict.Accepted new old = new
+onSuccess (verdict.Refused n line) new old = old
+
+unfoldable pub marksAfter : List ℕ → List ℕ → List ℕ → List ℕ
+marksAfter file marks work = onSuccess (checked file (length marks) (length work)) (freshMarks (readFile file .program)) marks
+
+-- the working buffer is all zero once the checks are passed
+unfoldable pub workAfter : List ℕ → List ℕ → List ℕ → List ℕ
+workAfter file marks work = onSuccess (checked file (length marks) (length work)) none-set work
+
+-- ---- `next_violation`
+
+-- every byte is the same
+unfoldable pub same : List ℕ → List ℕ → Bool
+same [] [] = true
+same [] (y ∷ ys) = false
+same (x ∷ xs) [] = false
+same (x ∷ xs) (y ∷ ys) = eqb x y && same xs ys
+
+abbrev pub foundOf : Option ℕ → NextAnswer
+foundOf none = next.Nothing
+foundOf (some i) = next.Found i
+
+-- foreign marks (17), then the first violation not below the number, or none
+abbrev pub nextBy : Verdict → Program → List ℕ → ℕ → NextAnswer
+nextBy verdict.Accepted p marks low = cond (same marks (freshMarks p)) (foundOf (firstFrom low (violations p))) (next.Refused 17 0)
+nextBy (verdict.Refused n line) p marks low = next.Refused n line
+
+unfoldable pub nextAnswer : List ℕ → List ℕ → List ℕ → ℕ → NextAnswer
+nextAnswer file marks work low = nextBy (checked file (length marks) (length work)) (readFile file .program) marks low
+
+-- ---- the numbers of the answers; 0 where there is none
+
+abbrev pub analyzeRefusal : AnalyzeAnswer → ℕ
+analyzeRefusal (analyzed.Counts c v i) = 0
+analyzeRefusal (analyzed.Refused n line) = n
+
+abbrev pub analyzeLine : AnalyzeAnswer → ℕ
+analyzeLine (analyzed.Counts c v i) = 0
+analyzeLine (analyzed.Refused n line) = line
+
+abbrev pub configurationCount : AnalyzeAnswer → ℕ
+configurationCount (analyzed.Counts c v i) = c
+configurationCount (analyzed.Refused n line) = 0
+
+abbrev pub violationCount : AnalyzeAnswer → ℕ
+violationCount (analyzed.Counts c v i) = v
+violationCount (analyzed.Refused n line) = 0
+
+abbrev pub iterationCount : AnalyzeAnswer → ℕ
+iterationCount (analyzed.Counts c v i) = i
+iterationCount (analyzed.Refused n line) = 0
+
+abbrev pub nextRefusal : NextAnswer → ℕ
+nextRefusal (next.Found i) = 0
+nextRefusal next.Nothing = 0
+nextRefusal (next.Refused n line) = n
+
+abbrev pub nextLine : NextAnswer → ℕ
+nextLine (next.Found i) = 0
+nextLine next.Nothing = 0
+nextLine (next.Refused n line) = line
+
+-- 4294967295 says that there is none
+abbrev pub nextFound : NextAnswer → ℕ
+nextFound (next.Found i) = i
+nextFound next.Nothing = 4294967295
+nextFound (next.Refused n line) = 0

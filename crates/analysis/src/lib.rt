@@ -1,0 +1,134 @@
+// The full analysis of a file's program, and the list of its violations.
+mod count;
+mod follow;
+mod marking;
+mod next;
+pub mod run;
+mod take;
+
+use count::count_marks;
+use count::count_violations;
+use count::first_violation;
+use count::rejecting_flags;
+use program::DecodedProgram;
+use program::Verdict;
+use run::analyze_program;
+ghost use mathlib.Core.Path.{_≡_};
+ghost use lib.ListN.{length};
+ghost use Rattle.program.specs.WellFormed.{WellFormed};
+ghost use Rattle.program.specs.Decoded.{programOf};
+ghost use Rattle.program.specs.declared.Verdict.the-variants.{Accepted};
+ghost use Rattle.reach.specs.Configurations.{none-set};
+ghost use Rattle.reach.specs.Marks.{freshMarks};
+ghost use Rattle.analysis.specs.Answers.{checkedBy, analyzeBy, analyzeAnswer, marksAfter, workAfter, foundOf, nextBy, nextAnswer};
+ghost use Rattle.analysis.specs.Parts.{within};
+
+// The counts of configurations, violations and iterations; or a refusal, at a line.
+pub enum AnalyzeAnswer {
+    Counts(usize, usize, usize),
+    Refused(u8, usize),
+}
+
+// The number of a violation; or there is none; or a refusal, at a line.
+pub enum NextAnswer {
+    Found(usize),
+    Nothing,
+    Refused(u8, usize),
+}
+
+// The file's verdict, then the lengths of the marks (9) and of the working buffer (11).
+fn check_buffers(v: Verdict, marks: usize, work: usize) -> Verdict
+    ensures { λ r. ⌜ r ≡ checkedBy v marks work ⌝ }
+{
+    match v {
+        Verdict::Refused(n, line) => Verdict::Refused(n, line),
+        Verdict::Accepted => {
+            if marks == 16384 {
+                if work == 16384 {
+                    return Verdict::Accepted;
+                }
+                return Verdict::Refused(11, 0);
+            }
+            Verdict::Refused(9, 0)
+        }
+    }
+}
+
+fn analyze_counts(p: DecodedProgram, marks: &mut [u8], work: &mut [u8]) -> AnalyzeAnswer
+    requires { ⌜ WellFormed (programOf p) ⌝ }
+    requires { ⌜ (length (now marks) ≡ 16384) × (length (now work) ≡ 16384) ⌝ }
+    ensures { λ r. ⌜ (r ≡ analyzeBy Accepted (programOf p)) × (now (marks .exit) ≡ freshMarks (programOf p)) × (now (work .exit) ≡ none-set) ⌝ }
+{
+    let iterations = analyze_program(p, marks, work);
+    let rule = p.automaton;
+    let rejecting = rejecting_flags(rule);
+    let flags = rejecting.flags;
+    let configurations = count_marks(marks);
+    let violations = count_violations(marks, &flags);
+    AnalyzeAnswer::Counts(configurations, violations, iterations)
+}
+
+// The fresh marks of a file's program and their counts. A refusal leaves both buffers alone; on success the working buffer
+// is all zero.
+pub fn analyze(file: &[u8], marks: &mut [u8], work: &mut [u8]) -> AnalyzeAnswer
+    ensures { λ r. ⌜ (r ≡ analyzeAnswer (now (file .entry)) (now (marks .entry)) (now (work .entry)))
+        × (now (marks .exit) ≡ marksAfter (now (file .entry)) (now (marks .entry)) (now (work .entry)))
+        × (now (work .exit) ≡ workAfter (now (file .entry)) (now (marks .entry)) (now (work .entry))) ⌝ }
+{
+    let r = reader::read(file);
+    let v = r.verdict;
+    let checked = check_buffers(v, marks.len(), work.len());
+    match checked {
+        Verdict::Refused(n, line) => AnalyzeAnswer::Refused(n, line),
+        Verdict::Accepted => {
+            let p = r.program;
+            analyze_counts(p, marks, work)
+        }
+    }
+}
+
+// Marks that differ from the program's own are refused (17); else the first violation not below the number is sought.
+fn search_own(p: DecodedProgram, marks: &[u8], work: &mut [u8], low: usize) -> NextAnswer
+    requires { ⌜ WellFormed (programOf p) ⌝ }
+    requires { ⌜ (length (now marks) ≡ 16384) × (length (now work) ≡ 16384) ⌝ }
+    ensures { λ r. ⌜ (r ≡ nextBy Accepted (programOf p) (now (marks .entry)) low) × (now (work .exit) ≡ none-set) ⌝ }
+{
+    let mut own = [0u8; 16384];
+    let _iterations = analyze_program(p, &mut own, work);
+    if check::same(marks, &own) {
+        let rule = p.automaton;
+        let rejecting = rejecting_flags(rule);
+        let flags = rejecting.flags;
+        let i = first_violation(marks, &flags, low);
+        return found(i);
+    }
+    NextAnswer::Refused(17, 0)
+}
+
+// A search's result past the end says that there is none.
+fn found(i: usize) -> NextAnswer
+    ensures { λ r. ⌜ r ≡ foundOf (within 16384 i) ⌝ }
+{
+    if i < 16384 {
+        return NextAnswer::Found(i);
+    }
+    NextAnswer::Nothing
+}
+
+// The first violation of a file's program that is not below the number. The marks must be the program's own. The working
+// buffer is all zero once the checks of the file and of the lengths are passed.
+pub fn next_violation(file: &[u8], marks: &[u8], work: &mut [u8], low: usize) -> NextAnswer
+    ensures { λ r. ⌜ (r ≡ nextAnswer (now (file .entry)) (now (marks .entry)) (now (work .entry)) low)
+        × (now (work .exit) ≡ workAfter (now (file .entry)) (now (marks .entry)) (now (work .entry))) ⌝ }
+{
+    let r = reader::read(file);
+    let v = r.verdict;
+    let checked = check_buffers(v, marks.len(), work.len());
+    match checked {
+        Verdict::Refused(n, line) => NextAnswer::Refused(n, line),
+        Verdict::Accepted => {
+            let p = r.program;
+            search_own(p, marks, work, low)
+        }
+    }
+}

@@ -1,0 +1,97 @@
+// Marking configurations, and setting marked ones pending again. Each function returns a number below which nothing is
+// pending, if there was nothing below the one it was given.
+ghost use mathlib.Core.Path.{_≡_};
+ghost use Prim.Native.Nat.{_<_, _≤_, _+_, _*_};
+ghost use lib.ListN.{length};
+ghost use Rattle.reach.specs.Worklist.{mark as marked, markWhen, wake as woken};
+ghost use Rattle.analysis.specs.Parts.{Becomes, Lowers, each, markFlag, wakeAt};
+
+fn lower(a: usize, b: usize) -> usize
+    ensures { λ r. ⌜ (r ≤ a) × (r ≤ b) ⌝ }
+{
+    if a < b {
+        return a;
+    }
+    b
+}
+
+// Marks a configuration; where it was not marked, it becomes pending.
+pub fn mark(marks: &mut [u8], pending: &mut [u8], at: usize, low: usize) -> usize
+    requires { ⌜ (length (now marks) ≡ 16384) × (length (now pending) ≡ 16384) ⌝ }
+    ensures { λ r. ⌜ Becomes (marked at) (now (marks .entry)) (now (pending .entry)) (now (marks .exit)) (now (pending .exit))
+        × Lowers (now (pending .entry)) low (now (pending .exit)) r ⌝ }
+{
+    if at < 16384 {
+        if marks[at] == 0 {
+            marks[at] = 1;
+            pending[at] = 1;
+            return lower(low, at);
+        }
+    }
+    low
+}
+
+fn mark_when(yes: bool, marks: &mut [u8], pending: &mut [u8], at: usize, low: usize) -> usize
+    requires { ⌜ (length (now marks) ≡ 16384) × (length (now pending) ≡ 16384) ⌝ }
+    ensures { λ r. ⌜ Becomes (markWhen yes at) (now (marks .entry)) (now (pending .entry)) (now (marks .exit)) (now (pending .exit))
+        × Lowers (now (pending .entry)) low (now (pending .exit)) r ⌝ }
+{
+    if yes {
+        return mark(marks, pending, at, low);
+    }
+    low
+}
+
+// Marks base + s for each state s whose flag is set.
+pub fn mark_each(
+    flags: &[u8],
+    place: usize,
+    marks: &mut [u8],
+    pending: &mut [u8],
+    base: usize,
+    low: usize,
+) -> usize
+    requires { ⌜ (place + 8 ≤ length (now flags)) × (base < 1000000) ⌝ }
+    requires { ⌜ (length (now marks) ≡ 16384) × (length (now pending) ≡ 16384) ⌝ }
+    ensures { λ r. ⌜ Becomes (each (markFlag (now (flags .entry)) place base) 8 0) (now (marks .entry)) (now (pending .entry)) (now (marks .exit)) (now (pending .exit))
+        × Lowers (now (pending .entry)) low (now (pending .exit)) r ⌝ }
+{
+    let mut lowest = low;
+    let mut s: usize = 0;
+    while s < 8 {
+        lowest = mark_when(flags[place + s] != 0, marks, pending, base + s, lowest);
+        s = s + 1;
+    }
+    lowest
+}
+
+// Sets a marked configuration pending again.
+fn wake(marks: &[u8], pending: &mut [u8], at: usize, low: usize) -> usize
+    requires { ⌜ (length (now marks) ≡ 16384) × (length (now pending) ≡ 16384) ⌝ }
+    ensures { λ r. ⌜ Becomes (woken at) (now (marks .entry)) (now (pending .entry)) (now (marks .entry)) (now (pending .exit))
+        × Lowers (now (pending .entry)) low (now (pending .exit)) r ⌝ }
+{
+    if at < 16384 {
+        if marks[at] != 0 {
+            pending[at] = 1;
+            return lower(low, at);
+        }
+    }
+    low
+}
+
+// Wakes base + 8 r for each root r.
+pub fn wake_roots(marks: &[u8], pending: &mut [u8], base: usize, low: usize) -> usize
+    requires { ⌜ base < 1000000 ⌝ }
+    requires { ⌜ (length (now marks) ≡ 16384) × (length (now pending) ≡ 16384) ⌝ }
+    ensures { λ r. ⌜ Becomes (each (wakeAt base) 8 0) (now (marks .entry)) (now (pending .entry)) (now (marks .entry)) (now (pending .exit))
+        × Lowers (now (pending .entry)) low (now (pending .exit)) r ⌝ }
+{
+    let mut lowest = low;
+    let mut r: usize = 0;
+    while r < 8 {
+        lowest = wake(marks, pending, base + 8 * r, lowest);
+        r = r + 1;
+    }
+    lowest
+}

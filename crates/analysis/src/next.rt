@@ -1,0 +1,47 @@
+// The automaton's transitions as a table: may it go from one state to another on an action?
+use crate::count::set_flag;
+use automaton::DecodedAutomaton;
+ghost use Rattle.automaton.specs.Decoded.{automatonOf};
+ghost use Rattle.analysis.specs.Parts.{Answers, Placed};
+
+pub struct NextStates {
+    pub flags: [u8; 2048],
+}
+
+// The flag of the transition that has this key. One with a part that is out of range has no flag: its place is past the end.
+fn place_of(key: u32) -> usize
+    ensures { λ r. ⌜ Placed key r ⌝ }
+{
+    let q = key / 0x10000;
+    let a = key / 0x100 % 256;
+    let s = key % 256;
+    if 8 <= q {
+        return 2048;
+    }
+    if 32 <= a {
+        return 2048;
+    }
+    if 8 <= s {
+        return 2048;
+    }
+    ((q * 32 + a) * 8 + s) as usize
+}
+
+pub fn next_states(r: DecodedAutomaton) -> NextStates
+    ensures { λ y. ⌜ Answers (automatonOf r) (y .flags) ⌝ }
+{
+    let transitions = r.transitions;
+    let keys = transitions.keys;
+    let count = transitions.count;
+    let mut flags = [0u8; 2048];
+    let mut i: usize = 0;
+    while i < 256 {
+        if count <= i {
+            return NextStates { flags };
+        }
+        let at = place_of(keys[i]);
+        set_flag(&mut flags, at);
+        i = i + 1;
+    }
+    NextStates { flags }
+}

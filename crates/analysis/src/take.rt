@@ -1,0 +1,40 @@
+// One iteration: the configuration of a number is taken.
+use crate::follow::follow_edges;
+use crate::follow::wake_callers;
+ghost use mathlib.Core.Path.{_≡_};
+ghost use Prim.Native.Nat.{ℕ, _<_, _≤_, _+_};
+ghost use lib.ListN.{length};
+ghost use Rattle.program.specs.Program.{Program};
+ghost use Rattle.reach.specs.Worklist.{takeAt};
+ghost use Rattle.analysis.specs.Parts.{worklist, NoneBelow, Tables};
+
+// At an exit its summary is known and its callers become pending; elsewhere its edges are followed. Returns a number below
+// which nothing is pending, if the one that is taken was the lowest.
+pub fn take(
+    keys: &[u32],
+    count: usize,
+    next: &[u8],
+    marks: &mut [u8],
+    pending: &mut [u8],
+    known: &mut [u8],
+    i: usize,
+) -> usize
+    requires { ⌜ (i < 16384) × (count ≤ length (now keys)) × (length (now next) ≡ 2048) × (length (now known) ≡ 1024) ⌝ }
+    requires { ⌜ (length (now marks) ≡ 16384) × (length (now pending) ≡ 16384) ⌝ }
+    ensures taken { λ v. ⌜ ((p : Program) → Tables p (now (keys .entry)) count (now (next .entry)) → (n : ℕ)
+        → worklist (now (marks .exit)) (now (pending .exit)) (now (known .exit)) (n + 1)
+        ≡ takeAt p i (worklist (now (marks .entry)) (now (pending .entry)) (now (known .entry)) n)) ⌝ }
+    ensures lowest { λ v. ⌜ (NoneBelow (now (pending .entry)) i → NoneBelow (now (pending .exit)) v) ⌝ }
+{
+    let f = (i / 1024) as u8;
+    let n = (i / 64 % 16) as u8;
+    let r = (i / 8 % 8) as u8;
+    let q = (i % 8) as u8;
+    pending[i] = 0;
+    if n == 1 {
+        let place = (i / 1024 * 8 + i / 8 % 8) * 8 + i % 8;
+        known[place] = 1;
+        return wake_callers(keys, count, marks, pending, f, r, i + 1);
+    }
+    follow_edges(keys, count, next, known, marks, pending, f, n, r, q, i + 1)
+}

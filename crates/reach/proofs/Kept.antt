@@ -1,0 +1,254 @@
+-- What every iteration keeps: the lengths of the lists, and that their bytes are 0 or 1.
+use mathlib.Core.Path.{_≡_, refl, _∙_}
+use mathlib.Core.Bool.{Bool, true, false, _&&_}
+use mathlib.Core.Option.{Option, none, some}
+use mathlib.Core.List.{List, [], _∷_}
+use Prim.Native.Nat.{ℕ, zero, suc, _+_, _≤_}
+use native.Mathlib.Omega.{arith}
+use lib.Dec.{eqb}
+use lib.ListN.{length, getD, set, length-set, length-replicate}
+use Rattle.automaton.specs.Automaton.{moves}
+use Rattle.automaton.specs.declared.Event.{Event}
+use Rattle.automaton.specs.declared.Event.the-variants.{Action, Call, Return}
+use Rattle.program.specs.Program.{Program}
+use Rattle.reach.specs.Configurations.{number, routineOf, nodeOf, rootOf, stateOf, none-set}
+use Rattle.reach.specs.Runs.{Step, stepsOf}
+use Rattle.reach.specs.Worklist.{Worklist, lowest, mark, wake, markWhen, isKnown, onAction, onReturns, onLabel, labelWhen, onSteps, wakeRoots, calls, wakeWhen, wakeCallers, learn, takeFrom, takeAt, work, opened, blank, analysis}
+use Rattle.reach.proofs.Flags.{set-bits, zeros}
+
+-- number i is pending no more
+abbrev pub taking : ℕ → Worklist → Worklist
+taking i s = record { marks = s .marks; pending = set (s .pending) i 0; known = s .known; iterations = s .iterations + 1 }
+
+-- number j is marked and pending
+abbrev pub marked : ℕ → Worklist → Worklist
+marked j s = record { marks = set (s .marks) j 1; pending = set (s .pending) j 1; known = s .known; iterations = s .iterations }
+
+-- number j is pending
+abbrev pub awake : ℕ → Worklist → Worklist
+awake j s = record { marks = s .marks; pending = set (s .pending) j 1; known = s .known; iterations = s .iterations }
+
+-- marking and waking, by whether the number is marked
+module _ (P : Worklist → Type 0) (j : ℕ) (s : Worklist) where
+  pub mark-by : (eqb (getD (s .marks) j 0) 0 ≡ true → P (marked j s)) → (eqb (getD (s .marks) j 0) 0 ≡ false → P s) → P (mark j s)
+  unfolding mark
+  mark-by new old = go (eqb (getD (s .marks) j 0) 0) refl
+    where
+      go : (b : Bool) → eqb (getD (s .marks) j 0) 0 ≡ b → P (mark j s)
+      go true e = rw (e, mark) (new e)
+      go false e = rw (e, mark) (old e)
+
+  pub wake-by : (eqb (getD (s .marks) j 0) 0 ≡ true → P s) → (eqb (getD (s .marks) j 0) 0 ≡ false → P (awake j s)) → P (wake j s)
+  unfolding wake
+  wake-by off on = go (eqb (getD (s .marks) j 0) 0) refl
+    where
+      go : (b : Bool) → eqb (getD (s .marks) j 0) 0 ≡ b → P (wake j s)
+      go true e = rw (e, wake) (off e)
+      go false e = rw (e, wake) (on e)
+
+-- what marking, waking and learning keep
+pub record Kept (P : Worklist → Type 0) : Type 0 where
+  pub by-mark : (j : ℕ) (s : Worklist) → P s → P (mark j s)
+  pub by-wake : (j : ℕ) (s : Worklist) → P s → P (wake j s)
+  pub by-learn : (f r q : ℕ) (s : Worklist) → P s → P (learn f r q s)
+
+module _ {P : Worklist → Type 0} (k : Kept P) where
+  pub when-kept : (b : Bool) (j : ℕ) (s : Worklist) → P s → P (markWhen b j s)
+  unfolding markWhen
+  when-kept true j s h = k .by-mark j s h
+  when-kept false j s h = h
+
+  action-kept : (c x : ℕ) (p : Program) (f m r q a : ℕ) (s : Worklist) → P s → P (onAction c x p f m r q a s)
+  unfolding onAction
+  action-kept zero x p f m r q a s h = h
+  action-kept (suc c) x p f m r q a s h = action-kept c (suc x) p f m r q a _ (when-kept (moves (p .automaton) q (Action a) x) (number f m r x) s h)
+
+  returns-kept : (c x f m r q g : ℕ) (s : Worklist) → P s → P (onReturns c x f m r q g s)
+  unfolding onReturns
+  returns-kept zero x f m r q g s h = h
+  returns-kept (suc c) x f m r q g s h = returns-kept c (suc x) f m r q g _ (when-kept (isKnown s g q x) (number f m r x) s h)
+
+  label-kept : (p : Program) (f m r q : ℕ) (l : Event) (s : Worklist) → P s → P (onLabel p f m r q l s)
+  unfolding onLabel
+  label-kept p f m r q (Action a) s h = action-kept 8 0 p f m r q a s h
+  label-kept p f m r q (Call g) s h = returns-kept 8 0 f m r q g _ (k .by-mark (number g 0 q q) s h)
+  label-kept p f m r q (Return g) s h = h
+
+  pub label-when-kept : (b : Bool) (p : Program) (f m r q : ℕ) (l : Event) (s : Worklist) → P s → P (labelWhen b p f m r q l s)
+  unfolding labelWhen
+  label-when-kept true p f m r q l s h = label-kept p f m r q l s h
+  label-when-kept false p f m r q l s h = h
+
+  steps-kept : (p : Program) (es : List Step) (f n r q : ℕ) (s : Worklist) → P s → P (onSteps p es f n r q s)
+  unfolding onSteps
+  steps-kept p [] f n r q s h = h
+  steps-kept p (e ∷ es) f n r q s h =
+      steps-kept p es f n r q _ (label-when-kept (eqb (e .routine) f && eqb (e .source) n) p f (e .target) r q (e .label) s h)
+
+  roots-kept : (c x g n q : ℕ) (s : Worklist) → P s → P (wakeRoots c x g n q s)
+  unfolding wakeRoots
+  roots-kept zero x g n q s h = h
+  roots-kept (suc c) x g n q s h = roots-kept c (suc x) g n q _ (k .by-wake (number g n x q) s h)
+
+  pub wake-when-kept : (b : Bool) (g n r : ℕ) (s : Worklist) → P s → P (wakeWhen b g n r s)
+  unfolding wakeWhen
+  wake-when-kept true g n r s h = roots-kept 8 0 g n r s h
+  wake-when-kept false g n r s h = h
+
+  callers-kept : (es : List Step) (f r : ℕ) (s : Worklist) → P s → P (wakeCallers es f r s)
+  unfolding wakeCallers
+  callers-kept [] f r s h = h
+  callers-kept (e ∷ es) f r s h = callers-kept es f r _ (wake-when-kept (calls f (e .label)) (e .routine) (e .source) r s h)
+
+  from-kept : (b : Bool) (p : Program) (f n r q : ℕ) (s : Worklist) → P s → P (takeFrom b p f n r q s)
+  unfolding takeFrom
+  from-kept true p f n r q s h = callers-kept (stepsOf p) f r _ (k .by-learn f r q s h)
+  from-kept false p f n r q s h = steps-kept p (stepsOf p) f n r q s h
+
+  pub take-kept : (p : Program) (i : ℕ) (s : Worklist) → P (taking i s) → P (takeAt p i s)
+  unfolding takeAt
+  take-kept p i s h = from-kept (eqb (nodeOf i) 1) p (routineOf i) (nodeOf i) (rootOf i) (stateOf i) _ h
+
+  pub opened-kept : (qs : List ℕ) (s : Worklist) → P s → P (opened qs s)
+  unfolding opened
+  opened-kept [] s h = h
+  opened-kept (q ∷ qs) s h = opened-kept qs _ (k .by-mark (number 0 0 q q) s h)
+
+-- what the taking of a pending number keeps
+module _ {P : Worklist → Type 0} (p : Program) (k : (i : ℕ) (s : Worklist) → lowest (s .pending) 0 ≡ some i → P s → P (takeAt p i s)) where
+  pub work-kept : (c : ℕ) (o : Option ℕ) (s : Worklist) → lowest (s .pending) 0 ≡ o → P s → P (work c p o s)
+  unfolding work
+  work-kept zero o s e h = h
+  work-kept (suc c) none s e h = h
+  work-kept (suc c) (some i) s e h = work-kept c (lowest (takeAt p i s .pending) 0) (takeAt p i s) refl (k i s e h)
+
+-- ---- lengths and bytes
+
+pub record Shape (s : Worklist) : Type 0 where
+  pub marks-length : length (s .marks) ≡ 16384
+  pub pending-length : length (s .pending) ≡ 16384
+  pub known-length : length (s .known) ≡ 1024
+  pub marks-bits : (i : ℕ) → getD (s .marks) i 0 ≤ 1
+  pub pending-bits : (i : ℕ) → getD (s .pending) i 0 ≤ 1
+  pub known-bits : (i : ℕ) → getD (s .known) i 0 ≤ 1
+
+marks-shape : (j : ℕ) (s : Worklist) → Shape s → Shape (record { marks = set (s .marks) j 1; pending = s .pending; known = s .known; iterations = s .iterations })
+marks-shape j s z =
+    record {
+      marks-length = length-set (s .marks) j 1 ∙ z .marks-length;
+      pending-length = z .pending-length;
+      known-length = z .known-length;
+      marks-bits = set-bits (s .marks) j 1 (omega arith) (z .marks-bits);
+      pending-bits = z .pending-bits;
+      known-bits = z .known-bits;
+    }
+
+pending-shape : (j v n : ℕ) (s : Worklist) → v ≤ 1 → Shape s
+    → Shape (record { marks = s .marks; pending = set (s .pending) j v; known = s .known; iterations = n })
+pending-shape j v n s h z =
+    record {
+      marks-length = z .marks-length;
+      pending-length = length-set (s .pending) j v ∙ z .pending-length;
+      known-length = z .known-length;
+      marks-bits = z .marks-bits;
+      pending-bits = set-bits (s .pending) j v h (z .pending-bits);
+      known-bits = z .known-bits;
+    }
+
+pub learn-shape : (f r q : ℕ) (s : Worklist) → Shape s → Shape (learn f r q s)
+unfolding learn
+learn-shape f r q s z =
+    record {
+      marks-length = z .marks-length;
+      pending-length = z .pending-length;
+      known-length = length-set (s .known) _ 1 ∙ z .known-length;
+      marks-bits = z .marks-bits;
+      pending-bits = z .pending-bits;
+      known-bits = set-bits (s .known) _ 1 (omega arith) (z .known-bits);
+    }
+
+pub taking-shape : (i : ℕ) (s : Worklist) → Shape s → Shape (taking i s)
+taking-shape i s z = pending-shape i 0 (s .iterations + 1) s (omega arith) z
+
+mark-shape : (j : ℕ) (s : Worklist) → Shape s → Shape (mark j s)
+mark-shape j s z = mark-by Shape j s (λ e. pending-shape j 1 (s .iterations) _ (omega arith) (marks-shape j s z)) (λ e. z)
+
+wake-shape : (j : ℕ) (s : Worklist) → Shape s → Shape (wake j s)
+wake-shape j s z = wake-by Shape j s (λ e. z) (λ e. pending-shape j 1 (s .iterations) s (omega arith) z)
+
+pub shape-kept : Kept Shape
+shape-kept = record { by-mark = mark-shape; by-wake = wake-shape; by-learn = learn-shape }
+
+pub blank-shape : Shape blank
+unfolding none-set
+blank-shape =
+    record {
+      marks-length = length-replicate {A = ℕ} 16384 0;
+      pending-length = length-replicate {A = ℕ} 16384 0;
+      known-length = length-replicate {A = ℕ} 1024 0;
+      marks-bits = λ i. omega (arith, zeros 16384 i);
+      pending-bits = λ i. omega (arith, zeros 16384 i);
+      known-bits = λ i. omega (arith, zeros 1024 i);
+    }
+
+pub opened-shape : (qs : List ℕ) → Shape (opened qs blank)
+opened-shape qs = opened-kept shape-kept qs blank blank-shape
+
+pub take-shape : (p : Program) (i : ℕ) (s : Worklist) → Shape s → Shape (takeAt p i s)
+take-shape p i s z = take-kept shape-kept p i s (taking-shape i s z)
+
+pub work-shape : (k : ℕ) (p : Program) (o : Option ℕ) (s : Worklist) → lowest (s .pending) 0 ≡ o → Shape s → Shape (work k p o s)
+work-shape k p o s e z = work-kept p (λ i t h. take-shape p i t) k o s e z
+
+pub analysis-shape : (p : Program) → Shape (analysis p)
+unfolding analysis
+analysis-shape p = work-shape 2113536 p _ (opened (p .automaton .initial) blank) refl (opened-shape (p .automaton .initial))
+
+pub marks-length : (p : Program) → length (analysis p .marks) ≡ 16384
+marks-length p = analysis-shape p .marks-length
+
+pub pending-length : (p : Program) → length (analysis p .pending) ≡ 16384
+pending-length p = analysis-shape p .pending-length
+
+pub known-length : (p : Program) → length (analysis p .known) ≡ 1024
+known-length p = analysis-shape p .known-length
+
+pub marks-bits : (p : Program) (i : ℕ) → getD (analysis p .marks) i 0 ≤ 1
+marks-bits p i = analysis-shape p .marks-bits i
+
+-- ---- the iterations are counted
+
+record Counted (n : ℕ) (s : Worklist) : Type 0 where
+  count : s .iterations ≡ n
+
+counted-kept : (n : ℕ) → Kept (Counted n)
+unfolding learn
+counted-kept n =
+    record {
+      by-mark = λ j s h. mark-by (Counted n) j s (λ e. record { count = h .count }) (λ e. h);
+      by-wake = λ j s h. wake-by (Counted n) j s (λ e. h) (λ e. record { count = h .count });
+      by-learn = λ f r q s h. record { count = h .count };
+    }
+
+pub take-iterations : (p : Program) (i : ℕ) (s : Worklist) → takeAt p i s .iterations ≡ s .iterations + 1
+take-iterations p i s = take-kept (counted-kept (s .iterations + 1)) p i s (record { count = refl }) .count
+
+pub opened-iterations : (qs : List ℕ) → opened qs blank .iterations ≡ 0
+opened-iterations qs = opened-kept (counted-kept 0) qs blank (record { count = refl }) .count
+
+-- one iteration of the loop
+pub work-step : (k : ℕ) (p : Program) (i : ℕ) (s : Worklist) → lowest (s .pending) 0 ≡ some i
+    → work (suc k) p (lowest (s .pending) 0) s ≡ work k p (lowest (takeAt p i s .pending) 0) (takeAt p i s)
+unfolding work
+work-step k p i s e = rw e
+
+pub work-done : (k : ℕ) (p : Program) (s : Worklist) → lowest (s .pending) 0 ≡ none → work k p (lowest (s .pending) 0) s ≡ s
+unfolding work
+work-done zero p s e = refl
+work-done (suc k) p s e = rw e
+
+pub work-iterations : (k : ℕ) (p : Program) (o : Option ℕ) (s : Worklist) → work k p o s .iterations ≤ s .iterations + k
+unfolding work
+work-iterations zero p o s = omega arith
+work-iterations (suc k) p none s = omega arith
+work-iterations (suc k) p (some i) s = omega (arith, work-iterations k p (lowest (takeAt p i s .pending) 0) (takeAt p i s), take-iterations p i s)

@@ -1,0 +1,110 @@
+-- The laws of the numbers of configurations and of the places of summaries.
+use mathlib.Core.Path.{_≡_, sym, ap, _∙_}
+use Prim.Native.Nat.{ℕ, _+_, _*_, _<_}
+use native.Mathlib.Omega.{arith}
+use Rattle.reach.specs.Configurations.{Set, InRange, number, routineOf, nodeOf, rootOf, stateOf}
+use Rattle.reach.specs.Worklist.{summary}
+
+-- every number is that of a configuration
+pub number-of : (i : ℕ) → number (routineOf i) (nodeOf i) (rootOf i) (stateOf i) ≡ i
+unfolding number routineOf nodeOf rootOf stateOf
+number-of i = omega arith
+
+module _ {f n r q : ℕ} (h : InRange f n r q) where
+  pub routine-of : routineOf (number f n r q) ≡ f
+  unfolding number routineOf
+  routine-of = omega arith
+
+  pub node-of : nodeOf (number f n r q) ≡ n
+  unfolding number nodeOf
+  node-of = omega arith
+
+  pub root-of : rootOf (number f n r q) ≡ r
+  unfolding number rootOf
+  root-of = omega arith
+
+  pub state-of : stateOf (number f n r q) ≡ q
+  unfolding number stateOf
+  state-of = omega arith
+
+  pub number-fits : number f n r q < 16384
+  unfolding number
+  number-fits = omega arith
+
+-- of any number, the node, the root and the state are in range
+pub node-small : (i : ℕ) → nodeOf i < 16
+unfolding nodeOf
+node-small i = omega arith
+
+pub root-small : (i : ℕ) → rootOf i < 8
+unfolding rootOf
+root-small i = omega arith
+
+pub state-small : (i : ℕ) → stateOf i < 8
+unfolding stateOf
+state-small i = omega arith
+
+pub routine-small : (i : ℕ) → i < 16384 → routineOf i < 16
+unfolding routineOf
+routine-small i h = omega arith
+
+pub parts-in-range : (i : ℕ) → i < 16384 → InRange (routineOf i) (nodeOf i) (rootOf i) (stateOf i)
+parts-in-range i h = record { routine = routine-small i h; node = node-small i; root = root-small i; state = state-small i }
+
+-- ---- sets by number
+
+-- the configuration of number j is in S
+abbrev pub At : Set → ℕ → Type 0
+At S j = S (routineOf j) (nodeOf j) (rootOf j) (stateOf j)
+
+pub to-number : (S : Set) {f n r q : ℕ} → InRange f n r q → S f n r q → At S (number f n r q)
+to-number S h x = rw (routine-of h, node-of h, root-of h, state-of h) x
+
+pub from-number : (S : Set) {f n r q : ℕ} → InRange f n r q → At S (number f n r q) → S f n r q
+from-number S h x = rw (routine-of h, node-of h, root-of h, state-of h) at x
+
+-- configurations in range that have one number are the same
+pub record Same (f n r q g m s t : ℕ) : Type 0 where
+  pub routine : f ≡ g
+  pub node : n ≡ m
+  pub root : r ≡ s
+  pub state : q ≡ t
+
+pub one-to-one : {f n r q g m s t : ℕ} → InRange f n r q → InRange g m s t → number f n r q ≡ number g m s t → Same f n r q g m s t
+one-to-one h k e =
+    record {
+      routine = sym (routine-of h) ∙ ap routineOf e ∙ routine-of k;
+      node = sym (node-of h) ∙ ap nodeOf e ∙ node-of k;
+      root = sym (root-of h) ∙ ap rootOf e ∙ root-of k;
+      state = sym (state-of h) ∙ ap stateOf e ∙ state-of k;
+    }
+
+-- ---- summaries
+
+pub summary-fits : (g q x : ℕ) → g < 16 → q < 8 → x < 8 → summary g q x < 1024
+unfolding summary
+summary-fits g q x a b c = omega arith
+
+pub summary-apart : (g q x f r y : ℕ) → q < 8 → x < 8 → r < 8 → y < 8 → summary g q x ≡ summary f r y → (g ≡ f) × (q ≡ r) × (x ≡ y)
+unfolding summary
+summary-apart g q x f r y a b c d e = (omega arith, omega arith, omega arith)
+
+-- the exit of a summary, if it is that of number i
+pub exit-number : (i g r q : ℕ) → nodeOf i ≡ 1 → r < 8 → q < 8 → summary g r q ≡ summary (routineOf i) (rootOf i) (stateOf i) → number g 1 r q ≡ i
+exit-number i g r q is-exit hr hq e =
+    let c = summary-apart g r q (routineOf i) (rootOf i) (stateOf i) hr hq (root-small i) (state-small i) e in
+    rw (c .0, c .1, c .2, ← is-exit) (number-of i)
+
+-- ---- neighbours: the states of one root, the roots of one node, the summaries from one state
+
+pub number-state : (f n r x : ℕ) → number f n r 0 + x ≡ number f n r x
+unfolding number
+number-state f n r x = omega arith
+
+pub number-root : (f n x q : ℕ) → number f n 0 q + 8 * x ≡ number f n x q
+unfolding number
+number-root f n x q = omega arith
+
+pub summary-state : (g q x : ℕ) → (g * 8 + q) * 8 + x ≡ summary g q x
+unfolding summary
+summary-state g q x = omega arith

@@ -1,0 +1,5 @@
+pub mod Configurations
+pub mod Runs
+pub mod Reachable
+pub mod Worklist
+pub mod Marks

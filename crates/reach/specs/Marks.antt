@@ -1,0 +1,40 @@
+-- The fresh marks of a program (paper: the sheet), the counts and the violations (paper: findings).
+use Prim.Native.Nat.{ℕ, zero, suc, _+_}
+use mathlib.Core.Bool.{Bool, true, false, cond, _&&_, not}
+use mathlib.Core.Option.{Option, none, some}
+use mathlib.Core.List.{List, [], _∷_}
+use lib.Dec.{eqb, leb}
+use lib.ListN.{length}
+use Rattle.automaton.specs.Automaton.{isRejecting}
+use Rattle.program.specs.Program.{Program}
+use Rattle.reach.specs.Configurations.{stateOf}
+use Rattle.reach.specs.Worklist.{analysis}
+
+abbrev pub freshMarks : Program → List ℕ
+freshMarks p = analysis p .marks
+
+-- how many bytes are set
+unfoldable pub countSet : List ℕ → ℕ
+countSet [] = 0
+countSet (b ∷ bs) = cond (eqb b 0) 0 1 + countSet bs
+
+-- a marked configuration whose present state is rejecting
+abbrev pub violates : Program → ℕ → ℕ → Bool
+violates p b i = not (eqb b 0) && isRejecting (p .automaton) (stateOf i)
+
+abbrev pub frontWhen : Bool → ℕ → List ℕ → List ℕ
+frontWhen true i is = i ∷ is
+frontWhen false i is = is
+
+-- the numbers of the violations, ascending, from i on
+unfoldable pub violationsFrom : Program → List ℕ → ℕ → List ℕ
+violationsFrom p [] i = []
+violationsFrom p (b ∷ bs) i = frontWhen (violates p b i) i (violationsFrom p bs (i + 1))
+
+abbrev pub violations : Program → List ℕ
+violations p = violationsFrom p (freshMarks p) 0
+
+-- the first of some ascending numbers that is not below this one
+unfoldable pub firstFrom : ℕ → List ℕ → Option ℕ
+firstFrom low [] = none
+firstFrom low (v ∷ vs) = cond (leb low v) (some v) (firstFrom low vs)

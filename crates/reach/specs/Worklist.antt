@@ -1,0 +1,130 @@
+-- The full analysis (paper: working afresh), lowest number first. A configuration is marked, pending (paper: waiting) or
+-- neither, a byte each; a summary (paper: a known pair) is a byte too; the iterations (paper: takings) are counted.
+use Prim.Native.Nat.{ℕ, zero, suc, _+_, _*_}
+use mathlib.Core.Bool.{Bool, true, false, _&&_, not}
+use mathlib.Core.Option.{Option, none, some}
+use mathlib.Core.List.{List, [], _∷_}
+use lib.ListN.{getD, set, replicate}
+use lib.Dec.{eqb}
+use Rattle.automaton.specs.Automaton.{moves}
+use Rattle.automaton.specs.declared.Event.{Event}
+use Rattle.automaton.specs.declared.Event.the-variants.{Action, Call, Return}
+use Rattle.program.specs.Program.{Program}
+use Rattle.reach.specs.Configurations.{number, routineOf, nodeOf, rootOf, stateOf, none-set}
+use Rattle.reach.specs.Runs.{Step, stepsOf}
+
+pub record Worklist : Type 0 where
+  pub marks : List ℕ
+  pub pending : List ℕ
+  pub known : List ℕ
+  pub iterations : ℕ
+
+-- the lowest pending number, from i on
+unfoldable pub lowest : List ℕ → ℕ → Option ℕ
+lowest [] i = none
+lowest (b ∷ bs) i = elim (eqb b 0) [ true ↦ lowest bs (i + 1) | false ↦ some i ]
+
+-- what is newly marked is pending
+unfoldable pub mark : ℕ → Worklist → Worklist
+mark j s =
+    elim (eqb (getD (s .marks) j 0) 0) [
+      | true ↦ record { marks = set (s .marks) j 1; pending = set (s .pending) j 1; known = s .known; iterations = s .iterations }
+      | false ↦ s
+    ]
+
+-- a marked one becomes pending again
+unfoldable pub wake : ℕ → Worklist → Worklist
+wake j s =
+    elim (eqb (getD (s .marks) j 0) 0) [
+      | true ↦ s
+      | false ↦ record { marks = s .marks; pending = set (s .pending) j 1; known = s .known; iterations = s .iterations }
+    ]
+
+unfoldable pub markWhen : Bool → ℕ → Worklist → Worklist
+markWhen true j s = mark j s
+markWhen false j s = s
+
+-- the place of the summary (r, q) of routine f
+unfoldable pub summary : ℕ → ℕ → ℕ → ℕ
+summary f r q = (f * 8 + r) * 8 + q
+
+abbrev pub isKnown : Worklist → ℕ → ℕ → ℕ → Bool
+isKnown s f r q = not (eqb (getD (s .known) (summary f r q) 0) 0)
+
+-- an action: every result that the automaton allows, k states from x on
+unfoldable pub onAction : ℕ → ℕ → Program → ℕ → ℕ → ℕ → ℕ → ℕ → Worklist → Worklist
+onAction zero x p f m r q a s = s
+onAction (suc k) x p f m r q a s =
+    onAction k (suc x) p f m r q a (markWhen (moves (p .automaton) q (Action a) x) (number f m r x) s)
+
+-- a call of g that returns: every known summary (q, x) of g, k states from x on
+unfoldable pub onReturns : ℕ → ℕ → ℕ → ℕ → ℕ → ℕ → ℕ → Worklist → Worklist
+onReturns zero x f m r q g s = s
+onReturns (suc k) x f m r q g s = onReturns k (suc x) f m r q g (markWhen (isKnown s g q x) (number f m r x) s)
+
+-- a call of g: its entry, and what its known summaries give
+unfoldable pub onLabel : Program → ℕ → ℕ → ℕ → ℕ → Event → Worklist → Worklist
+onLabel p f m r q (Action a) s = onAction 8 0 p f m r q a s
+onLabel p f m r q (Call g) s = onReturns 8 0 f m r q g (mark (number g 0 q q) s)
+onLabel p f m r q (Return g) s = s
+
+unfoldable pub labelWhen : Bool → Program → ℕ → ℕ → ℕ → ℕ → Event → Worklist → Worklist
+labelWhen true p f m r q l s = onLabel p f m r q l s
+labelWhen false p f m r q l s = s
+
+-- every step from (f, n)
+unfoldable pub onSteps : Program → List Step → ℕ → ℕ → ℕ → ℕ → Worklist → Worklist
+onSteps p [] f n r q s = s
+onSteps p (e ∷ es) f n r q s =
+    onSteps p es f n r q (labelWhen (eqb (e .routine) f && eqb (e .source) n) p f (e .target) r q (e .label) s)
+
+-- the marked configurations at a node in state q become pending, k roots from x on
+unfoldable pub wakeRoots : ℕ → ℕ → ℕ → ℕ → ℕ → Worklist → Worklist
+wakeRoots zero x g n q s = s
+wakeRoots (suc k) x g n q s = wakeRoots k (suc x) g n q (wake (number g n x q) s)
+
+unfoldable pub calls : ℕ → Event → Bool
+calls f (Action a) = false
+calls f (Call g) = eqb g f
+calls f (Return g) = false
+
+unfoldable pub wakeWhen : Bool → ℕ → ℕ → ℕ → Worklist → Worklist
+wakeWhen true g n r s = wakeRoots 8 0 g n r s
+wakeWhen false g n r s = s
+
+-- every step that calls f
+unfoldable pub wakeCallers : List Step → ℕ → ℕ → Worklist → Worklist
+wakeCallers [] f r s = s
+wakeCallers (e ∷ es) f r s = wakeCallers es f r (wakeWhen (calls f (e .label)) (e .routine) (e .source) r s)
+
+unfoldable pub learn : ℕ → ℕ → ℕ → Worklist → Worklist
+learn f r q s = record { marks = s .marks; pending = s .pending; known = set (s .known) (summary f r q) 1; iterations = s .iterations }
+
+-- at an exit the summary is known and its callers become pending; elsewhere every step is followed
+unfoldable pub takeFrom : Bool → Program → ℕ → ℕ → ℕ → ℕ → Worklist → Worklist
+takeFrom true p f n r q s = wakeCallers (stepsOf p) f r (learn f r q s)
+takeFrom false p f n r q s = onSteps p (stepsOf p) f n r q s
+
+-- one iteration: the configuration of number i is taken, and is pending no more
+unfoldable pub takeAt : Program → ℕ → Worklist → Worklist
+takeAt p i s =
+    takeFrom (eqb (nodeOf i) 1) p (routineOf i) (nodeOf i) (rootOf i) (stateOf i)
+    (record { marks = s .marks; pending = set (s .pending) i 0; known = s .known; iterations = s .iterations + 1 })
+
+-- while some are pending, the lowest is taken; k bounds the iterations
+unfoldable pub work : ℕ → Program → Option ℕ → Worklist → Worklist
+work zero p o s = s
+work (suc k) p none s = s
+work (suc k) p (some i) s = let t = takeAt p i s in work k p (lowest (t .pending) 0) t
+
+-- main's entry in each initial state
+unfoldable pub opened : List ℕ → Worklist → Worklist
+opened [] s = s
+opened (q ∷ qs) s = opened qs (mark (number 0 0 q q) s)
+
+abbrev pub blank : Worklist
+blank = record { marks = none-set; pending = none-set; known = replicate 1024 0; iterations = 0 }
+
+-- 129 iterations a configuration are enough
+unfoldable pub analysis : Program → Worklist
+analysis p = let s = opened (p .automaton .initial) blank in work 2113536 p (lowest (s .pending) 0) s

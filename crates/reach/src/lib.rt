@@ -1,0 +1,1 @@
+// The marks of a program: which configurations are reachable.

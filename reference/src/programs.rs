@@ -1,0 +1,448 @@
+//! Programs for the analysis, made from a seed.
+//!
+//! Steps thrown about at random seldom lead anywhere. Here every place of a routine can be reached
+//! from its entry by steps, as far as its calls return, and the rule mostly has a line where one is
+//! needed. The shapes differ in what calls what, and in how much there is of everything.
+
+use crate::file::{Label, Program, RuleLine, Step, EXIT, TABLE_ROWS};
+use crate::random::Random;
+use std::collections::BTreeSet;
+
+/// What a program is to be like.
+#[derive(Clone, Copy, Debug, PartialEq, Eq)]
+pub enum Shape {
+    /// A few standings, to be followed by hand.
+    Tiny,
+    /// Routines that call themselves and each other in circles.
+    Recursive,
+    /// Many routines and no circles: each calls only later ones.
+    Wide,
+    /// Nothing in particular, of middling size.
+    Mixed,
+    /// All that a file can hold: 16 routines of 16 places, 8 states, full tables.
+    Full,
+}
+
+pub const SHAPES: [Shape; 5] = [
+    Shape::Tiny,
+    Shape::Recursive,
+    Shape::Wide,
+    Shape::Mixed,
+    Shape::Full,
+];
+
+/// The program that belongs to a seed. Few are full, as these take long.
+pub fn program_of_seed(seed: u64) -> Program {
+    let random = &mut Random::new(seed);
+    let shape = match random.below(100) {
+        0..=36 => Shape::Tiny,
+        37..=69 => Shape::Recursive,
+        70..=76 => Shape::Wide,
+        77..=97 => Shape::Mixed,
+        _ => Shape::Full,
+    };
+    program_of_shape(random, shape)
+}
+
+pub fn program_of_shape(random: &mut Random, shape: Shape) -> Program {
+    let plan = match shape {
+        Shape::Tiny => tiny(random),
+        Shape::Recursive => recursive(random),
+        Shape::Wide => wide(random),
+        Shape::Mixed => mixed(random),
+        Shape::Full => full(random),
+    };
+    program_to_plan(random, &plan)
+}
+
+/// Which routines a routine calls.
+#[derive(Clone, Copy)]
+enum Callees {
+    Any,
+    /// Itself, its neighbours, and main.
+    Circles,
+    /// Later ones only; the last calls none.
+    Later,
+}
+
+struct Plan {
+    routines: usize,
+    least_places: usize,
+    most_places: usize,
+    states: usize,
+    actions: usize,
+    steps: usize,
+    rule: usize,
+    callees: Callees,
+    calls_in_a_hundred: usize,
+    /// How many of a hundred routines have steps to their exit.
+    return_in_a_hundred: usize,
+    /// Whether every state has a rule line for every action, as far as there is room.
+    rule_is_total: bool,
+}
+
+fn tiny(random: &mut Random) -> Plan {
+    Plan {
+        routines: random.between(1, 3),
+        least_places: 2,
+        most_places: random.between(2, 4),
+        states: random.between(1, 3),
+        actions: random.between(1, 2),
+        steps: random.between(0, 7),
+        rule: random.between(0, 6),
+        callees: random.pick(&[Callees::Any, Callees::Circles, Callees::Later]),
+        calls_in_a_hundred: random.pick(&[20, 40, 60]),
+        return_in_a_hundred: random.pick(&[50, 80, 100]),
+        rule_is_total: random.percent(50),
+    }
+}
+
+fn recursive(random: &mut Random) -> Plan {
+    Plan {
+        routines: random.between(1, 6),
+        least_places: 2,
+        most_places: random.between(3, 7),
+        states: random.between(2, 8),
+        actions: random.between(1, 4),
+        steps: random.between(6, 40),
+        rule: random.between(4, 30),
+        callees: Callees::Circles,
+        calls_in_a_hundred: random.pick(&[30, 40, 50]),
+        return_in_a_hundred: random.pick(&[60, 90, 100]),
+        rule_is_total: random.percent(70),
+    }
+}
+
+fn wide(random: &mut Random) -> Plan {
+    Plan {
+        routines: random.between(6, 16),
+        least_places: 4,
+        most_places: random.between(6, 16),
+        states: random.between(3, 8),
+        actions: random.between(2, 32),
+        steps: random.between(80, 200),
+        rule: random.between(20, 256),
+        callees: Callees::Later,
+        calls_in_a_hundred: random.pick(&[15, 25, 40]),
+        return_in_a_hundred: random.pick(&[80, 95, 100]),
+        rule_is_total: random.percent(80),
+    }
+}
+
+fn mixed(random: &mut Random) -> Plan {
+    Plan {
+        routines: random.between(2, 10),
+        least_places: 2,
+        most_places: random.between(3, 12),
+        states: random.between(1, 8),
+        actions: random.between(1, 16),
+        steps: random.between(5, 90),
+        rule: random.between(2, 80),
+        callees: random.pick(&[Callees::Any, Callees::Circles, Callees::Later]),
+        calls_in_a_hundred: random.pick(&[10, 30, 60]),
+        return_in_a_hundred: random.pick(&[50, 80, 100]),
+        rule_is_total: random.percent(60),
+    }
+}
+
+fn full(random: &mut Random) -> Plan {
+    Plan {
+        routines: 16,
+        least_places: random.pick(&[8, 12, 16]),
+        most_places: 16,
+        states: 8,
+        actions: random.pick(&[4, 6, 8, 16, 32]),
+        steps: TABLE_ROWS,
+        rule: TABLE_ROWS,
+        callees: random.pick(&[Callees::Any, Callees::Any, Callees::Circles, Callees::Later]),
+        calls_in_a_hundred: random.pick(&[10, 20, 30, 50]),
+        return_in_a_hundred: random.pick(&[90, 100]),
+        rule_is_total: true,
+    }
+}
+
+fn program_to_plan(random: &mut Random, plan: &Plan) -> Program {
+    let places: Vec<u8> = (0..plan.routines)
+        .map(|_| random.between(plan.least_places, plan.most_places) as u8)
+        .collect();
+    Program {
+        states: plan.states as u8,
+        actions: plan.actions as u8,
+        steps: steps(random, plan, &places),
+        rule: rule(random, plan),
+        starts: some_states(random, plan, [5, 60, 25]),
+        forbidden: some_states(random, plan, [15, 45, 25]),
+        places,
+    }
+}
+
+/// No state, one, several or all; the first three so many times out of a hundred.
+fn some_states(random: &mut Random, plan: &Plan, shares: [usize; 3]) -> BTreeSet<u8> {
+    let drawn = random.below(100);
+    let one = random.below(plan.states) as u8;
+    let all = 0..plan.states as u8;
+    if drawn < shares[0] {
+        BTreeSet::new()
+    } else if drawn < shares[0] + shares[1] {
+        BTreeSet::from([one])
+    } else if drawn < shares[0] + shares[1] + shares[2] {
+        all.filter(|&state| state == one || random.percent(40))
+            .collect()
+    } else {
+        all.collect()
+    }
+}
+
+/// First the steps that reach each routine's places, as far as there is room, then others, up to
+/// the planned count.
+fn steps(random: &mut Random, plan: &Plan, places: &[u8]) -> BTreeSet<Step> {
+    let ends: Vec<bool> = (0..plan.routines)
+        .map(|_| random.percent(plan.return_in_a_hundred))
+        .collect();
+    let mut steps = BTreeSet::new();
+    for routine in 0..plan.routines {
+        let needed = trail(random, plan, routine, places[routine], ends[routine]);
+        let room = plan.steps.saturating_sub(steps.len());
+        steps.extend(needed.into_iter().take(room));
+    }
+    fill(random, &mut steps, plan.steps, |random| {
+        let routine = random.below(plan.routines);
+        other_step(random, plan, routine, places[routine], ends[routine])
+    });
+    steps
+}
+
+/// Puts things in until there are so many, or until a fair number of tries finds no more.
+fn fill<T: Ord>(
+    random: &mut Random,
+    set: &mut BTreeSet<T>,
+    count: usize,
+    mut one: impl FnMut(&mut Random) -> T,
+) {
+    let mut tries = 0;
+    while set.len() < count && tries < 20 * count {
+        set.insert(one(random));
+        tries += 1;
+    }
+}
+
+/// Steps that lead from the entry to every other place, the exit only where the routine ends.
+fn trail(random: &mut Random, plan: &Plan, routine: usize, places: u8, ends: bool) -> Vec<Step> {
+    let mut reached = vec![0];
+    let mut steps = Vec::new();
+    let exit_at = random.between(2, usize::from(places)) as u8;
+    for place in 2..=places {
+        if ends && place == exit_at {
+            let from = random.pick(&reached);
+            steps.push(labelled(random, plan, routine, from, EXIT));
+        }
+        if place < places {
+            let recent = reached[reached.len() - 1];
+            let any = random.pick(&reached);
+            let from = random.pick(&[recent, any]);
+            steps.push(labelled(random, plan, routine, from, place));
+            reached.push(place);
+        }
+    }
+    steps
+}
+
+fn other_step(random: &mut Random, plan: &Plan, routine: usize, places: u8, ends: bool) -> Step {
+    let some_place = |random: &mut Random| random.below(usize::from(places)) as u8;
+    let from = match some_place(random) {
+        EXIT => 0,
+        place => place,
+    };
+    let to = match some_place(random) {
+        EXIT if !ends => 0,
+        place => place,
+    };
+    labelled(random, plan, routine, from, to)
+}
+
+fn labelled(random: &mut Random, plan: &Plan, routine: usize, from: u8, to: u8) -> Step {
+    let action = Label::Action(random.below(plan.actions) as u8);
+    let label = match callee(random, plan, routine) {
+        Some(callee) if random.percent(plan.calls_in_a_hundred) => Label::Call(callee),
+        _ => action,
+    };
+    Step {
+        routine: routine as u8,
+        from,
+        label,
+        to,
+    }
+}
+
+/// A routine to call; None where the shape leaves none.
+fn callee(random: &mut Random, plan: &Plan, caller: usize) -> Option<u8> {
+    let any = random.below(plan.routines);
+    let callee = match plan.callees {
+        Callees::Any => any,
+        Callees::Circles => {
+            let next = (caller + 1) % plan.routines;
+            let last = (caller + plan.routines - 1) % plan.routines;
+            random.pick(&[caller, next, next, last, 0, any])
+        }
+        Callees::Later if caller + 1 == plan.routines => return None,
+        Callees::Later => random.between(caller + 1, plan.routines - 1),
+    };
+    Some(callee as u8)
+}
+
+fn rule(random: &mut Random, plan: &Plan) -> BTreeSet<RuleLine> {
+    let mut lines = BTreeSet::new();
+    if plan.rule_is_total {
+        for from in 0..plan.states as u8 {
+            for action in 0..plan.actions as u8 {
+                let to = random.below(plan.states) as u8;
+                lines.insert(RuleLine { from, action, to });
+            }
+        }
+    }
+    fill(random, &mut lines, plan.rule, |random| RuleLine {
+        from: random.below(plan.states) as u8,
+        action: random.below(plan.actions) as u8,
+        to: random.below(plan.states) as u8,
+    });
+    lines
+}
+
+/// The program that takes one standing as often as any can be taken: main's entry calls all 16
+/// routines, main among them, and each of these ends in all 8 states.
+pub fn hub() -> Program {
+    let step = |routine, label, to| Step {
+        routine,
+        from: 0,
+        label,
+        to,
+    };
+    let ends = (0..16).map(|routine| step(routine, Label::Action(0), EXIT));
+    let calls = (0..16).map(|callee| step(0, Label::Call(callee), 2));
+    let line = |number: u8| RuleLine {
+        from: number / 8,
+        action: 0,
+        to: number % 8,
+    };
+    Program {
+        places: [vec![3], vec![2; 15]].concat(),
+        states: 8,
+        actions: 1,
+        steps: ends.chain(calls).collect(),
+        rule: (0..64).map(line).collect(),
+        starts: BTreeSet::from([0]),
+        forbidden: BTreeSet::from([7]),
+    }
+}
+
+#[cfg(test)]
+mod tests {
+    use super::*;
+    use crate::file::read;
+    use crate::least::least_set;
+    use crate::standing::{Standing, MOST_STATES};
+    use crate::write::write;
+
+    const SEEDS: u64 = 1500;
+
+    #[test]
+    fn every_program_made_is_accepted() {
+        for seed in 0..SEEDS {
+            let program = program_of_seed(seed);
+            assert_eq!(read(&write(&program)), Ok(program), "seed {seed}");
+        }
+    }
+
+    #[test]
+    fn full_programs_are_full_and_some_have_most_standings() {
+        let mut largest = 0;
+        for seed in 0..20 {
+            let program = program_of_shape(&mut Random::new(seed), Shape::Full);
+            assert_eq!((program.places.len(), program.states), (16, 8));
+            assert_eq!((program.steps.len(), program.rule.len()), (256, 256));
+            largest = largest.max(least_set(&program).len());
+        }
+        assert!(largest > 10_000, "{largest}");
+    }
+
+    /// What the programs of the seeds do.
+    #[derive(Debug, Default)]
+    struct Met {
+        no_start: usize,
+        several_starts: usize,
+        unreturned_calls: usize,
+        main_called_in_another_state: usize,
+        self_calls: usize,
+        circles_of_two: usize,
+        over_100: usize,
+        over_1000: usize,
+        over_5000: usize,
+        findings: usize,
+        no_findings: usize,
+    }
+
+    fn note(met: &mut Met, program: &Program) {
+        let set = least_set(program);
+        let exits =
+            |callee, root| (0..MOST_STATES).map(move |end| Standing::exit(callee, root, end));
+        let calls: Vec<(Standing, u8)> = calls_made(program, &set);
+        let calls_of = |caller, callee| {
+            let is_this = |call: &(Standing, u8)| call.0.routine == caller && call.1 == callee;
+            calls.iter().any(is_this)
+        };
+        let unreturned = |&(at, callee): &(Standing, u8)| {
+            !exits(callee, at.state).any(|exit| set.contains(&exit))
+        };
+        let other_state =
+            |&(at, callee): &(Standing, u8)| callee == 0 && !program.starts.contains(&at.state);
+        let finding = set.iter().any(|at| program.forbidden.contains(&at.state));
+        met.no_start += usize::from(program.starts.is_empty());
+        met.several_starts += usize::from(program.starts.len() > 1);
+        met.unreturned_calls += usize::from(calls.iter().any(unreturned));
+        met.main_called_in_another_state += usize::from(calls.iter().any(other_state));
+        met.self_calls += usize::from((0..16).any(|one| calls_of(one, one)));
+        met.circles_of_two += usize::from(
+            (0..16).any(|one| (0..one).any(|other| calls_of(one, other) && calls_of(other, one))),
+        );
+        met.over_100 += usize::from(set.len() > 100);
+        met.over_1000 += usize::from(set.len() > 1000);
+        met.over_5000 += usize::from(set.len() > 5000);
+        met.findings += usize::from(finding);
+        met.no_findings += usize::from(!finding);
+    }
+
+    /// The calls that standings which can occur make: from where, and of what.
+    fn calls_made(program: &Program, set: &BTreeSet<Standing>) -> Vec<(Standing, u8)> {
+        let mut calls = Vec::new();
+        for at in set {
+            for step in &program.steps {
+                match step.label {
+                    Label::Call(callee) if (step.routine, step.from) == (at.routine, at.place) => {
+                        calls.push((*at, callee));
+                    }
+                    _ => {}
+                }
+            }
+        }
+        calls
+    }
+
+    #[test]
+    fn the_programs_of_the_seeds_do_all_that_programs_can_do() {
+        let mut met = Met::default();
+        for seed in 0..SEEDS {
+            note(&mut met, &program_of_seed(seed));
+        }
+        println!("{met:?}");
+        assert!(met.no_start >= 50 && met.several_starts >= 300, "{met:?}");
+        assert!(met.unreturned_calls >= 200, "{met:?}");
+        assert!(met.main_called_in_another_state >= 100, "{met:?}");
+        assert!(
+            met.self_calls >= 200 && met.circles_of_two >= 100,
+            "{met:?}"
+        );
+        assert!(met.over_100 >= 200 && met.over_1000 >= 40, "{met:?}");
+        assert!(met.over_5000 >= 5, "{met:?}");
+        assert!(met.findings >= 500 && met.no_findings >= 300, "{met:?}");
+    }
+}

@@ -1,0 +1,486 @@
+//! The proved library against the reference: fresh workings and the list of findings.
+//!
+//! Every number of every answer is compared, and every byte of the sheet and of the working buffer,
+//! with the bytes that stand about them. A mismatch names the seed or the case and shows the input.
+
+mod desk;
+
+use reference::analysis::{self, Analysis, AnalyzeAnswer, Analyzed, NextAnswer, NONE};
+use reference::cases;
+use reference::file;
+use reference::generate;
+use reference::programs::{hub, program_of_seed, program_of_shape, SHAPES};
+use reference::random::Random;
+use reference::standing::SHEET_SIZE;
+use reference::write::write;
+use std::ops::Range;
+
+/// Bytes before and after each buffer that nobody may change.
+const MARGIN: usize = 64;
+/// Lengths that a buffer may not have.
+const WRONG_LENGTHS: [usize; 7] = [0, 1, 16, 8192, 16_383, 16_385, 20_000];
+/// How often each refusal and each outcome has to be met, so that agreeing on it means something.
+const OFTEN: usize = 50;
+/// A program with more standings than this gets fewer calls, as each of them takes long.
+const MANY_STANDINGS: u32 = 300;
+/// How many findings a list may have to be gone through from the first to the last.
+const LONG_LIST: usize = 8;
+const PROGRAM_SEEDS: u64 = 6_000;
+const FILE_SEEDS: u64 = 4_000;
+
+/// What the comparisons have met.
+#[derive(Debug, Default)]
+struct Tally {
+    programs: usize,
+    calls: usize,
+    /// Answers of the two calls by number (0: none was refused).
+    analyzed: [usize; 18],
+    asked: [usize; 18],
+    no_standing: usize,
+    no_finding: usize,
+    findings: usize,
+    over_1000_standings: usize,
+    over_5000_standings: usize,
+    found_at_once: usize,
+    found_above: usize,
+    found_none: usize,
+    lists: usize,
+    /// Foreign sheets by how they were made.
+    foreign: [usize; FOREIGN],
+}
+
+/// One file with the reference's answer, and where all that varies comes from.
+struct Case {
+    name: String,
+    file: Vec<u8>,
+    analyzed: Analyzed,
+    random: Random,
+}
+
+impl Case {
+    fn new(name: String, file: Vec<u8>, seed: u64) -> Case {
+        Case {
+            name,
+            analyzed: analysis::analyze_reading(&file::read(&file)),
+            file,
+            random: Random::new(!seed),
+        }
+    }
+
+    fn input(&self) -> String {
+        format!("{}: {}", self.name, self.file.escape_ascii())
+    }
+
+    fn analysis(&self) -> Option<&Analysis> {
+        self.analyzed.as_ref().ok()
+    }
+}
+
+/// A buffer with its margins.
+#[derive(Clone)]
+struct Lent {
+    bytes: Vec<u8>,
+    inside: Range<usize>,
+}
+
+impl Lent {
+    fn new(random: &mut Random, content: &[u8]) -> Lent {
+        let margin = |random: &mut Random| (0..MARGIN).map(|_| random.byte()).collect::<Vec<u8>>();
+        Lent {
+            bytes: [margin(random), content.to_vec(), margin(random)].concat(),
+            inside: MARGIN..MARGIN + content.len(),
+        }
+    }
+
+    /// A buffer of so many bytes with some content: all alike, such as a sheet has, or any.
+    fn of_length(random: &mut Random, length: usize) -> Lent {
+        let most = random.pick(&[0, 1, 2, 255]);
+        let content: Vec<u8> = (0..length).map(|_| random.between(0, most) as u8).collect();
+        Lent::new(random, &content)
+    }
+
+    fn content(&self) -> &[u8] {
+        &self.bytes[self.inside.clone()]
+    }
+
+    fn content_mut(&mut self) -> &mut [u8] {
+        &mut self.bytes[self.inside.clone()]
+    }
+}
+
+/// The file with bytes after it that would mend it if they were read.
+fn with_more_after(file: &[u8]) -> Vec<u8> {
+    [file, b"\n450000\n"].concat()
+}
+
+fn check_bytes(case: &Case, what: &str, given: &[u8], wanted: &[u8]) {
+    let different = (0..wanted.len()).find(|&at| given[at] != wanted[at]);
+    if let Some(at) = different {
+        let from_start = at as isize - MARGIN as isize;
+        let (given, wanted) = (given[at], wanted[at]);
+        let input = case.input();
+        panic!("{what} has {given} and not {wanted} at {from_start}, {input}");
+    }
+}
+
+/// Works the file afresh with both, in buffers that were the same, and compares all of it.
+fn compare_analyze(case: &Case, marks: &Lent, work: &Lent, tally: &mut Tally) -> AnalyzeAnswer {
+    let (mut given_marks, mut given_work) = (marks.clone(), work.clone());
+    let (mut marks, mut work) = (marks.clone(), work.clone());
+    let lent = with_more_after(&case.file);
+    let given = desk::analyze(
+        &lent[..case.file.len()],
+        given_marks.content_mut(),
+        given_work.content_mut(),
+    );
+    let wanted = analysis::analyze_answer(&case.analyzed, marks.content_mut(), work.content_mut());
+    assert_eq!(given, wanted, "a fresh working, {}", case.input());
+    check_bytes(case, "the sheet", &given_marks.bytes, &marks.bytes);
+    check_bytes(case, "the working buffer", &given_work.bytes, &work.bytes);
+    check_bytes(case, "the file", &lent, &with_more_after(&case.file));
+    tally.analyzed[given.refusal as usize] += 1;
+    tally.calls += 1;
+    given
+}
+
+/// Asks both for the next finding, with buffers that were the same, and compares all of it.
+fn compare_next(
+    case: &Case,
+    marks: &Lent,
+    work: &Lent,
+    from: u32,
+    tally: &mut Tally,
+) -> NextAnswer {
+    let (given_marks, mut given_work, mut work) = (marks.clone(), work.clone(), work.clone());
+    let lent = with_more_after(&case.file);
+    let file = &lent[..case.file.len()];
+    let content = given_work.content_mut();
+    let given = desk::next_violation(file, given_marks.content(), content, from);
+    let wanted = analysis::next_answer(&case.analyzed, marks.content(), work.content_mut(), from);
+    assert_eq!(given, wanted, "next from {from}, {}", case.input());
+    check_bytes(case, "the sheet", &given_marks.bytes, &marks.bytes);
+    check_bytes(case, "the working buffer", &given_work.bytes, &work.bytes);
+    check_bytes(case, "the file", &lent, &with_more_after(&case.file));
+    tally.asked[given.refusal as usize] += 1;
+    tally.calls += 1;
+    if given.refusal == 0 {
+        tally.found_none += usize::from(given.found == NONE);
+        tally.found_at_once += usize::from(given.found == from && from != NONE);
+        tally.found_above += usize::from(given.found != NONE && given.found > from);
+    }
+    given
+}
+
+/// Calls with buffers of any length, at least one of them a wrong one.
+fn compare_wrong_lengths(case: &mut Case, tally: &mut Tally) {
+    let wrong = case.random.pick(&WRONG_LENGTHS);
+    let other = case.random.pick(&WRONG_LENGTHS);
+    let lengths = [(wrong, other), (wrong, SHEET_SIZE), (SHEET_SIZE, wrong)];
+    let (marks, work) = case.random.pick(&lengths);
+    let marks = Lent::of_length(&mut case.random, marks);
+    let work = Lent::of_length(&mut case.random, work);
+    let from = some_number(&mut case.random, &[]);
+    compare_analyze(case, &marks, &work, tally);
+    compare_next(case, &marks, &work, from, tally);
+}
+
+/// A number to ask from: the lowest, at a finding or beside it, at the end of the sheet and beyond.
+fn some_number(random: &mut Random, findings: &[u32]) -> u32 {
+    let finding = match findings.len() {
+        0 => random.below(SHEET_SIZE) as u32,
+        count => findings[random.below(count)],
+    };
+    let last = findings.last().map_or(0, |&last| last + 1);
+    let any = random.number() as u32;
+    let below = finding.saturating_sub(1);
+    let near = random.pick(&[finding, finding, finding + 1, below, last, 0]);
+    let far = random.pick(&[0, 16_383, 16_384, 16_385, 65_536, NONE - 1, NONE, any]);
+    random.pick(&[near, near, far])
+}
+
+/// How many ways there are to make a foreign sheet.
+const FOREIGN: usize = 6;
+
+/// A sheet that is not the program's own, made in one of the ways; None where this way gives none.
+fn foreign_sheet(random: &mut Random, own: &[u8], way: usize) -> Option<Vec<u8>> {
+    let of_byte = |wanted: u8| (0..SHEET_SIZE).filter(move |&at| own[at] == wanted);
+    let marked: Vec<usize> = of_byte(1).collect();
+    let empty: Vec<usize> = of_byte(0).collect();
+    let mut sheet = own.to_vec();
+    match way {
+        0 => {
+            let at = random.below(SHEET_SIZE);
+            sheet[at] ^= random.between(1, 255) as u8;
+        }
+        1 if !marked.is_empty() => sheet[random.pick(&marked)] = 2,
+        2 if !marked.is_empty() => sheet[random.pick(&marked)] = 0,
+        3 if !empty.is_empty() => sheet[random.pick(&empty)] = 1,
+        4 => sheet.fill(0),
+        5 => sheet = analysis::analyze(&program_of_seed(random.number())).sheet,
+        _ => {}
+    }
+    if sheet == own {
+        None
+    } else {
+        Some(sheet)
+    }
+}
+
+/// Asks with a sheet that is not the program's own.
+fn compare_foreign(case: &mut Case, own: &[u8], way: usize, tally: &mut Tally) {
+    let sheet = match foreign_sheet(&mut case.random, own, way) {
+        Some(sheet) => sheet,
+        None => return,
+    };
+    let marks = Lent::new(&mut case.random, &sheet);
+    let work = Lent::of_length(&mut case.random, SHEET_SIZE);
+    let from = some_number(&mut case.random, &[]);
+    let answer = compare_next(case, &marks, &work, from, tally);
+    assert_eq!(answer.refusal, analysis::FOREIGN_SHEET);
+    tally.foreign[way] += 1;
+}
+
+/// Asks with the program's own sheet, from a number or two.
+fn compare_own(case: &mut Case, analysis: &Analysis, times: usize, tally: &mut Tally) {
+    let marks = Lent::new(&mut case.random, &analysis.sheet);
+    for _ in 0..times {
+        let work = Lent::of_length(&mut case.random, SHEET_SIZE);
+        let from = some_number(&mut case.random, &analysis.findings);
+        compare_next(case, &marks, &work, from, tally);
+    }
+    if analysis.standings() <= MANY_STANDINGS && analysis.findings.len() <= LONG_LIST {
+        let work = Lent::of_length(&mut case.random, SHEET_SIZE);
+        compare_list(case, &marks, &work, &analysis.findings, tally);
+    }
+}
+
+/// Goes through the list as the desk software does: each finding, then that there is none.
+fn compare_list(case: &Case, marks: &Lent, work: &Lent, findings: &[u32], tally: &mut Tally) {
+    let mut from = 0;
+    for &finding in findings {
+        let answer = compare_next(case, marks, work, from, tally);
+        assert_eq!(answer.found, finding, "{}", case.input());
+        from = finding + 1;
+    }
+    let answer = compare_next(case, marks, work, from, tally);
+    assert_eq!(answer.found, NONE, "{}", case.input());
+    tally.lists += 1;
+}
+
+/// Holds the library against the reference on one file.
+fn compare(case: &mut Case, tally: &mut Tally) {
+    let marks = Lent::of_length(&mut case.random, SHEET_SIZE);
+    let work = Lent::of_length(&mut case.random, SHEET_SIZE);
+    let answer = compare_analyze(case, &marks, &work, tally);
+    compare_wrong_lengths(case, tally);
+    let way = case.random.below(FOREIGN);
+    match case.analysis().cloned() {
+        None => {
+            let from = some_number(&mut case.random, &[]);
+            compare_next(case, &marks, &work, from, tally);
+        }
+        Some(analysis) if answer.standings > MANY_STANDINGS => {
+            if case.random.percent(50) {
+                compare_own(case, &analysis, 1, tally);
+            } else {
+                compare_foreign(case, &analysis.sheet, way, tally);
+            }
+        }
+        Some(analysis) => {
+            compare_own(case, &analysis, 2, tally);
+            compare_foreign(case, &analysis.sheet, way, tally);
+            compare_foreign(case, &analysis.sheet, (way + 1) % FOREIGN, tally);
+        }
+    }
+    note(&answer, tally);
+}
+
+fn note(answer: &AnalyzeAnswer, tally: &mut Tally) {
+    tally.programs += 1;
+    if answer.refusal == 0 {
+        tally.no_standing += usize::from(answer.standings == 0);
+        tally.no_finding += usize::from(answer.findings == 0);
+        tally.findings += usize::from(answer.findings > 0);
+        tally.over_1000_standings += usize::from(answer.standings > 1000);
+        tally.over_5000_standings += usize::from(answer.standings > 5000);
+    }
+}
+
+#[test]
+fn programs_of_many_seeds_agree() {
+    let mut tally = Tally::default();
+    for seed in 0..PROGRAM_SEEDS {
+        let file = write(&program_of_seed(seed));
+        compare(
+            &mut Case::new(format!("seed {seed}"), file, seed),
+            &mut tally,
+        );
+    }
+    println!("programs of seeds: {tally:?}");
+    let numbers = [tally.analyzed[0], tally.asked[0], tally.asked[17]];
+    let lengths = [9, 11].map(|number| tally.analyzed[number].min(tally.asked[number]));
+    let sizes = [tally.no_standing, tally.no_finding, tally.findings];
+    let found = [tally.found_at_once, tally.found_above, tally.found_none];
+    let counts = [&numbers[..], &lengths, &sizes, &found, &tally.foreign];
+    for (place, &times) in counts.concat().iter().enumerate() {
+        assert!(times >= OFTEN, "outcome {place} was met {times} times only");
+    }
+    assert!(tally.programs >= 5000 && tally.lists >= 1000);
+    assert!(tally.over_1000_standings >= 150 && tally.over_5000_standings >= 20);
+}
+
+#[test]
+fn damaged_files_agree() {
+    let mut tally = Tally::default();
+    for seed in 0..FILE_SEEDS {
+        let file = generate::file_of_seed(seed);
+        compare(
+            &mut Case::new(format!("file {seed}"), file, seed),
+            &mut tally,
+        );
+    }
+    println!("files of seeds: {tally:?}");
+    for number in (1..=9).chain([11]) {
+        let times = tally.analyzed[number].min(tally.asked[number]);
+        assert!(times >= OFTEN, "{number} was met {times} times only");
+    }
+}
+
+#[test]
+fn every_shape_agrees() {
+    let mut tally = Tally::default();
+    for shape in SHAPES {
+        for seed in 0..8 {
+            let program = program_of_shape(&mut Random::new(seed), shape);
+            let name = format!("{shape:?}, seed {seed}");
+            compare(&mut Case::new(name, write(&program), seed), &mut tally);
+        }
+    }
+    let mut hub = Case::new("hub".to_string(), write(&hub()), 0);
+    compare(&mut hub, &mut tally);
+    println!("shapes: {tally:?}");
+}
+
+#[test]
+fn named_files_agree() {
+    let mut tally = Tally::default();
+    for (place, case) in cases::all().into_iter().enumerate() {
+        let mut case = Case::new(case.name, case.file, place as u64);
+        compare(&mut case, &mut tally);
+    }
+    println!("named files: {tally:?}");
+}
+
+/// A fresh working by the library alone: the marked numbers and the three counts.
+fn worked(file: &[u8]) -> (Vec<usize>, [u32; 3]) {
+    let (mut marks, mut work) = (vec![0xA5; SHEET_SIZE], vec![0x5A; SHEET_SIZE]);
+    let answer = desk::analyze(file, &mut marks, &mut work);
+    assert_eq!((answer.refusal, answer.line), (0, 0));
+    assert!(marks.iter().all(|&byte| byte <= 1));
+    assert!(work.iter().all(|&byte| byte == 0));
+    let marked = (0..SHEET_SIZE).filter(|&number| marks[number] == 1);
+    let counts = [answer.standings, answer.findings, answer.takings];
+    (marked.collect(), counts)
+}
+
+/// The list of findings by the library alone.
+fn listed(file: &[u8]) -> Vec<u32> {
+    let (mut marks, mut work) = (vec![0; SHEET_SIZE], vec![0; SHEET_SIZE]);
+    desk::analyze(file, &mut marks, &mut work);
+    let mut found = Vec::new();
+    loop {
+        let from = found.last().map_or(0, |&last| last + 1);
+        let answer = desk::next_violation(file, &marks, &mut work, from);
+        assert_eq!((answer.refusal, answer.line), (0, 0));
+        if answer.found == NONE {
+            return found;
+        }
+        assert!(answer.found >= from, "{} from {from}", answer.found);
+        found.push(answer.found);
+    }
+}
+
+/// The sample with some lines in place of the lines from one to another, both counted from 1, and
+/// with its end count made right.
+fn edited(first: usize, last: usize, lines: &[&str]) -> Vec<u8> {
+    let sample = String::from_utf8(cases::SAMPLE.to_vec()).expect("digits");
+    let mut text: Vec<&str> = sample.lines().collect();
+    text.splice(first - 1..last, lines.iter().copied());
+    text.pop();
+    let end = format!("45{:04X}", text.len());
+    text.push(&end);
+    format!("{}\n", text.join("\n")).into_bytes()
+}
+
+#[test]
+fn cases_worked_out_by_hand() {
+    let five = vec![0, 65, 129, 1024, 1089];
+    assert_eq!(worked(cases::SAMPLE), (five.clone(), [5, 0, 6]));
+    assert_eq!(listed(cases::SAMPLE), []);
+    let no_start = edited(11, 11, &[]);
+    assert_eq!(worked(&no_start), (vec![], [0, 0, 0]));
+    let entry_forbidden = edited(12, 12, &["4600", "4602"]);
+    assert_eq!(worked(&entry_forbidden), (five, [5, 2, 6]));
+    assert_eq!(listed(&entry_forbidden), [0, 1024]);
+    let main_calls_main = edited(4, 6, &["5300004001"]);
+    assert_eq!(worked(&main_calls_main), (vec![0], [1, 0, 1]));
+    let faulty = edited(4, 4, &["5300000102", "5300004102"]);
+    assert_eq!(faulty, include_bytes!("../../examples/F_fault.txt"));
+    assert_eq!(listed(&faulty), [130]);
+    let never_returns = edited(6, 6, &[]);
+    assert_eq!(worked(&never_returns), (vec![0, 1024], [2, 0, 2]));
+}
+
+#[test]
+fn each_byte_of_a_sheet_counts() {
+    let own = analysis::analyze(&file::read(cases::SAMPLE).expect("accepted")).sheet;
+    let mut work = vec![0xA5; SHEET_SIZE];
+    for at in 0..SHEET_SIZE {
+        let mut sheet = own.clone();
+        sheet[at] = if at % 2 == 0 {
+            1 - own[at]
+        } else {
+            own[at] ^ 2
+        };
+        let answer = desk::next_violation(cases::SAMPLE, &sheet, &mut work, 0);
+        let answer = (answer.refusal, answer.line, answer.found);
+        assert_eq!(answer, (17, 0, 0), "byte {at}");
+    }
+    let answer = desk::next_violation(cases::SAMPLE, &own, &mut work, 0);
+    assert_eq!((answer.refusal, answer.found), (0, NONE));
+}
+
+#[test]
+fn a_list_can_be_asked_from_any_number() {
+    let file = edited(12, 12, &["4600", "4602"]);
+    let analysis = analysis::analyze(&file::read(&file).expect("accepted"));
+    let mut work = vec![0; SHEET_SIZE];
+    let far = (14..32).map(|power| 1 << power).chain([NONE - 1, NONE]);
+    for from in (0..=1100).chain(far) {
+        let answer = desk::next_violation(&file, &analysis.sheet, &mut work, from);
+        let wanted = analysis.next_finding(from);
+        assert_eq!((answer.refusal, answer.found), (0, wanted), "from {from}");
+    }
+}
+
+#[test]
+fn buffers_of_no_bytes_may_be_null() {
+    let refused = |refusal, line| AnalyzeAnswer {
+        refusal,
+        line,
+        ..AnalyzeAnswer::default()
+    };
+    let not_found = |refusal, line| NextAnswer {
+        refusal,
+        line,
+        found: 0,
+    };
+    assert_eq!(desk::analyze_to_null(b""), refused(8, 1));
+    assert_eq!(desk::analyze_to_null(cases::SAMPLE), refused(9, 0));
+    let mut marks = vec![7; SHEET_SIZE];
+    let answer = desk::analyze_without_work(cases::SAMPLE, &mut marks);
+    assert_eq!(answer, refused(11, 0));
+    assert!(marks.iter().all(|&byte| byte == 7));
+    assert_eq!(desk::next_violation_of_null(b""), not_found(8, 1));
+    assert_eq!(desk::next_violation_of_null(cases::SAMPLE), not_found(9, 0));
+}
