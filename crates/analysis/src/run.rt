@@ -5,9 +5,10 @@ use crate::marking::mark;
 use crate::next::next_states;
 use crate::take::take;
 use automaton::States;
+use automaton::in_use;
 use program::DecodedProgram;
 ghost use mathlib.Core.Path.{_≡_};
-ghost use Prim.Native.Nat.{ℕ, min, _<_, _≤_};
+ghost use Prim.Native.Nat.{ℕ, _<_, _≤_};
 ghost use lib.ListN.{length};
 ghost use Rattle.automaton.specs.Decoded.{statesOf};
 ghost use Rattle.program.specs.Program.{Program};
@@ -32,8 +33,8 @@ fn lowest_pending(pending: &[u8], from: usize) -> usize
     i
 }
 
-// Takes the lowest pending configuration while there is one, and returns the count of iterations. It does so from any
-// marks for which the procedure comes to an end, so that a repair can use it too.
+// Takes the lowest pending configuration while there is one, and returns the count of iterations. It starts from any marks
+// for which the procedure comes to an end, so that a repair can use it too: hence the `requires`.
 pub fn follow_pending(
     keys: &[u32],
     count: usize,
@@ -72,16 +73,6 @@ fn open_initial(initial: States, marks: &mut [u8], pending: &mut [u8])
         low = mark(marks, pending, number_of(0, 0, q, q), low);
         i = i + 1;
     }
-}
-
-// How many entries of a list are in use: a count above its size means all of them.
-fn in_use(count: usize, size: usize) -> usize
-    ensures { λ r. ⌜ r ≡ min count size ⌝ }
-{
-    if count < size {
-        return count;
-    }
-    size
 }
 
 // Nothing is marked but the main routine's entries, and these are pending.

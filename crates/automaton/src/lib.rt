@@ -1,7 +1,7 @@
 // The automaton by value, and the questions that are asked of it.
 ghost use mathlib.Core.Path.{_≡_};
 ghost use mathlib.Core.List.{[], _∷_, _++_, map};
-ghost use Prim.Native.Nat.{_<_, _+_};
+ghost use Prim.Native.Nat.{min, _<_, _+_};
 ghost use Rattle.automaton.specs.Automaton.{listed, moves, member, isInitial, isRejecting};
 ghost use Rattle.automaton.specs.Decoded.{keysOf, statesOf, transitionOf, automatonOf};
 
@@ -30,6 +30,16 @@ pub struct DecodedAutomaton {
     pub transitions: Table,
     pub initial: States,
     pub rejecting: States,
+}
+
+// How many entries of a list are in use: a count above its size means all of them.
+pub fn in_use(count: usize, size: usize) -> usize
+    ensures { λ r. ⌜ r ≡ min count size ⌝ }
+{
+    if count < size {
+        return count;
+    }
+    size
 }
 
 pub fn no_keys() -> Table

@@ -1,31 +1,114 @@
--- The sample program of the paper, F, read and written by the definitions.
+-- The paper's sample program F and some damaged copies, read and written by the definitions.
 use mathlib.Core.Path.{_≡_, refl}
 use mathlib.Core.List.{List, [], _∷_, _++_}
 use Prim.Native.Nat.{ℕ}
+use Prim.Native.Char.{code}
+use Prim.Native.String.{String, [] as end, _∷_ as _then_}
 use Rattle.text.specs.Hex.{hex}
 use Rattle.text.specs.Lines.{lines, numbers}
 use Rattle.program.specs.Program.{Program}
 use Rattle.program.specs.Writing.{nodesFrames, framesOf, text, written}
-use Rattle.program.specs.Reading.{Outcome, accepted, refused, judgeAs, judge, afterAs, after, readFrom, readFile}
+use Rattle.program.specs.Reading.{accepted, refused, judgeAs, judge, afterAs, after, readFrom, readFile}
 
-abbrev bytes : List ℕ
-bytes = 53 ∷ 48 ∷ 48 ∷ 50 ∷ 48 ∷ 51 ∷ 48 ∷ 50 ∷ 10 ∷ 53 ∷ 50 ∷ 48 ∷ 48 ∷ 48 ∷ 51 ∷ 10 ∷ 53 ∷ 50 ∷ 48 ∷ 49 ∷ 48 ∷ 50 ∷ 10 ∷ 53 ∷ 51 ∷ 48 ∷ 48 ∷ 48 ∷ 48 ∷ 52 ∷ 49 ∷ 48 ∷ 50 ∷ 10 ∷ 53 ∷ 51 ∷ 48 ∷ 48 ∷ 48 ∷ 50 ∷ 48 ∷ 49 ∷ 48 ∷ 49 ∷ 10 ∷ 53 ∷ 51 ∷ 48 ∷ 49 ∷ 48 ∷ 48 ∷ 48 ∷ 48 ∷ 48 ∷ 49 ∷ 10 ∷ 53 ∷ 52 ∷ 48 ∷ 48 ∷ 48 ∷ 48 ∷ 48 ∷ 49 ∷ 10 ∷ 53 ∷ 52 ∷ 48 ∷ 48 ∷ 48 ∷ 49 ∷ 48 ∷ 50 ∷ 10 ∷ 53 ∷ 52 ∷ 48 ∷ 49 ∷ 48 ∷ 48 ∷ 48 ∷ 49 ∷ 10 ∷ 53 ∷ 52 ∷ 48 ∷ 49 ∷ 48 ∷ 49 ∷ 48 ∷ 49 ∷ 10 ∷ 52 ∷ 57 ∷ 48 ∷ 48 ∷ 10 ∷ 52 ∷ 54 ∷ 48 ∷ 50 ∷ 10 ∷ 52 ∷ 53 ∷ 48 ∷ 48 ∷ 48 ∷ 67 ∷ 10 ∷ []
+-- the bytes of a line, with its 0A
+abbrev pub lineBytes : String → List ℕ
+lineBytes end = 0x0A ∷ []
+lineBytes (c then s) = code c ∷ lineBytes s
+
+abbrev pub bytes : List String → List ℕ
+bytes [] = []
+bytes (l ∷ ls) = lineBytes l ++ bytes ls
+
+-- F, in parts
+abbrev pub header : List String
+header = "50020302" ∷ "520003" ∷ "520102" ∷ []
+
+abbrev pub edges : List String
+edges = "5300004102" ∷ "5300020101" ∷ "5301000001" ∷ []
+
+abbrev pub transitions : List String
+transitions = "54000001" ∷ "54000102" ∷ "54010001" ∷ "54010101" ∷ []
+
+abbrev F : List String
+F = header ++ edges ++ transitions ++ "4900" ∷ "4602" ∷ "45000C" ∷ []
 
 abbrev sample : Program
-sample = record { routines = 2; nodes = 3 ∷ 2 ∷ []; edges = record { routine = 0; source = 0; label = 0x41; target = 2 } ∷ record { routine = 0; source = 2; label = 1; target = 1 } ∷ record { routine = 1; source = 0; label = 0; target = 1 } ∷ []; automaton = record { states = 3; actions = 2; transitions = record { before = 0; action = 0; after = 1 } ∷ record { before = 0; action = 1; after = 2 } ∷ record { before = 1; action = 0; after = 1 } ∷ record { before = 1; action = 1; after = 1 } ∷ []; initial = 0 ∷ []; rejecting = 2 ∷ [] } }
+sample =
+    record {
+      routines = 2;
+      nodes = 3 ∷ 2 ∷ [];
+      edges =
+          record { routine = 0; source = 0; label = 0x41; target = 2 } ∷ record { routine = 0; source = 2; label = 1; target = 1 }
+          ∷ record { routine = 1; source = 0; label = 0; target = 1 } ∷ [];
+      automaton =
+          record {
+            states = 3;
+            actions = 2;
+            transitions =
+                record { before = 0; action = 0; after = 1 } ∷ record { before = 0; action = 1; after = 2 }
+                ∷ record { before = 1; action = 0; after = 1 } ∷ record { before = 1; action = 1; after = 1 } ∷ [];
+            initial = 0 ∷ [];
+            rejecting = 2 ∷ [];
+          };
+    }
 
-sample-read : readFile bytes ≡ accepted sample
-unfolding readFile readFrom lines numbers judge judgeAs after afterAs
+-- to unfold this is to unfold all that reading computes with
+reading : Unit {0}
+unfolding lines numbers judgeAs judge afterAs after readFrom readFile
+reading = tt
+
+sample-read : readFile (bytes F) ≡ accepted sample
+unfolding reading
 sample-read = refl
 
-sample-written : written sample ≡ bytes
+sample-written : written sample ≡ bytes F
 unfolding written framesOf nodesFrames text hex
 sample-written = refl
 
-empty-read : readFile [] ≡ refused 8 1
-unfolding readFile readFrom lines
-empty-read = refl
+-- ---- refusals, each with its line
 
-line-after-the-end : readFile (bytes ++ 10 ∷ []) ≡ refused 8 14
-unfolding readFile readFrom lines numbers judge judgeAs after afterAs
+small-letter : readFile (bytes ("5002030a" ∷ [])) ≡ refused 1 1
+unfolding reading
+small-letter = refl
+
+unknown-kind : readFile (bytes (header ++ "5100" ∷ [])) ≡ refused 2 4
+unfolding reading
+unknown-kind = refl
+
+wrong-count : readFile (bytes (header ++ "53000041" ∷ [])) ≡ refused 3 4
+unfolding reading
+wrong-count = refl
+
+repeated-edge : readFile (bytes (header ++ "5300004102" ∷ "5300004102" ∷ [])) ≡ refused 4 5
+unfolding reading
+repeated-edge = refl
+
+-- its numbers ascend, but routine 0 had its frame
+repeated-routine : readFile (bytes ("50020302" ∷ "520003" ∷ "520004" ∷ [])) ≡ refused 4 3
+unfolding reading
+repeated-routine = refl
+
+routine-left-out : readFile (bytes ("50020302" ∷ "520103" ∷ [])) ≡ refused 4 2
+unfolding reading
+routine-left-out = refl
+
+-- with all routines there, one more is out of range
+one-routine-more : readFile (bytes (header ++ "520502" ∷ [])) ≡ refused 5 4
+unfolding reading
+one-routine-more = refl
+
+from-the-exit : readFile (bytes (header ++ "5300010000" ∷ [])) ≡ refused 5 4
+unfolding reading
+from-the-exit = refl
+
+wrong-end-count : readFile (bytes (header ++ "450004" ∷ [])) ≡ refused 7 4
+unfolding reading
+wrong-end-count = refl
+
+empty-input : readFile [] ≡ refused 8 1
+unfolding reading
+empty-input = refl
+
+line-after-the-end : readFile (bytes (F ++ "" ∷ [])) ≡ refused 8 14
+unfolding reading
 line-after-the-end = refl

@@ -2,13 +2,13 @@
 use mathlib.Core.Path.{_≡_, refl, sym, subst}
 use mathlib.Core.List.{List, [], _∷_, _++_, List·Memᴰ, List·Memᴰ·head, List·Memᴰ·tail}
 use Prim.Native.Nat.{ℕ}
-use Prim.Native.Char.{code}
-use Prim.Native.String.{String, [] as end, _∷_ as _then_}
+use Prim.Native.String.{String}
 use lib.ListN.{set}
 use Rattle.text.specs.Lines.{lines, numbers}
 use Rattle.automaton.specs.Automaton.{listed, moves, member}
 use Rattle.program.specs.Reading.{judgeAs, judge, afterAs, after, readFrom, readFile}
 use Rattle.program.specs.declared.Verdict.the-variants.{Accepted}
+use Rattle.program.proofs.Samples.{bytes, header, edges, transitions}
 use Rattle.reach.specs.Configurations.{number, routineOf, nodeOf, rootOf, stateOf, none-set}
 use Rattle.reach.specs.Worklist.{lowest, mark, wake, markWhen, summary, onAction, onReturns, onLabel, labelWhen, onSteps, wakeRoots, calls, wakeWhen, wakeCallers, learn, takeFrom, takeAt, work, opened, analysis}
 use Rattle.reach.specs.Marks.{freshMarks, violationsFrom, violations}
@@ -23,15 +23,6 @@ pub record Case : Type 0 where
   pub violating : List ℕ
   pub iterations : ℕ
 
--- the bytes of a line, with its 0A
-abbrev pub lineBytes : String → List ℕ
-lineBytes end = 0x0A ∷ []
-lineBytes (c then s) = code c ∷ lineBytes s
-
-abbrev pub bytes : List String → List ℕ
-bytes [] = []
-bytes (l ∷ ls) = lineBytes l ++ bytes ls
-
 -- the marks with a 1 at these numbers and 0 elsewhere
 abbrev pub marksAt : List ℕ → List ℕ
 marksAt [] = none-set
@@ -44,16 +35,6 @@ pub record Holds (c : Case) : Type 0 where
   pub iterations : analysis (readFile (bytes (c .file)) .program) .iterations ≡ c .iterations
 
 -- ---- the table
-
--- the paper's file F, in parts
-abbrev header : List String
-header = "50020302" ∷ "520003" ∷ "520102" ∷ []
-
-abbrev edges : List String
-edges = "5300004102" ∷ "5300020101" ∷ "5301000001" ∷ []
-
-abbrev transitions : List String
-transitions = "54000001" ∷ "54000102" ∷ "54010001" ∷ "54010101" ∷ []
 
 -- P1 and P2: F
 abbrev P1 : Case

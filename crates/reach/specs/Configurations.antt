@@ -31,10 +31,6 @@ rootOf i = i / 8 % 8
 unfoldable pub stateOf : ℕ → ℕ
 stateOf i = i % 8
 
--- how many numbers there are
-abbrev pub size : ℕ
-size = 16384
-
 -- a byte for each number, none of them set
 unfoldable pub none-set : List ℕ
 none-set = replicate 16384 0

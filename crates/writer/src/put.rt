@@ -2,13 +2,14 @@
 use automaton::DecodedAutomaton;
 use automaton::States;
 use automaton::Table;
+use automaton::in_use;
 use program::DecodedProgram;
 use program::Nodes;
 use text::Line;
 use text::put_line;
 ghost use mathlib.Core.Path.{_≡_};
 ghost use mathlib.Core.List.{[], _∷_, _++_, map};
-ghost use Prim.Native.Nat.{min, _≤_};
+ghost use Prim.Native.Nat.{_≤_};
 ghost use lib.ListN.{length, drop};
 ghost use Rattle.text.specs.Lines.{lineOf};
 ghost use Rattle.automaton.specs.Decoded.{keysOf, statesOf, automatonOf};
@@ -18,16 +19,6 @@ ghost use Rattle.program.specs.WellFormed.{All};
 ghost use Rattle.program.specs.Program.{transitionFits};
 ghost use Rattle.program.specs.Decoded.{nodesOf, programOf};
 ghost use Rattle.writer.specs.Parts.{keyFrame, automatonFrames, RoomFor, Put};
-
-// How many entries of a list are in use: a count above its size means all of them.
-fn in_use(count: usize, size: usize) -> usize
-    ensures { λ r. ⌜ r ≡ min count size ⌝ }
-{
-    if count < size {
-        return count;
-    }
-    size
-}
 
 fn line_of_two(kind: u8, x: u8) -> Line
     ensures { λ r. ⌜ r ≡ lineOf (kind ∷ x ∷ []) ⌝ }
