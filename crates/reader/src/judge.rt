@@ -64,7 +64,7 @@ fn counts_fit(r: u8, q: u8, a: u8) -> bool
     inside(1, 16, r) & inside(1, 8, q) & inside(1, 32, a)
 }
 
-fn label_fits(routines: u8, actions: u8, a: u8) -> bool
+pub fn label_fits(routines: u8, actions: u8, a: u8) -> bool
     ensures { λ y. ⌜ y ≡ labelFits routines actions a ⌝ }
 {
     (a < actions) | ((0x40 <= a) & ((a as u16) < 0x40 + (routines as u16)))
@@ -76,7 +76,7 @@ fn is_placed(nodes: u8, n: u8, m: u8) -> bool
     (n < nodes) & (m < nodes) & !(n == 1)
 }
 
-fn edge_fits(h: Limits, l: Line) -> bool
+pub fn edge_fits(h: Limits, l: Line) -> bool
     ensures { λ y. ⌜ y ≡ edgeFits (limitsOf h) (edgeIn l) ⌝ }
 {
     let f = number(l, 1);
@@ -142,7 +142,7 @@ fn lowest_of(a: bool, b: bool, c: bool, d: bool, e: bool, f: bool, g: bool) -> u
     0
 }
 
-fn limits_of(p: DecodedProgram) -> Limits
+pub fn limits_of(p: DecodedProgram) -> Limits
     ensures { λ r. ⌜ r ≡ limits p ⌝ }
 {
     let a = p.automaton;

@@ -1,7 +1,7 @@
 // Reading a file: the verdict, and the decoded program.
 mod extend;
-mod frame;
-mod judge;
+pub mod frame;
+pub mod judge;
 
 use automaton::DecodedAutomaton;
 use extend::after_frame;

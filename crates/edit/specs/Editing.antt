@@ -1,0 +1,48 @@
+-- A program after an edit, and the refusals 14 to 16.
+use Prim.Native.Nat.{ℕ}
+use mathlib.Core.Bool.{Bool, true, false, cond, _&&_, _||_, not}
+use mathlib.Core.List.{List, [], _∷_}
+use lib.Dec.{ltb, leb, eqb}
+use lib.ListN.{length}
+use Rattle.program.specs.Program.{Edge, Program}
+use Rattle.program.specs.Frames.{edgeKey}
+use Rattle.edit.specs.Edits.{oldEdge, newEdge}
+use Rattle.edit.specs.declared.Edit.{Edit}
+use Rattle.edit.specs.declared.Edit.the-variants.{Add, Drop, Replace}
+
+-- the same edge
+abbrev pub sameEdge : Edge → Edge → Bool
+sameEdge e d =
+    eqb (e .routine) (d .routine) && eqb (e .source) (d .source) && eqb (e .label) (d .label) && eqb (e .target) (d .target)
+
+unfoldable pub hasEdge : Edge → List Edge → Bool
+hasEdge e [] = false
+hasEdge e (d ∷ ds) = sameEdge e d || hasEdge e ds
+
+-- without this edge
+unfoldable pub without : Edge → List Edge → List Edge
+without e [] = []
+without e (d ∷ ds) = cond (sameEdge e d) (without e ds) (d ∷ without e ds)
+
+-- with this edge too, before the first that is above it
+unfoldable pub inserted : Edge → List Edge → List Edge
+inserted e [] = e ∷ []
+inserted e (d ∷ ds) = cond (ltb (edgeKey e) (edgeKey d)) (e ∷ d ∷ ds) (d ∷ inserted e ds)
+
+abbrev pub withEdges : Program → List Edge → Program
+withEdges p es = record { routines = p .routines; nodes = p .nodes; edges = es; automaton = p .automaton }
+
+-- 14: drop or replace, and the step is not there; 15: add or replace, and the wanted step is there; 16: add, and there are 256
+abbrev pub editRefusal : Edit → List Edge → ℕ
+editRefusal (Add s) es = cond (hasEdge (newEdge (Add s)) es) 15 (cond (leb 256 (length es)) 16 0)
+editRefusal (Drop s) es = cond (hasEdge (oldEdge (Drop s)) es) 0 14
+editRefusal (Replace s l) es = cond (hasEdge (oldEdge (Replace s l)) es) (cond (hasEdge (newEdge (Replace s l)) es) 15 0) 14
+
+-- the edges after an edit that is not refused
+abbrev pub editedEdges : Edit → List Edge → List Edge
+editedEdges (Add s) es = inserted (newEdge (Add s)) es
+editedEdges (Drop s) es = without (oldEdge (Drop s)) es
+editedEdges (Replace s l) es = inserted (newEdge (Replace s l)) (without (oldEdge (Replace s l)) es)
+
+unfoldable pub editedProgram : Edit → Program → Program
+editedProgram e p = withEdges p (editedEdges e (p .edges))
