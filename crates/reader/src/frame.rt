@@ -52,6 +52,7 @@ pub fn size_of(k: u8) -> usize
     2
 }
 
+// A number of a line. Every caller names one of the six that a line keeps: hence the `requires`.
 pub fn number(l: Line, i: usize) -> u8
     requires { ⌜ i < 6 ⌝ }
     ensures { λ r. ⌜ r ≡ num l i ⌝ }
