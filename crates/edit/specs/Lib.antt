@@ -2,3 +2,4 @@ pub mod Edits
 pub mod EditLines
 pub mod Editing
 pub mod Tables
+pub mod Book

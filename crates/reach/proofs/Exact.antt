@@ -1,27 +1,23 @@
 -- The marks of the full analysis are exactly the reachable configurations.
 use mathlib.Core.Path.{_≡_, sym, _∙_}
-use mathlib.Core.Logic.{_↔_, _≢_}
+use mathlib.Core.Logic.{_↔_}
 use mathlib.Core.Option.{none}
-use mathlib.Core.List.{List}
 use Prim.Native.Nat.{ℕ}
 use native.Mathlib.Decide.{ℕ-discrete}
 use lib.ListN.{getD, length-replicate}
 use lib.Seq.{ext-getD}
 use Rattle.program.specs.Program.{Program}
 use Rattle.program.specs.WellFormed.{WellFormed}
-use Rattle.reach.specs.Configurations.{Set, InRange, number, none-set}
+use Rattle.reach.specs.Configurations.{Set, none-set}
 use Rattle.reach.specs.Reachable.{Derivable, Initial, Any, Reachable}
 use Rattle.reach.specs.Worklist.{Worklist, lowest, work, opened, blank, analysis}
+use Rattle.reach.specs.Marks.{Marked}
 use Rattle.reach.proofs.Sizes.{sizes, Proper, initial-proper}
 use Rattle.reach.proofs.Flags.{lowest-none, zeros}
 use Rattle.reach.proofs.Kept.{analysis-shape}
 use Rattle.reach.proofs.Follows.{Follows, work-follows, follows-exact, opened-follows}
 use Rattle.reach.proofs.Settled.{Settled, opened-settled}
 use Rattle.reach.proofs.Bound.{follow-ends, analysis-ends}
-
--- the configurations whose bytes are set
-abbrev pub Marked : List ℕ → Set
-Marked l f n r q = InRange f n r q × (getD l (number f n r q) 0 ≢ 0)
 
 -- ---- from any worklist that follows from seeds
 

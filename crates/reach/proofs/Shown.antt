@@ -14,21 +14,15 @@ use Rattle.program.specs.WellFormed.{WellFormed}
 use Rattle.reach.specs.Configurations.{Set, InRange, number}
 use Rattle.reach.specs.Runs.{Occurs}
 use Rattle.reach.specs.Reachable.{Reachable}
-use Rattle.reach.specs.Marks.{freshMarks, countSet}
+use Rattle.reach.specs.Marks.{Marked, Shows, freshMarks, countSet}
 use Rattle.reach.proofs.Laws.{Sub}
 use Rattle.reach.proofs.Occurs.{occurs-iff}
 use Rattle.reach.proofs.Numbers.{At, number-of, parts-in-range}
 use Rattle.reach.proofs.Sizes.{reachable-in-range}
 use Rattle.reach.proofs.Kept.{marks-length, marks-bits}
-use Rattle.reach.proofs.Exact.{Marked, analysis-exact}
+use Rattle.reach.proofs.Exact.{analysis-exact}
 
 -- ---- lists of marks
-
--- l has a byte for each number, a 1 at the numbers of the configurations of S, and 0 elsewhere
-pub record Shows (S : Set) (l : List ℕ) : Type 0 where
-  pub len : length l ≡ 16384
-  pub bit : (i : ℕ) → getD l i 0 ≤ 1
-  pub shown : {f n r q : ℕ} → InRange f n r q → (getD l (number f n r q) 0 ≡ 1) ↔ S f n r q
 
 -- the same by numbers
 pub shown-at : {S : Set} {l : List ℕ} → Shows S l → (i : ℕ) → i < 16384 → (getD l i 0 ≡ 1) ↔ At S i

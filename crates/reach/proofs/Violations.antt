@@ -15,9 +15,9 @@ use Rattle.program.specs.Program.{Program}
 use Rattle.program.proofs.Judged.{both}
 use Rattle.reach.specs.Configurations.{stateOf}
 use Rattle.reach.specs.Runs.{Occurs}
-use Rattle.reach.specs.Marks.{freshMarks, countSet, violates, frontWhen, violationsFrom, violations, firstFrom}
+use Rattle.reach.specs.Marks.{Shows, freshMarks, countSet, violates, frontWhen, violationsFrom, violations, firstFrom}
 use Rattle.reach.proofs.Numbers.{At}
-use Rattle.reach.proofs.Shown.{Shows, shown-at, one-of}
+use Rattle.reach.proofs.Shown.{shown-at, one-of}
 
 -- ---- numbers that ascend
 

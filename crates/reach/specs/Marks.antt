@@ -1,14 +1,30 @@
 -- The fresh marks of a program (paper: the sheet), the counts and the violations (paper: findings).
-use Prim.Native.Nat.{ℕ, zero, suc, _+_}
+use Prim.Native.Nat.{ℕ, zero, suc, _+_, _≤_}
+use mathlib.Core.Path.{_≡_}
+use mathlib.Core.Logic.{_↔_, _≢_}
 use mathlib.Core.Bool.{Bool, true, false, cond, _&&_, not}
 use mathlib.Core.Option.{Option, none, some}
 use mathlib.Core.List.{List, [], _∷_}
 use lib.Dec.{eqb, leb}
-use lib.ListN.{length}
+use lib.ListN.{length, getD}
 use Rattle.automaton.specs.Automaton.{isRejecting}
 use Rattle.program.specs.Program.{Program}
-use Rattle.reach.specs.Configurations.{stateOf}
+use Rattle.reach.specs.Configurations.{Set, InRange, number, stateOf}
 use Rattle.reach.specs.Worklist.{analysis}
+
+-- ---- sets of configurations as bytes
+
+-- the configurations whose bytes are set: any byte other than 0 is a mark
+abbrev pub Marked : List ℕ → Set
+Marked l f n r q = InRange f n r q × (getD l (number f n r q) 0 ≢ 0)
+
+-- l has a byte for each number, a 1 at the numbers of the configurations of S, and 0 elsewhere
+pub record Shows (S : Set) (l : List ℕ) : Type 0 where
+  pub len : length l ≡ 16384
+  pub bit : (i : ℕ) → getD l i 0 ≤ 1
+  pub shown : {f n r q : ℕ} → InRange f n r q → (getD l (number f n r q) 0 ≡ 1) ↔ S f n r q
+
+-- ---- the fresh marks
 
 abbrev pub freshMarks : Program → List ℕ
 freshMarks p = analysis p .marks
