@@ -53,7 +53,7 @@ extern "C" {
  * last), or a line follows the end frame (the line is that one). */
 #define PALTHRENNI_FILE_END 8
 
-/* Refusals of buffers. They come with line 0. */
+/* Refusals of buffers, of an edit and of marks. They come with line 0. */
 
 /* The marks do not have exactly PALTHRENNI_MARKS_SIZE bytes. */
 #define PALTHRENNI_MARKS_LENGTH 9
@@ -61,6 +61,17 @@ extern "C" {
 #define PALTHRENNI_OUTPUT_SHORT 10
 /* The working buffer does not have exactly PALTHRENNI_MARKS_SIZE bytes. */
 #define PALTHRENNI_WORK_LENGTH 11
+/* The edit is not exactly one line of hexadecimal, its kind is none of 2B, 2D
+ * and 3D, or the kind has another count of numbers. */
+#define PALTHRENNI_EDIT_LINE 12
+/* A number of the edit is outside its range, or its step leaves the exit. */
+#define PALTHRENNI_EDIT_RANGE 13
+/* The step that is to be dropped or replaced is not there. */
+#define PALTHRENNI_NO_SUCH_STEP 14
+/* The step that would be made is there already. */
+#define PALTHRENNI_STEP_EXISTS 15
+/* A step is to be added, and there are 256. */
+#define PALTHRENNI_STEPS_FULL 16
 /* The marks are not the program's own: some byte is not the one that
  * palthrenni_analyze would leave there. */
 #define PALTHRENNI_FOREIGN_MARKS 17
@@ -171,6 +182,67 @@ uint32_t palthrenni_next_violation(const uint8_t *file, size_t file_len,
                                    uint8_t *work, size_t work_len,
                                    uint32_t from,
                                    uint32_t *line, uint32_t *found);
+
+/*
+ * Reads a program file and prunes marks by it: of the configurations that are
+ * marked those stay that have support back to a start through marked ones. A
+ * start is main's entry in a start state. A configuration has support by a
+ * step from a kept one: an action that the rule allows, a call, which
+ * supports the called entry whether or not the call ever returns, or a call
+ * and a kept exit of the called routine with the same root.
+ *
+ *   file, file_len    the file's bytes, of any length
+ *   marks, marks_len  any marks, the program's own or not:
+ *                     PALTHRENNI_MARKS_SIZE bytes, of which every byte other
+ *                     than 0 is a mark
+ *   work, work_len    room to work in: PALTHRENNI_MARKS_SIZE bytes, which may
+ *                     hold anything before
+ *   line              set to the line of a refusal 1 to 8, else to 0
+ *
+ * Returns 1 to 8; then 9 or 11, the lower first, if the file is accepted and
+ * a buffer has another length; else PALTHRENNI_OK. On PALTHRENNI_OK each mark
+ * that stays is 1, every other byte of the marks is 0, and the working buffer
+ * is all zero. On a refusal both buffers are unchanged.
+ */
+uint32_t palthrenni_prune(const uint8_t *file, size_t file_len,
+                          uint8_t *marks, size_t marks_len,
+                          uint8_t *work, size_t work_len, uint32_t *line);
+
+/*
+ * Reads a program file and one edit, changes the marks to those of the edited
+ * program, and writes that program. An edit is one line of hexadecimal,
+ *
+ *     2B f n a m      adds a step of routine f from place n to m by label a
+ *     2D f n a m      drops that step
+ *     3D f n a m b    gives that step the label b
+ *
+ * two digits a number and a byte 0A at the end.
+ *
+ *   file, file_len      the file's bytes, of any length
+ *   marks, marks_len    the marks as palthrenni_analyze, or the repair before
+ *                       this one, left them for this file
+ *   edit, edit_len      the edit line's bytes
+ *   output, output_len  where the new file is written: PALTHRENNI_OUTPUT_SIZE
+ *                       bytes or more
+ *   work, work_len      room to work in: PALTHRENNI_MARKS_SIZE bytes, which
+ *                       may hold anything before
+ *   line                set to the line of a refusal 1 to 8, else to 0
+ *   written             set to how many bytes were written, or to 0 if the
+ *                       call was refused
+ *
+ * Returns 1 to 8 for the file; then, if it is accepted, the lowest of 9 to 17
+ * that is met; else PALTHRENNI_OK. On PALTHRENNI_OK the marks are those that
+ * palthrenni_analyze would set for the new file, the new file is at the start
+ * of the output and the rest of the output is unchanged, and the working
+ * buffer is all zero. On a refusal the marks and the output are unchanged;
+ * the working buffer is unchanged on 1 to 16 and all zero on 17.
+ */
+uint32_t palthrenni_repair_forward(const uint8_t *file, size_t file_len,
+                                   uint8_t *marks, size_t marks_len,
+                                   const uint8_t *edit, size_t edit_len,
+                                   uint8_t *output, size_t output_len,
+                                   uint8_t *work, size_t work_len,
+                                   uint32_t *line, uint32_t *written);
 
 #ifdef __cplusplus
 }

@@ -353,6 +353,11 @@ pub fn largest() -> Vec<u8> {
     large(256, 256, &starts.chain(forbidden).collect::<Vec<_>>())
 }
 
+/// A program of 16 routines with so many steps, all from main's entry, and nothing else.
+pub fn full_steps(count: usize) -> Vec<u8> {
+    large(count, 0, &[])
+}
+
 fn full_tables() -> Vec<Case> {
     let ninth_start = (0..9).map(|state| vec![0x49, state]);
     let ninth_start: Vec<_> = ninth_start.collect();

@@ -115,7 +115,7 @@ pub fn read(file: &[u8]) -> Reading {
 
 /// The file's lines, each with its byte 0A. What follows the last 0A is a line of its own, without
 /// 0A, unless nothing follows.
-fn lines(file: &[u8]) -> Vec<&[u8]> {
+pub fn lines(file: &[u8]) -> Vec<&[u8]> {
     file.split_inclusive(|&byte| byte == 0x0A).collect()
 }
 
@@ -136,7 +136,7 @@ fn frame_of_line(line: &[u8]) -> Result<Frame, u32> {
 
 /// Two digits make a number. None for an empty line, an odd count of digits, a byte that is no
 /// digit, or a line without its 0A.
-fn numbers_of_line(line: &[u8]) -> Option<Vec<u8>> {
+pub fn numbers_of_line(line: &[u8]) -> Option<Vec<u8>> {
     let text = line.strip_suffix(&[0x0A])?;
     if text.is_empty() || text.len() % 2 == 1 {
         return None;
@@ -313,7 +313,7 @@ fn rule_line_of(frame: &Frame) -> RuleLine {
     }
 }
 
-fn label_of(number: u8) -> Label {
+pub fn label_of(number: u8) -> Label {
     if number < FIRST_CALL {
         Label::Action(number)
     } else {

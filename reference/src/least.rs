@@ -12,7 +12,12 @@ use std::collections::BTreeSet;
 
 pub fn least_set(program: &Program) -> BTreeSet<Standing> {
     let starts = program.starts.iter();
-    let mut set: BTreeSet<Standing> = starts.map(|&state| Standing::entry(0, state)).collect();
+    let entries = starts.map(|&state| Standing::entry(0, state));
+    grown(program, entries.collect())
+}
+
+/// The least set that has these standings and that the other three rules lead out of no more.
+pub fn grown(program: &Program, mut set: BTreeSet<Standing>) -> BTreeSet<Standing> {
     loop {
         let before = set.len();
         for step in &program.steps {

@@ -21,14 +21,20 @@ pub enum Shape {
     Mixed,
     /// All that a file can hold: 16 routines of 16 places, 8 states, full tables.
     Full,
+    /// As many steps as a file can hold, or nearly so, and few states.
+    Crowded,
+    /// Small routines that call later ones only, each with hardly a step too many.
+    Layered,
 }
 
-pub const SHAPES: [Shape; 5] = [
+pub const SHAPES: [Shape; 7] = [
     Shape::Tiny,
     Shape::Recursive,
     Shape::Wide,
     Shape::Mixed,
     Shape::Full,
+    Shape::Crowded,
+    Shape::Layered,
 ];
 
 /// The program that belongs to a seed. Few are full, as these take long.
@@ -51,6 +57,8 @@ pub fn program_of_shape(random: &mut Random, shape: Shape) -> Program {
         Shape::Wide => wide(random),
         Shape::Mixed => mixed(random),
         Shape::Full => full(random),
+        Shape::Crowded => crowded(random),
+        Shape::Layered => layered(random),
     };
     program_to_plan(random, &plan)
 }
@@ -63,6 +71,8 @@ enum Callees {
     Circles,
     /// Later ones only; the last calls none.
     Later,
+    /// Later ones only, and mostly the next.
+    Next,
 }
 
 struct Plan {
@@ -156,6 +166,40 @@ fn full(random: &mut Random) -> Plan {
         rule: TABLE_ROWS,
         callees: random.pick(&[Callees::Any, Callees::Any, Callees::Circles, Callees::Later]),
         calls_in_a_hundred: random.pick(&[10, 20, 30, 50]),
+        return_in_a_hundred: random.pick(&[90, 100]),
+        rule_is_total: true,
+    }
+}
+
+fn crowded(random: &mut Random) -> Plan {
+    Plan {
+        routines: random.between(8, 16),
+        least_places: 6,
+        most_places: random.between(8, 16),
+        states: random.between(1, 2),
+        actions: random.between(2, 8),
+        steps: TABLE_ROWS - random.pick(&[0, 0, 0, 1, 2]),
+        rule: random.between(2, 12),
+        callees: random.pick(&[Callees::Any, Callees::Circles, Callees::Later]),
+        calls_in_a_hundred: random.pick(&[20, 40, 60]),
+        return_in_a_hundred: random.pick(&[60, 90, 100]),
+        rule_is_total: random.percent(50),
+    }
+}
+
+fn layered(random: &mut Random) -> Plan {
+    let routines = random.between(3, 8);
+    let most_places = random.between(2, 4);
+    Plan {
+        routines,
+        least_places: 2,
+        most_places,
+        states: random.between(2, 4),
+        actions: random.between(1, 3),
+        steps: routines * (most_places - 1) + random.between(0, routines),
+        rule: random.between(2, 12),
+        callees: Callees::Next,
+        calls_in_a_hundred: random.pick(&[40, 60, 80]),
         return_in_a_hundred: random.pick(&[90, 100]),
         rule_is_total: true,
     }
@@ -284,8 +328,12 @@ fn callee(random: &mut Random, plan: &Plan, caller: usize) -> Option<u8> {
             let last = (caller + plan.routines - 1) % plan.routines;
             random.pick(&[caller, next, next, last, 0, any])
         }
-        Callees::Later if caller + 1 == plan.routines => return None,
+        Callees::Later | Callees::Next if caller + 1 == plan.routines => return None,
         Callees::Later => random.between(caller + 1, plan.routines - 1),
+        Callees::Next => {
+            let later = random.between(caller + 1, plan.routines - 1);
+            random.pick(&[caller + 1, caller + 1, later])
+        }
     };
     Some(callee as u8)
 }

@@ -33,6 +33,13 @@ impl Random {
         self.number() as u8
     }
 
+    /// So many bytes such as a buffer may hold: all zero, small ones, or any.
+    pub fn content(&mut self, length: usize) -> Vec<u8> {
+        let most = self.pick(&[0, 1, 3, 255]);
+        let numbers = (0..length / 8 + 1).flat_map(|_| self.number().to_le_bytes());
+        numbers.take(length).map(|byte| byte & most).collect()
+    }
+
     /// True so many times out of a hundred.
     pub fn percent(&mut self, times: usize) -> bool {
         self.below(100) < times

@@ -5,18 +5,17 @@
 
 mod desk;
 
+use desk::lent::{with_more_after, Lent, MARGIN};
 use reference::analysis::{self, Analysis, AnalyzeAnswer, Analyzed, NextAnswer, NONE};
 use reference::cases;
 use reference::file;
 use reference::generate;
 use reference::programs::{hub, program_of_seed, program_of_shape, SHAPES};
 use reference::random::Random;
+use reference::sheets::{foreign, FOREIGN};
 use reference::standing::SHEET_SIZE;
 use reference::write::write;
-use std::ops::Range;
 
-/// Bytes before and after each buffer that nobody may change.
-const MARGIN: usize = 64;
 /// Lengths that a buffer may not have.
 const WRONG_LENGTHS: [usize; 7] = [0, 1, 16, 8192, 16_383, 16_385, 20_000];
 /// How often each refusal and each outcome has to be met, so that agreeing on it means something.
@@ -74,43 +73,6 @@ impl Case {
     fn analysis(&self) -> Option<&Analysis> {
         self.analyzed.as_ref().ok()
     }
-}
-
-/// A buffer with its margins.
-#[derive(Clone)]
-struct Lent {
-    bytes: Vec<u8>,
-    inside: Range<usize>,
-}
-
-impl Lent {
-    fn new(random: &mut Random, content: &[u8]) -> Lent {
-        let margin = |random: &mut Random| (0..MARGIN).map(|_| random.byte()).collect::<Vec<u8>>();
-        Lent {
-            bytes: [margin(random), content.to_vec(), margin(random)].concat(),
-            inside: MARGIN..MARGIN + content.len(),
-        }
-    }
-
-    /// A buffer of so many bytes with some content: all alike, such as a sheet has, or any.
-    fn of_length(random: &mut Random, length: usize) -> Lent {
-        let most = random.pick(&[0, 1, 2, 255]);
-        let content: Vec<u8> = (0..length).map(|_| random.between(0, most) as u8).collect();
-        Lent::new(random, &content)
-    }
-
-    fn content(&self) -> &[u8] {
-        &self.bytes[self.inside.clone()]
-    }
-
-    fn content_mut(&mut self) -> &mut [u8] {
-        &mut self.bytes[self.inside.clone()]
-    }
-}
-
-/// The file with bytes after it that would mend it if they were read.
-fn with_more_after(file: &[u8]) -> Vec<u8> {
-    [file, b"\n450000\n"].concat()
 }
 
 fn check_bytes(case: &Case, what: &str, given: &[u8], wanted: &[u8]) {
@@ -198,37 +160,9 @@ fn some_number(random: &mut Random, findings: &[u32]) -> u32 {
     random.pick(&[near, near, far])
 }
 
-/// How many ways there are to make a foreign sheet.
-const FOREIGN: usize = 6;
-
-/// A sheet that is not the program's own, made in one of the ways; None where this way gives none.
-fn foreign_sheet(random: &mut Random, own: &[u8], way: usize) -> Option<Vec<u8>> {
-    let of_byte = |wanted: u8| (0..SHEET_SIZE).filter(move |&at| own[at] == wanted);
-    let marked: Vec<usize> = of_byte(1).collect();
-    let empty: Vec<usize> = of_byte(0).collect();
-    let mut sheet = own.to_vec();
-    match way {
-        0 => {
-            let at = random.below(SHEET_SIZE);
-            sheet[at] ^= random.between(1, 255) as u8;
-        }
-        1 if !marked.is_empty() => sheet[random.pick(&marked)] = 2,
-        2 if !marked.is_empty() => sheet[random.pick(&marked)] = 0,
-        3 if !empty.is_empty() => sheet[random.pick(&empty)] = 1,
-        4 => sheet.fill(0),
-        5 => sheet = analysis::analyze(&program_of_seed(random.number())).sheet,
-        _ => {}
-    }
-    if sheet == own {
-        None
-    } else {
-        Some(sheet)
-    }
-}
-
 /// Asks with a sheet that is not the program's own.
 fn compare_foreign(case: &mut Case, own: &[u8], way: usize, tally: &mut Tally) {
-    let sheet = match foreign_sheet(&mut case.random, own, way) {
+    let sheet = match foreign(&mut case.random, own, way) {
         Some(sheet) => sheet,
         None => return,
     };

@@ -41,7 +41,7 @@ passed Accepted marks work e = go (eqb marks 16384) refl (eqb work 16384) refl e
     go false t u v e = never 9 0 e
 
 module _ (file marks work : List ℕ) (o : Outcome) (e : o ≡ readFile file) (c : Verdict) (k : c ≡ checkedBy (o .verdict) (length marks) (length work)) where
-  is-checked : c ≡ checked file (length marks) (length work)
+  pub is-checked : c ≡ checked file (length marks) (length work)
   unfolding checked
   is-checked = k ∙ ap (λ (x : Outcome). checkedBy (x .verdict) (length marks) (length work)) e
 

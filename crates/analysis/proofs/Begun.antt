@@ -1,20 +1,19 @@
 -- The start of the analysis.
-use Prim.Native.Nat.{ℕ, zero, suc, min, _+_, _≤_, _<_}
+use Prim.Native.Nat.{ℕ, zero, suc, min, _+_, _≤_}
 use mathlib.Core.Path.{_≡_, refl, sym, ap, subst, _∙_}
 use mathlib.Core.Option.{none}
-use mathlib.Core.List.{List, [], _∷_, map}
+use mathlib.Core.List.{List, [], _∷_}
 use native.Mathlib.Omega.{arith}
 use lib.ListN.{length, getD, take, drop, replicate}
 use lib.Seq.{drop-cons}
 use Rattle.program.specs.Program.{Program}
 use Rattle.program.specs.WellFormed.{WellFormed}
-use Rattle.program.specs.Decoded.{edgeOf}
 use Rattle.reach.specs.Configurations.{number, none-set}
 use Rattle.reach.specs.Worklist.{Worklist, lowest, mark, work, opened, blank, analysis}
-use Rattle.reach.proofs.Kept.{Shape, opened-shape, opened-iterations}
+use Rattle.reach.proofs.Kept.{Shape, opened-shape}
 use Rattle.reach.proofs.Bound.{analysis-ends}
 use Rattle.reach.proofs.Exact.{pending-clear}
-use Rattle.analysis.specs.Parts.{worklist, Becomes, NoneBelow, each, Answers, Tables, followed, Ends}
+use Rattle.analysis.specs.Parts.{worklist, Becomes, NoneBelow, each, followed}
 
 opened-is : (list : List ℕ) (k x : ℕ) → k + x ≤ length list → (s : Worklist)
     → each (λ i. mark (number 0 0 (getD list i 0) (getD list i 0))) k x s ≡ opened (take k (drop x list)) s
@@ -46,14 +45,11 @@ module _ (p : Program) (wf : WellFormed p) (m w : List ℕ) (b : Becomes (opened
   unfolding analysis
   result-is = ap (λ (s : Worklist). work 2113536 p (lowest (s .pending) 0) s) start-is
 
-  pub comes-to-an-end : (keys : List ℕ) (count : ℕ) (next : List ℕ) → p .edges ≡ map edgeOf (take count keys) → Answers (p .automaton) next
-      → Ends p keys count next m w (replicate 1024 0)
-  comes-to-an-end keys count next e a =
-      record {
-        tables = record { well-formed = wf; edges = e; answers = a };
-        shape = subst Shape (sym start-is) (opened-shape (p .automaton .initial));
-        ends = ap (λ (s : Worklist). lowest (s .pending) 0) result-is ∙ analysis-ends p wf;
-      }
+  pub start-shape : Shape (worklist m w (replicate 1024 0) 0)
+  start-shape = subst Shape (sym start-is) (opened-shape (p .automaton .initial))
+
+  pub comes-to-an-end : lowest (followed p m w (replicate 1024 0) .pending) 0 ≡ none
+  comes-to-an-end = ap (λ (s : Worklist). lowest (s .pending) 0) result-is ∙ analysis-ends p wf
 
   pub analyzed : {m′ w′ k′ : List ℕ} {n : ℕ} → worklist m′ w′ k′ n ≡ followed p m w (replicate 1024 0)
       → (m′ ≡ analysis p .marks) × (w′ ≡ none-set) × (n ≡ analysis p .iterations)

@@ -7,4 +7,5 @@ pub mod Counts
 pub mod Lowest
 pub mod Following
 pub mod Begun
+pub mod Grown
 pub mod Answered

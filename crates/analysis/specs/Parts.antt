@@ -5,7 +5,7 @@ use mathlib.Core.Bool.{Bool, cond, _&&_, not}
 use mathlib.Core.Option.{Option, some, none}
 use mathlib.Core.List.{List, map}
 use lib.Dec.{eqb, ltb}
-use lib.ListN.{getD, take}
+use lib.ListN.{length, getD, take}
 use Rattle.automaton.specs.Automaton.{Automaton, goes, moves, isRejecting}
 use Rattle.automaton.specs.Decoded.{transitionOf}
 use Rattle.automaton.specs.declared.Event.the-variants.{Action}
@@ -45,6 +45,19 @@ markFlag flags place base x s = markWhen (not (eqb (getD flags (place + x) 0) 0)
 -- the number base + 8 x is woken
 abbrev pub wakeAt : ℕ → ℕ → Worklist → Worklist
 wakeAt base x s = wake (base + 8 * x) s
+
+-- the number base + x is woken
+abbrev pub wakeFrom : ℕ → ℕ → Worklist → Worklist
+wakeFrom base x s = wake (base + x) s
+
+-- the number of the exit that has its summary at this place
+abbrev pub exitAt : ℕ → ℕ
+exitAt i = i / 64 * 1024 + 64 + i % 64
+
+-- the known summaries are those of the marked exits
+pub record Learnt (marks known : List ℕ) : Type 0 where
+  pub known-length : length known ≡ 1024
+  pub learnt : (i : ℕ) → i < 1024 → getD known i 0 ≡ getD marks (exitAt i) 0
 
 -- the place of the answer to: may the automaton go from q to s on a?
 abbrev pub nextPlace : ℕ → ℕ → ℕ → ℕ

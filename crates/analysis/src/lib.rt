@@ -1,8 +1,9 @@
 // The full analysis of a file's program, and the list of its violations.
-mod count;
-mod follow;
+pub mod count;
+pub mod follow;
+pub mod grow;
 mod marking;
-mod next;
+pub mod next;
 pub mod run;
 mod take;
 
@@ -37,7 +38,7 @@ pub enum NextAnswer {
 }
 
 // The file's verdict, then the lengths of the marks (9) and of the working buffer (11).
-fn check_buffers(v: Verdict, marks: usize, work: usize) -> Verdict
+pub fn check_buffers(v: Verdict, marks: usize, work: usize) -> Verdict
     ensures { λ r. ⌜ r ≡ checkedBy v marks work ⌝ }
 {
     match v {

@@ -66,7 +66,7 @@ pub fn mark_each(
 }
 
 // Sets a marked configuration pending again.
-fn wake(marks: &[u8], pending: &mut [u8], at: usize, low: usize) -> usize
+pub fn wake(marks: &[u8], pending: &mut [u8], at: usize, low: usize) -> usize
     requires { ⌜ (length (now marks) ≡ 16384) × (length (now pending) ≡ 16384) ⌝ }
     ensures { λ r. ⌜ Becomes (woken at) (now (marks .entry)) (now (pending .entry)) (now (marks .entry)) (now (pending .exit))
         × Lowers (now (pending .entry)) low (now (pending .exit)) r ⌝ }

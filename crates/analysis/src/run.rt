@@ -8,6 +8,7 @@ use automaton::States;
 use automaton::in_use;
 use program::DecodedProgram;
 ghost use mathlib.Core.Path.{_≡_};
+ghost use mathlib.Core.Option.{none};
 ghost use Prim.Native.Nat.{ℕ, _<_, _≤_};
 ghost use lib.ListN.{length};
 ghost use Rattle.automaton.specs.Decoded.{statesOf};
@@ -16,6 +17,7 @@ ghost use Rattle.program.specs.WellFormed.{WellFormed};
 ghost use Rattle.program.specs.Decoded.{programOf};
 ghost use Rattle.reach.specs.Configurations.{none-set};
 ghost use Rattle.reach.specs.Worklist.{lowest, opened, analysis};
+ghost use Rattle.reach.proofs.Kept.{Shape};
 ghost use Rattle.analysis.specs.Parts.{worklist, Becomes, NoneBelow, within, followed, Ends};
 
 // The lowest pending number, or one past the end. Nothing below the start of the search is pending.
@@ -59,6 +61,30 @@ pub fn follow_pending(
     iterations
 }
 
+// The same for a decoded program: its edges and the table of its automaton are made ready once. It starts from any marks for
+// which the procedure comes to an end: hence the `requires`.
+pub fn follow_program(
+    p: DecodedProgram,
+    marks: &mut [u8],
+    pending: &mut [u8],
+    known: &mut [u8],
+    from: usize,
+) -> usize
+    requires { ⌜ WellFormed (programOf p) × NoneBelow (now pending) from ⌝ }
+    requires { ⌜ Shape (worklist (now marks) (now pending) (now known) 0)
+        × (lowest (followed (programOf p) (now marks) (now pending) (now known) .pending) 0 ≡ none) ⌝ }
+    ensures { λ r. ⌜ worklist (now (marks .exit)) (now (pending .exit)) (now (known .exit)) r
+        ≡ followed (programOf p) (now (marks .entry)) (now (pending .entry)) (now (known .entry)) ⌝ }
+{
+    let rule = p.automaton;
+    let edges = p.edges;
+    let keys = edges.keys;
+    let table = next_states(rule);
+    let next = table.flags;
+    let count = in_use(edges.count, 256);
+    follow_pending(&keys, count, &next, marks, pending, known, from)
+}
+
 // The main routine's entry in each initial state.
 fn open_initial(initial: States, marks: &mut [u8], pending: &mut [u8])
     requires { ⌜ (length (now marks) ≡ 16384) × (length (now pending) ≡ 16384) ⌝ }
@@ -93,13 +119,8 @@ pub fn analyze_program(p: DecodedProgram, marks: &mut [u8], pending: &mut [u8]) 
     ensures { λ r. ⌜ (now (marks .exit) ≡ analysis (programOf p) .marks) × (now (pending .exit) ≡ none-set) × (r ≡ analysis (programOf p) .iterations) ⌝ }
 {
     let rule = p.automaton;
-    let edges = p.edges;
-    let keys = edges.keys;
     let initial = rule.initial;
-    let table = next_states(rule);
-    let next = table.flags;
-    let count = in_use(edges.count, 256);
     let mut known = [0u8; 1024];
     begin(initial, marks, pending);
-    follow_pending(&keys, count, &next, marks, pending, &mut known, 0)
+    follow_program(p, marks, pending, &mut known, 0)
 }

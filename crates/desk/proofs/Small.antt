@@ -23,6 +23,12 @@ use Rattle.reach.proofs.Violations.{Violation, First, nowhere, at, few-violatio
 use Rattle.analysis.specs.Answers.{checkedBy, checked, analyzeBy, analyzeAnswer, analyzeLine, configurationCount, violationCount, iterationCount, same, foundOf, nextBy, nextAnswer, nextLine, nextFound}
 use Rattle.analysis.specs.declared.NextAnswer.the-variants as next
 use Rattle.analysis.proofs.Answered.{passed}
+use Rattle.edit.specs.Editing.{editedProgram, wantedEdit}
+use Rattle.edit.specs.declared.EditRead.{EditRead}
+use Rattle.edit.specs.declared.EditRead.the-variants as read
+use Rattle.edit.proofs.Theorems.{wanted-applies, applied-well-formed}
+use Rattle.repair.specs.Repairs.{After, measuredBy, foreign, repairedTo, wantedBy, repairedBy, measured, repaired}
+use Rattle.repair.proofs.Answered.{passed as measured-passed}
 
 pub line-small : (file : List ℕ) → refusalLine (readFile file .verdict) ≤ 547
 line-small file = go (readFile file .verdict) refl
@@ -107,3 +113,49 @@ module _ (file marks work : List ℕ) where
       go : (c : Verdict) → v ≡ c → (nextLine (nextBy c p marks low) ≤ 547) × (nextFound (nextBy c p marks low) ≤ 4294967295)
       go Accepted e = own (same marks (freshMarks p)) (is-well-formed e)
       go (Refused n line) e = (line-is-small n line e, omega arith)
+
+  pub checked-line : refusalLine (checked file (length marks) (length work)) ≤ 547
+  unfolding checked v
+  checked-line = go v refl
+    where
+      go : (c : Verdict) → v ≡ c → refusalLine c ≤ 547
+      go Accepted e = omega arith
+      go (Refused n line) e = line-is-small n line e
+
+-- ---- a repair
+
+measured-small : (v : Verdict) (marks output work n line : ℕ) → refusalLine v ≤ 547 → measuredBy v marks output work ≡ Refused n line → line ≤ 547
+measured-small (Refused m there) marks output work n line h e = let z : there ≡ line = cc in omega arith
+measured-small Accepted marks output work n line h e = go (eqb marks 16384) (ltb output 5328) (eqb work 16384) e
+  where
+    zero-line : (m : ℕ) → Refused m 0 ≡ Refused n line → line ≤ 547
+    zero-line m e = let z : _≡_ {A = ℕ} 0 line = cc in omega arith
+
+    go : (t u v : Bool) → cond t (cond u (Refused 10 0) (cond v Accepted (Refused 11 0))) (Refused 9 0) ≡ Refused n line → line ≤ 547
+    go true true v e = zero-line 10 e
+    go true false true e = absurd (let z : _≡_ {A = ℕ} 0 1 = cc in omega arith)
+    go true false false e = zero-line 11 e
+    go false u v e = zero-line 9 e
+
+module _ (file marks line output work : List ℕ) where
+  abbrev Small : After → Type 0
+  Small a = (writeLine (a .answer) ≤ 547) × (writtenLength (a .answer) ≤ 5328)
+
+  wanted-small : (w : EditRead) (p : Program) → WellFormed p → wantedEdit p line ≡ w → Small (wantedBy w p marks output work)
+  wanted-small (read.Refused n) p f e = (omega arith, omega arith)
+  wanted-small (read.Read d) p f e = go (same marks (freshMarks p))
+    where
+      go : (t : Bool) → Small (cond t (repairedTo (editedProgram d p) output) (foreign marks output))
+      go true = (omega arith, written-limited (editedProgram d p) (applied-well-formed d p f (wanted-applies p line d e)))
+      go false = (omega arith, omega arith)
+
+  pub repair-small : (writeLine (repaired file marks line output work .answer) ≤ 547) × (writtenLength (repaired file marks line output work .answer) ≤ 5328)
+  unfolding repaired measured
+  repair-small = go (measuredBy (readFile file .verdict) (length marks) (length output) (length work)) refl
+    where
+      go : (c : Verdict) → measuredBy (readFile file .verdict) (length marks) (length output) (length work) ≡ c
+          → Small (repairedBy c (readFile file .program) marks line output work)
+      go Accepted e =
+          let m = measured-passed (readFile file .verdict) (length marks) (length output) (length work) e in
+          wanted-small (wantedEdit (readFile file .program) line) (readFile file .program) (accepted-well-formed file (m .file)) refl
+      go (Refused n there) e = (measured-small (readFile file .verdict) (length marks) (length output) (length work) n there (line-small file) e, omega arith)

@@ -5,9 +5,12 @@ use program::Verdict;
 use writer::WriteAnswer;
 ghost use mathlib.Core.Path.{_≡_};
 ghost use Prim.Native.Nat.{_<_, _^_};
+ghost use lib.ListN.{length};
 ghost use Rattle.program.specs.Reading.{refusal, refusalLine, readFile};
 ghost use Rattle.writer.specs.Answers.{writeAnswer, outputAfter, refusal as writeRefusal, refusalLine as writeLine, writtenLength};
-ghost use Rattle.analysis.specs.Answers.{analyzeAnswer, marksAfter, workAfter, analyzeRefusal, analyzeLine, configurationCount, violationCount, iterationCount, nextAnswer, nextRefusal, nextLine, nextFound};
+ghost use Rattle.prune.specs.Keeping.{Pruned};
+ghost use Rattle.repair.specs.Repairs.{repaired};
+ghost use Rattle.analysis.specs.Answers.{checked, analyzeAnswer, marksAfter, workAfter, analyzeRefusal, analyzeLine, configurationCount, violationCount, iterationCount, nextAnswer, nextRefusal, nextLine, nextFound};
 
 fn refusal_of(v: Verdict) -> u32
     ensures { λ r. ⌜ r ≡ refusal v ⌝ }
@@ -217,4 +220,48 @@ pub extern "C" fn palthrenni_next_violation(
     *line = next_line_of(a);
     *found = found_of(a);
     next_refusal_of(a)
+}
+
+// Of the marks those stay that have support back to a start through marked configurations. The line of a refusal is set.
+#[no_mangle]
+pub extern "C" fn palthrenni_prune(
+    file: &[u8],
+    marks: &mut [u8],
+    work: &mut [u8],
+    line: &mut u32,
+) -> u32
+    ensures numbers { λ r. ⌜ (r ≡ refusal (checked (now (file .entry)) (length (now (marks .entry))) (length (now (work .entry)))))
+        × (now (line .exit) ≡ refusalLine (checked (now (file .entry)) (length (now (marks .entry))) (length (now (work .entry))))) ⌝ }
+    ensures bytes { λ r. ⌜ Pruned (checked (now (file .entry)) (length (now (marks .entry))) (length (now (work .entry)))) (readFile (now (file .entry)) .program)
+        (now (marks .entry)) (now (marks .exit))
+        × (now (work .exit) ≡ workAfter (now (file .entry)) (now (marks .entry)) (now (work .entry))) ⌝ }
+{
+    let v = prune::prune(file, marks, work);
+    *line = line_of(v);
+    refusal_of(v)
+}
+
+// The forward repair: the marks become those of the edited program, which is written. The line of a refusal and the count
+// of bytes written are set.
+#[no_mangle]
+pub extern "C" fn palthrenni_repair_forward(
+    file: &[u8],
+    marks: &mut [u8],
+    edit: &[u8],
+    output: &mut [u8],
+    work: &mut [u8],
+    line: &mut u32,
+    written: &mut u32,
+) -> u32
+    ensures numbers { λ r. ⌜ (r ≡ writeRefusal (repaired (now (file .entry)) (now (marks .entry)) (now (edit .entry)) (now (output .entry)) (now (work .entry)) .answer))
+        × (now (line .exit) ≡ writeLine (repaired (now (file .entry)) (now (marks .entry)) (now (edit .entry)) (now (output .entry)) (now (work .entry)) .answer))
+        × (now (written .exit) ≡ writtenLength (repaired (now (file .entry)) (now (marks .entry)) (now (edit .entry)) (now (output .entry)) (now (work .entry)) .answer)) ⌝ }
+    ensures bytes { λ r. ⌜ (now (marks .exit) ≡ repaired (now (file .entry)) (now (marks .entry)) (now (edit .entry)) (now (output .entry)) (now (work .entry)) .marks)
+        × (now (output .exit) ≡ repaired (now (file .entry)) (now (marks .entry)) (now (edit .entry)) (now (output .entry)) (now (work .entry)) .output)
+        × (now (work .exit) ≡ repaired (now (file .entry)) (now (marks .entry)) (now (edit .entry)) (now (output .entry)) (now (work .entry)) .work) ⌝ }
+{
+    let a = repair::repair_forward(file, marks, edit, output, work);
+    *line = write_line_of(a);
+    *written = written_of(a);
+    write_refusal_of(a)
 }

@@ -51,11 +51,11 @@ same-key e d b c h =
 
 -- ---- members and lengths
 
-and-false : (a : Bool) → a && false ≡ false
+pub and-false : (a : Bool) → a && false ≡ false
 and-false true = refl
 and-false false = refl
 
-neither : (a b : Bool) → a || b ≡ false → (a ≡ false) × (b ≡ false)
+pub neither : (a b : Bool) → a || b ≡ false → (a ≡ false) × (b ≡ false)
 neither true b h = (h, absurd (let z : _≡_ {A = ℕ} 0 1 = cc in omega arith))
 neither false b h = (refl, h)
 
@@ -243,12 +243,12 @@ module _ (p : Program) (w : WellFormed p) where
       (ascending-without 0 d (p .edges) (w .edges-ascend))
       (omega (arith, w .edges-limited, length-dropped d (p .edges) h))
 
-added : (b c : Bool) → _≡_ {A = ℕ} (cond b 15 (cond c 16 0)) 0 → (b ≡ false) × (c ≡ false)
+pub added : (b c : Bool) → _≡_ {A = ℕ} (cond b 15 (cond c 16 0)) 0 → (b ≡ false) × (c ≡ false)
 added true c h = absurd (omega arith)
 added false true h = absurd (omega arith)
 added false false h = (refl, refl)
 
-replaced : (b c : Bool) → _≡_ {A = ℕ} (cond b (cond c 15 0) 14) 0 → (b ≡ true) × (c ≡ false)
+pub replaced : (b c : Bool) → _≡_ {A = ℕ} (cond b (cond c 15 0) 14) 0 → (b ≡ true) × (c ≡ false)
 replaced true true h = absurd (omega arith)
 replaced true false h = (refl, refl)
 replaced false c h = absurd (omega arith)

@@ -1,3 +1,6 @@
+pub mod Booked
 pub mod Kept
 pub mod Linked
 pub mod Making
+pub mod Refusing
+pub mod Theorems

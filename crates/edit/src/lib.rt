@@ -1,13 +1,19 @@
 // Edits of a program: one step is added, dropped, or given another label.
+pub mod apply;
+mod judge;
+mod key;
 mod line;
 mod table;
 
+use judge::wanted_by;
 use line::edit_from;
 use line::only_line;
 use program::DecodedProgram;
 ghost use mathlib.Core.Path.{_≡_};
 ghost use Rattle.program.specs.Decoded.{programOf};
+ghost use Rattle.program.specs.WellFormed.{WellFormed};
 ghost use Rattle.edit.specs.EditLines.{readEdit};
+ghost use Rattle.edit.specs.Editing.{wantedEdit};
 
 // A label is an action, or a call of a routine.
 pub enum Label {
@@ -39,4 +45,14 @@ pub fn read_edit(p: DecodedProgram, line: &[u8]) -> EditRead
     ensures { λ r. ⌜ r ≡ readEdit (programOf p) (now (line .entry)) ⌝ }
 {
     edit_from(p, only_line(line))
+}
+
+// The edit that a buffer says for a program, or the first refusal of 12 to 16 that it meets. The reader accepts only
+// well-formed programs: hence the `requires`.
+pub fn wanted_edit(p: DecodedProgram, line: &[u8]) -> EditRead
+    requires { ⌜ WellFormed (programOf p) ⌝ }
+    ensures { λ r. ⌜ r ≡ wantedEdit (programOf p) (now (line .entry)) ⌝ }
+{
+    let edges = p.edges;
+    wanted_by(read_edit(p, line), edges)
 }

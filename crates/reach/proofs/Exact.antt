@@ -1,5 +1,5 @@
 -- The marks of the full analysis are exactly the reachable configurations.
-use mathlib.Core.Path.{_≡_, sym, _∙_}
+use mathlib.Core.Path.{_≡_, refl, sym, _∙_}
 use mathlib.Core.Logic.{_↔_}
 use mathlib.Core.Option.{none}
 use Prim.Native.Nat.{ℕ}
@@ -14,10 +14,10 @@ use Rattle.reach.specs.Worklist.{Worklist, lowest, work, opened, blank, 
 use Rattle.reach.specs.Marks.{Marked}
 use Rattle.reach.proofs.Sizes.{sizes, Proper, initial-proper}
 use Rattle.reach.proofs.Flags.{lowest-none, zeros}
-use Rattle.reach.proofs.Kept.{analysis-shape}
+use Rattle.reach.proofs.Kept.{work-shape}
 use Rattle.reach.proofs.Follows.{Follows, work-follows, follows-exact, opened-follows}
 use Rattle.reach.proofs.Settled.{Settled, opened-settled}
-use Rattle.reach.proofs.Bound.{follow-ends, analysis-ends}
+use Rattle.reach.proofs.Bound.{follow-ends}
 
 -- ---- from any worklist that follows from seeds
 
@@ -32,6 +32,18 @@ module _ (p : Program) (w : WellFormed p) (S : Set) (h : Proper p S) (s : Workli
   -- 129 iterations a configuration are enough from a settled one
   pub follow-exact-ended : Settled s → (f n r q : ℕ) → Marked (work 2113536 p (lowest (s .pending) 0) s .marks) f n r q ↔ Derivable p S Any f n r q
   follow-exact-ended c = follow-exact 2113536 (follow-ends p S (sizes p w) h s v c)
+
+  -- and the bytes of what is pending are all 0
+  pub follow-clear : Settled s → work 2113536 p (lowest (s .pending) 0) s .pending ≡ none-set
+  unfolding none-set
+  follow-clear c =
+      let l = work 2113536 p (lowest (s .pending) 0) s .pending in
+      ext-getD 0 l none-set (work-shape 2113536 p (lowest (s .pending) 0) s refl (v .shape) .pending-length ∙ sym (length-replicate {A = ℕ} 16384 0))
+      (λ i b.
+      elim (ℕ-discrete (getD l i 0) 0) [
+        | yes e ↦ e ∙ sym (zeros 16384 i)
+        | no ne ↦ absurd (lowest-none l (follow-ends p S (sizes p w) h s v c) i (record { on = ne }))
+      ])
 
 -- ---- the full analysis
 
@@ -49,12 +61,7 @@ module _ (p : Program) (w : WellFormed p) where
       follow-exact-ended p w (Initial p) (initial-proper p z) (opened (p .automaton .initial) blank) (opened-follows p z) (opened-settled p z)
 
   pub pending-clear : analysis p .pending ≡ none-set
-  unfolding none-set
+  unfolding analysis
   pending-clear =
-      let z = analysis-shape p in
-      ext-getD 0 (analysis p .pending) none-set (z .pending-length ∙ sym (length-replicate {A = ℕ} 16384 0))
-      (λ i l.
-      elim (ℕ-discrete (getD (analysis p .pending) i 0) 0) [
-        | yes e ↦ e ∙ sym (zeros 16384 i)
-        | no ne ↦ absurd (lowest-none (analysis p .pending) (analysis-ends p w) i (record { on = ne }))
-      ])
+      let z = sizes p w in
+      follow-clear p w (Initial p) (initial-proper p z) (opened (p .automaton .initial) blank) (opened-follows p z) (opened-settled p z)

@@ -10,7 +10,7 @@ use Rattle.automaton.specs.declared.Event.the-variants.{Call}
 use Rattle.program.specs.Program.{Program}
 use Rattle.reach.specs.Configurations.{Set}
 use Rattle.reach.specs.Runs.{HasStep, Moves}
-use Rattle.reach.specs.Reachable.{Derivable, seeded, by-action, by-call, by-return, initial, Any, Reachable}
+use Rattle.reach.specs.Reachable.{Derivable, seeded, by-action, by-call, by-return, initial, Roots, root, Any, Reachable, Calls}
 
 -- ---- it grows
 
@@ -64,10 +64,6 @@ entry-of t (by-return d e v d′ v′ y) = entry-of t d
 
 -- ---- working anew from more roots
 
--- the entries of routines with roots R
-pub data Roots (R : ℕ → ℕ → Type 0) : ℕ → ℕ → ℕ → ℕ → Type 0 where
-  root : {f r : ℕ} → R f r → Roots R f 0 r r
-
 -- what is derived from roots, under a root whose entry is derivable, is derivable itself
 pub anew : {p : Program} {R : ℕ → ℕ → Type 0} {S W : Set} {f n r q : ℕ} → Derivable p (Roots R) W f n r q → Derivable p S Any f 0 r r
     → Derivable p S Any f n r q
@@ -77,16 +73,6 @@ anew (by-call d e v y) o = o
 anew (by-return d e v d′ v′ y) o = let h = anew d o in by-return h e v (anew d′ (by-call h e v tt)) v′ tt
 
 -- ---- an edit of one routine
-
--- some configuration of S has a step of f that calls g, with s the root of the called one
-pub record Calls (p : Program) (S : Set) (f g s : ℕ) : Type 0 where
-  pub node : ℕ
-  pub root : ℕ
-  pub state : ℕ
-  pub target : ℕ
-  pub holds : S f node root state
-  pub calls : HasStep p f node (Call g) target
-  pub moves : Moves p state (Call g) s
 
 -- p′ has what p has outside f, and of f its summaries and the roots that it gives to others
 pub record Same (f : ℕ) (p p′ : Program) : Type 0 where

@@ -17,3 +17,4 @@ pub mod Shown
 pub mod Violations
 pub mod Demands
 pub mod Cases
+pub mod Growing

@@ -28,12 +28,12 @@ all-in t [] h m = elim m [ ]
 all-in t (y ∷ ys) h (List·Memᴰ·head e) = ap t e ∙ h .0
 all-in t (y ∷ ys) h (List·Memᴰ·tail m) = all-in t ys (h .1) m
 
-either : (a b : Bool) {X : Type 0} → a || b ≡ true → (a ≡ true → X) → (b ≡ true → X) → X
+pub either : (a b : Bool) {X : Type 0} → a || b ≡ true → (a ≡ true → X) → (b ≡ true → X) → X
 either true b h f g = f refl
 either false b h f g = g h
 
 -- a listed move is one of a transition
-listed-in : (q a s : ℕ) (ts : List Transition) → listed q a s ts ≡ true → List·Memᴰ (record { before = q; action = a; after = s }) ts
+pub listed-in : (q a s : ℕ) (ts : List Transition) → listed q a s ts ≡ true → List·Memᴰ (record { before = q; action = a; after = s }) ts
 unfolding listed
 listed-in q a s [] h = absurd (let z : _≡_ {A = ℕ} 0 1 = cc in omega arith)
 listed-in q a s (t ∷ ts) h =
@@ -49,18 +49,18 @@ listed-in q a s (t ∷ ts) h =
 
 -- ---- the steps
 
-record Mapped {A B : Type 0} (f : A → B) (xs : List A) (y : B) : Type 0 where
-  from : A
-  member : List·Memᴰ from xs
-  is : y ≡ f from
+pub record Mapped {A B : Type 0} (f : A → B) (xs : List A) (y : B) : Type 0 where
+  pub from : A
+  pub member : List·Memᴰ from xs
+  pub is : y ≡ f from
 
-map-in : {A B : Type 0} (f : A → B) {y : B} (xs : List A) → List·Memᴰ y (map f xs) → Mapped f xs y
+pub map-in : {A B : Type 0} (f : A → B) {y : B} (xs : List A) → List·Memᴰ y (map f xs) → Mapped f xs y
 map-in f [] m = elim m [ ]
 map-in f (x ∷ xs) (List·Memᴰ·head e) = record { from = x; member = List·Memᴰ·head refl; is = e }
 map-in f (x ∷ xs) (List·Memᴰ·tail m) = let z = map-in f xs m in record { from = z .from; member = List·Memᴰ·tail (z .member); is = z .is }
 
 -- a label that is a call
-label-call : (a g : ℕ) (t : Bool) → cond t (Action a) (Call (a - 0x40)) ≡ Call g → (t ≡ false) × (a - 0x40 ≡ g)
+pub label-call : (a g : ℕ) (t : Bool) → cond t (Action a) (Call (a - 0x40)) ≡ Call g → (t ≡ false) × (a - 0x40 ≡ g)
 label-call a g true e = absurd (let z : _≡_ {A = ℕ} 0 1 = cc in omega arith)
 label-call a g false e = (refl, cc)
 

@@ -26,10 +26,10 @@ pub record Wakes (A : ℕ → Type 0) (s t : Worklist) : Type 0 where
   pub woken : {j : ℕ} → A j → On (s .marks) j → On (t .pending) j
   pub waits : {j : ℕ} → On (t .pending) j → On (s .pending) j ⊎ (A j × On (s .marks) j)
 
-wakes-none : {A : ℕ → Type 0} → ((j : ℕ) → ¬ (A j)) → (s : Worklist) → Wakes A s s
+pub wakes-none : {A : ℕ → Type 0} → ((j : ℕ) → ¬ (A j)) → (s : Worklist) → Wakes A s s
 wakes-none h s = record { marks = refl; known = refl; wait = λ x. x; woken = λ {j} x y. absurd (h j x); waits = λ x. inl x }
 
-wakes-join : {A B C : ℕ → Type 0} {s t u : Worklist} → ((j : ℕ) → C j → A j ⊎ B j) → ((j : ℕ) → A j → C j) → ((j : ℕ) → B j → C j)
+pub wakes-join : {A B C : ℕ → Type 0} {s t u : Worklist} → ((j : ℕ) → C j → A j ⊎ B j) → ((j : ℕ) → A j → C j) → ((j : ℕ) → B j → C j)
     → Wakes A s t → Wakes B t u → Wakes C s u
 wakes-join c ca cb a b =
     record {
@@ -44,7 +44,7 @@ wakes-join c ca cb a b =
           ];
     }
 
-wake-one : (i : ℕ) (s : Worklist) → i < 16384 → Shape s → Wakes (λ j. j ≡ i) s (wake i s)
+pub wake-one : (i : ℕ) (s : Worklist) → i < 16384 → Shape s → Wakes (λ j. j ≡ i) s (wake i s)
 wake-one i s h z =
     wake-by (λ t. Wakes (λ j. j ≡ i) s t) i s
     (λ e. record { marks = refl; known = refl; wait = λ x. x; woken = λ x y. absurd (eqb-off (s .marks) i e (rw x at y)); waits = λ x. inl x })

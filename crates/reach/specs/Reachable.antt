@@ -19,6 +19,10 @@ pub data Derivable (p : Program) (seed : Set) (within : Set) : ℕ → ℕ → �
 pub data Initial (p : Program) : ℕ → ℕ → ℕ → ℕ → Type 0 where
   initial : {q : ℕ} → List·Memᴰ q (p .automaton .initial) → Initial p 0 0 q q
 
+-- the entries of routines with roots R
+pub data Roots (R : ℕ → ℕ → Type 0) : ℕ → ℕ → ℕ → ℕ → Type 0 where
+  root : {f r : ℕ} → R f r → Roots R f 0 r r
+
 -- no filter
 abbrev pub Any : Set
 Any f n r q = Unit {0}
@@ -26,3 +30,13 @@ Any f n r q = Unit {0}
 -- the reachable configurations
 abbrev pub Reachable : Program → Set
 Reachable p = Derivable p (Initial p) Any
+
+-- some configuration of S has a step of f that calls g, with s the root of the called one
+pub record Calls (p : Program) (S : Set) (f g s : ℕ) : Type 0 where
+  pub node : ℕ
+  pub root : ℕ
+  pub state : ℕ
+  pub target : ℕ
+  pub holds : S f node root state
+  pub calls : HasStep p f node (Call g) target
+  pub moves : Moves p state (Call g) s

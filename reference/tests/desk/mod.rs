@@ -1,7 +1,12 @@
 //! The proved library, called as C calls it. Each comparison uses a part of it.
 #![allow(dead_code)]
 
+pub mod lent;
+pub mod trial;
+
 use reference::analysis::{AnalyzeAnswer, NextAnswer};
+use reference::keeping::KeepAnswer;
+use reference::repair::{Buffers, ForwardAnswer};
 use reference::write::{ReadAnswer, WriteAnswer};
 
 #[link(name = "desk", kind = "static")]
@@ -38,10 +43,33 @@ extern "C" {
         line: *mut u32,
         found: *mut u32,
     ) -> u32;
+    fn palthrenni_prune(
+        file: *const u8,
+        file_len: usize,
+        marks: *mut u8,
+        marks_len: usize,
+        work: *mut u8,
+        work_len: usize,
+        line: *mut u32,
+    ) -> u32;
+    fn palthrenni_repair_forward(
+        file: *const u8,
+        file_len: usize,
+        marks: *mut u8,
+        marks_len: usize,
+        edit: *const u8,
+        edit_len: usize,
+        output: *mut u8,
+        output_len: usize,
+        work: *mut u8,
+        work_len: usize,
+        line: *mut u32,
+        written: *mut u32,
+    ) -> u32;
 }
 
 /// What every number of an answer holds before the call, so that one which is not set shows.
-const NOT_SET: u32 = 0xDEAD_BEEF;
+pub const NOT_SET: u32 = 0xDEAD_BEEF;
 
 pub fn read(file: &[u8]) -> ReadAnswer {
     let mut line = NOT_SET;
@@ -211,5 +239,70 @@ unsafe fn next_violation_at(
         refusal,
         line,
         found,
+    }
+}
+
+/// Where a buffer is; NULL for one of no bytes, which is never looked into.
+pub fn place_of(buffer: &[u8]) -> *const u8 {
+    if buffer.is_empty() {
+        std::ptr::null()
+    } else {
+        buffer.as_ptr()
+    }
+}
+
+/// The same for a buffer that is lent for changing.
+pub fn place_of_mut(buffer: &mut [u8]) -> *mut u8 {
+    if buffer.is_empty() {
+        std::ptr::null_mut()
+    } else {
+        buffer.as_mut_ptr()
+    }
+}
+
+/// The keeping, with NULL for each buffer of no bytes.
+pub fn prune(file: &[u8], marks: &mut [u8], work: &mut [u8]) -> KeepAnswer {
+    let mut line = NOT_SET;
+    // SAFETY: the slices live through the call and do not overlap, as two are lent for changing; the
+    // number is this function's own.
+    let refusal = unsafe {
+        palthrenni_prune(
+            place_of(file),
+            file.len(),
+            place_of_mut(marks),
+            marks.len(),
+            place_of_mut(work),
+            work.len(),
+            &mut line,
+        )
+    };
+    KeepAnswer { refusal, line }
+}
+
+/// A forward repair, with NULL for each buffer of no bytes.
+pub fn repair_forward(file: &[u8], lent: &mut Buffers) -> ForwardAnswer {
+    let (mut line, mut written) = (NOT_SET, NOT_SET);
+    // SAFETY: the slices live through the call and do not overlap, as three are lent for changing;
+    // the numbers are this function's own.
+    let refusal = unsafe {
+        palthrenni_repair_forward(
+            place_of(file),
+            file.len(),
+            place_of_mut(lent.sheet),
+            lent.sheet.len(),
+            place_of(lent.line),
+            lent.line.len(),
+            place_of_mut(lent.output),
+            lent.output.len(),
+            place_of_mut(lent.work),
+            lent.work.len(),
+            &mut line,
+            &mut written,
+        )
+    };
+    ForwardAnswer {
+        refusal,
+        line,
+        written,
     }
 }

@@ -1,0 +1,87 @@
+-- What is proved of edits.
+use mathlib.Core.Path.{_≡_, refl, ap}
+use mathlib.Core.List.{List}
+use Prim.Native.Nat.{ℕ, _<_}
+use lib.ListN.{length}
+use Rattle.text.specs.Lines.{Bytes}
+use Rattle.program.specs.Program.{Program}
+use Rattle.program.specs.Frames.{edgeFrame}
+use Rattle.program.specs.WellFormed.{WellFormed}
+use Rattle.program.specs.Writing.{written}
+use Rattle.program.specs.Reading.{accepted, readFile}
+use Rattle.program.proofs.Bytes.{edge-bytes}
+use Rattle.program.proofs.Theorems.{read-again}
+use Rattle.edit.specs.Edits.{edgeOfStep}
+use Rattle.edit.specs.EditLines.{readEdit}
+use Rattle.edit.specs.Editing.{inserted, without, withEdges, editedProgram, wantedEdit, Applies}
+use Rattle.edit.specs.Book.{bookEdges, sorted, bookProgram}
+use Rattle.edit.specs.declared.Label.{Label}
+use Rattle.edit.specs.declared.Step.{Step}
+use Rattle.edit.specs.declared.Edit.{Edit}
+use Rattle.edit.specs.declared.Edit.the-variants.{Add, Drop, Replace}
+use Rattle.edit.specs.declared.EditRead.the-variants.{Read}
+use Rattle.edit.proofs.Booked.{read-sorted, judged-sorted, sorted-book}
+use Rattle.edit.proofs.Kept.{edited-well-formed}
+use Rattle.edit.proofs.Refusing.{read-fits, judged-applies, drop-not-refused, add-not-refused, room-left}
+
+-- An edit line that is not refused says an edit that applies.
+pub wanted-applies : (p : Program) (line : List ℕ) (e : Edit) → wantedEdit p line ≡ Read e → Applies e p
+unfolding wantedEdit
+wanted-applies p line e h = judged-applies p (readEdit p line) e (read-fits p line) h
+
+-- An edit that applies keeps a program well-formed.
+pub applied-well-formed : (e : Edit) (p : Program) → WellFormed p → Applies e p → WellFormed (editedProgram e p)
+applied-well-formed e p w a = edited-well-formed e p w (a .old-fits) (a .new-fits) (a .not-refused)
+
+-- The edited program, written, is accepted and read as that program.
+pub edited-read : (e : Edit) (p : Program) → WellFormed p → Applies e p → readFile (written (editedProgram e p)) ≡ accepted (editedProgram e p)
+edited-read e p w a = read-again (editedProgram e p) (applied-well-formed e p w a)
+
+-- An add is one step more, a drop is one less.
+module _ (s : Step) (p : Program) where
+  pub added-is : editedProgram (Add s) p ≡ withEdges p (inserted (edgeOfStep s) (p .edges))
+  unfolding editedProgram
+  added-is = refl
+
+  pub dropped-is : editedProgram (Drop s) p ≡ withEdges p (without (edgeOfStep s) (p .edges))
+  unfolding editedProgram
+  dropped-is = refl
+
+-- The step with another label.
+abbrev pub relabelled : Step → Label → Step
+relabelled s l = record { routine = s .routine; source = s .source; label = l; target = s .target }
+
+-- A replace is a drop of the step, and then an add of the step with the new label.
+pub replaced-is : (s : Step) (l : Label) (p : Program) → editedProgram (Replace s l) p ≡ editedProgram (Add (relabelled s l)) (editedProgram (Drop s) p)
+unfolding editedProgram
+replaced-is s l p = refl
+
+-- Where the replace applies, so does that drop, and then that add.
+pub drop-applies : (s : Step) (l : Label) (p : Program) → Applies (Replace s l) p → Applies (Drop s) p
+drop-applies s l p a = record { old-fits = a .old-fits; new-fits = a .old-fits; not-refused = drop-not-refused s l (p .edges) (a .not-refused) }
+
+pub add-applies : (s : Step) (l : Label) (p : Program) → WellFormed p → Applies (Replace s l) p → Applies (Add (relabelled s l)) (editedProgram (Drop s) p)
+unfolding editedProgram
+add-applies s l p w a =
+    record {
+      old-fits = a .new-fits;
+      new-fits = a .new-fits;
+      not-refused = add-not-refused s l (p .edges) (w .edges-limited) (a .not-refused);
+    }
+
+-- A step that is to be added is of bytes, and there is room for it; a step that is to be dropped is of bytes.
+pub add-ready : (s : Step) (p : Program) → WellFormed p → Applies (Add s) p → Bytes (edgeFrame (edgeOfStep s)) × (length (p .edges) < 256)
+add-ready s p w a = (edge-bytes p w (edgeOfStep s) (a .old-fits), room-left s (p .edges) (a .not-refused))
+
+pub drop-ready : (s : Step) (p : Program) → WellFormed p → Applies (Drop s) p → Bytes (edgeFrame (edgeOfStep s))
+drop-ready s p w a = edge-bytes p w (edgeOfStep s) (a .old-fits)
+
+-- The book's set of edges, in whatever order, meets the refusals that its program meets.
+pub wanted-sorted : (b : Program) (line : List ℕ) → wantedEdit (bookProgram b) line ≡ wantedEdit b line
+unfolding wantedEdit
+wanted-sorted b line = rw (read-sorted b (sorted (b .edges)) line) (judged-sorted (readEdit b line) (b .edges))
+
+-- The program of the book after an edit is the book's program, edited.
+pub booked : (b : Program) (e : Edit) → bookProgram (withEdges b (bookEdges e (b .edges))) ≡ editedProgram e (bookProgram b)
+unfolding editedProgram
+booked b e = ap (withEdges b) (sorted-book e (b .edges))

@@ -1,0 +1,21 @@
+use mathlib.Core.Path.{_∙_}
+use Rattle.edit.specs.Editing.{wantedEdit}
+use Rattle.edit.proofs.Refusing.{line-keyed}
+use borrow.Author.Needs.{needs}
+use Rattle.edit.proofs.wanted_edit.Statement.{statement}
+use Rattle.edit.proofs.wanted_edit.Tie as tie
+
+read-edit-requires : tie.Need-read-edit-requires
+read-edit-requires c κs = search needs
+
+wanted-by-requires : tie.Need-wanted-by-requires
+wanted-by-requires c κs =
+    let z = c .before .before .before in
+    rw (c .read-edit .ensures) (line-keyed _ (z .pre) (z .args .line .now))
+
+returns : tie.Need-returns
+unfolding wantedEdit
+returns c = c .wanted-by .ensures ∙ rw (c .before .read-edit .ensures)
+
+pub wanted-edit-spec : {M : Type 1} → statement M
+wanted-edit-spec = tie.close (tie.spec read-edit-requires wanted-by-requires returns)

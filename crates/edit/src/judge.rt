@@ -1,0 +1,80 @@
+// The refusals 14 to 16 of an edit that was read.
+use crate::Edit;
+use crate::EditRead;
+use crate::key::new_key;
+use crate::key::old_key;
+use crate::table::has_key;
+use automaton::Table;
+ghost use mathlib.Core.Path.{_≡_};
+ghost use mathlib.Core.Bool.{cond};
+ghost use mathlib.Core.List.{map};
+ghost use lib.Dec.{eqb};
+ghost use Rattle.automaton.specs.Decoded.{keysOf};
+ghost use Rattle.program.specs.Decoded.{edgeOf};
+ghost use Rattle.edit.specs.Editing.{editRefusal, wantedBy};
+ghost use Rattle.edit.specs.Tables.{Keyed, KeyedRead, refusalBy};
+ghost use Rattle.edit.specs.declared.EditRead.the-variants.{Read, Refused};
+
+// By whether the old edge is there, whether the new one is, and whether the table is full.
+fn refusal_by(e: Edit, old: bool, new: bool, full: bool) -> u8
+    ensures { λ r. ⌜ r ≡ refusalBy e old new full ⌝ }
+{
+    match e {
+        Edit::Add(_) => {
+            if new {
+                return 15;
+            }
+            if full {
+                return 16;
+            }
+            0
+        }
+        Edit::Drop(_) => {
+            if !old {
+                return 14;
+            }
+            0
+        }
+        Edit::Replace(_, _) => {
+            if old {
+                if new {
+                    return 15;
+                }
+                return 0;
+            }
+            14
+        }
+    }
+}
+
+// 14: drop or replace, and the step is not there; 15: add or replace, and the wanted step is there; 16: add, and there
+// are 256. The edges of an edit that was read are of bytes: hence the `requires`.
+fn edit_refusal(e: Edit, t: Table) -> u8
+    requires { ⌜ Keyed e ⌝ }
+    ensures { λ r. ⌜ r ≡ editRefusal e (map edgeOf (keysOf t)) ⌝ }
+{
+    let old = has_key(t, old_key(e));
+    let new = has_key(t, new_key(e));
+    refusal_by(e, old, new, 256 <= t.count)
+}
+
+// The edit, or its refusal.
+fn edit_unless(e: Edit, n: u8) -> EditRead
+    ensures { λ r. ⌜ r ≡ cond (eqb n 0) (Read e) (Refused n) ⌝ }
+{
+    if n == 0 {
+        return EditRead::Read(e);
+    }
+    EditRead::Refused(n)
+}
+
+// An edit that was read, judged by a table of edges; a refusal stays.
+pub fn wanted_by(r: EditRead, t: Table) -> EditRead
+    requires { ⌜ KeyedRead r ⌝ }
+    ensures { λ w. ⌜ w ≡ wantedBy r (map edgeOf (keysOf t)) ⌝ }
+{
+    match r {
+        EditRead::Read(e) => edit_unless(e, edit_refusal(e, t)),
+        EditRead::Refused(n) => EditRead::Refused(n),
+    }
+}

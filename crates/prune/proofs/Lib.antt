@@ -1,0 +1,7 @@
+pub mod Asked
+pub mod Scanned
+pub mod Passes
+pub mod Supporting
+pub mod Closed
+pub mod Answered
+pub mod Theorems

@@ -1,0 +1,257 @@
+-- What the search over edges and transitions means: it finds support just where there is some.
+use mathlib.Core.Path.{_≡_, refl, sym, ap, subst, _∙_}
+use mathlib.Core.Logic.{_≢_}
+use mathlib.Core.Bool.{Bool, true, false, cond, _&&_, not, or-true}
+use mathlib.Core.List.{List, [], _∷_, map, List·Memᴰ, List·Memᴰ·head, List·Memᴰ·tail}
+use Prim.Native.Nat.{ℕ, _+_, _-_, _*_, _/_, _%_, _<_}
+use native.Mathlib.Omega.{arith}
+use lib.Dec.{eqb, ltb}
+use lib.ListN.{getD, take}
+use borrow.Author.Tests.{eqb-true, eqb-false, ltb-true, ltb-false, not-true, eq-eqb, ne-eqb, le-ltb}
+use Rattle.automaton.specs.Automaton.{Transition, goes, listed, moves}
+use Rattle.automaton.specs.Decoded.{transitionOf}
+use Rattle.automaton.specs.declared.Event.{Event}
+use Rattle.automaton.specs.declared.Event.the-variants.{Action, Call}
+use Rattle.program.specs.Program.{Edge, Program, transitionFits}
+use Rattle.program.specs.Decoded.{edgeOf}
+use Rattle.program.proofs.Judged.{both}
+use Rattle.reach.specs.Configurations.{Set, InRange, number}
+use Rattle.reach.specs.Runs.{Step, labelOf, stepOf, HasStep, Moves}
+use Rattle.reach.specs.Marks.{Marked}
+use Rattle.reach.proofs.Numbers.{number-state, number-root}
+use Rattle.reach.proofs.Sizes.{Sizes, sizes, all-in, either, listed-in, map-in, label-call}
+use Rattle.analysis.proofs.Table.{isSet}
+use Rattle.prune.specs.Parts.{anyFrom, anyKey, rootKept, returnKept, entrySupports, returnSupports, callSupports, lineSupports, linesToTry, actionSupports, edgeSupports, supports, Tables}
+use Rattle.prune.proofs.Asked.{never, found-from, any-from, found-key, any-key, in-map}
+
+-- a configuration has support in K by an action, by being called, or after a call
+pub data Supported (p : Program) (K : Set) : ℕ → ℕ → ℕ → ℕ → Type 0 where
+  by-edge : {f n r q k a y : ℕ} → HasStep p f k (Action a) n → Moves p y (Action a) q → K f k r y → Supported p K f n r q
+  as-called : {f q g k x m : ℕ} → HasStep p g k (Call f) m → K g k x q → Supported p K f 0 q q
+  as-returned : {f n r q k g y : ℕ} → HasStep p f k (Call g) n → K f k r y → K g 1 y q → Supported p K f n r q
+
+-- ---- tests
+
+cond-true : (b x : Bool) → cond b x false ≡ true → (b ≡ true) × (x ≡ true)
+cond-true true x e = (refl, e)
+cond-true false x e = never e refl
+
+cond-false : (b x : Bool) → cond b false x ≡ true → (b ≡ false) × (x ≡ true)
+cond-false true x e = never e refl
+cond-false false x e = (refl, e)
+
+pub set-byte : (l : List ℕ) (j : ℕ) → isSet l j ≡ true → getD l j 0 ≢ 0
+set-byte l j e = eqb-false (getD l j 0) 0 (not-true (eqb (getD l j 0) 0) e)
+
+pub byte-set : (l : List ℕ) (j : ℕ) → getD l j 0 ≢ 0 → isSet l j ≡ true
+byte-set l j h = ap not (ne-eqb (getD l j 0) 0 h)
+
+-- the transitions are tried for an action that leads there
+tried-lines : (t : ℕ → Bool) (lines : List ℕ) (k : ℕ) (b c : Bool) → anyKey t (take (cond b (cond c k 0) 0) lines) ≡ true
+    → (b ≡ true) × (c ≡ true) × (anyKey t (take k lines) ≡ true)
+unfolding anyKey
+tried-lines t lines k true true e = (refl, refl, e)
+tried-lines t lines k true false e = never e refl
+tried-lines t lines k false c e = never e refl
+
+line-found : (kept : List ℕ) (wanted base line : ℕ) → lineSupports kept wanted base line ≡ true
+    → (line % 0x10000 ≡ wanted) × (isSet kept (base + line / 0x10000) ≡ true)
+unfolding lineSupports
+line-found kept wanted base line e =
+    let c = cond-true (eqb (line % 0x10000) wanted) (isSet kept (base + line / 0x10000)) e in
+    (eqb-true (line % 0x10000) wanted (c .0), c .1)
+
+line-supports : (kept : List ℕ) (wanted base line : ℕ) → line % 0x10000 ≡ wanted → getD kept (base + line / 0x10000) 0 ≢ 0
+    → lineSupports kept wanted base line ≡ true
+unfolding lineSupports
+line-supports kept wanted base line e h = rw (eq-eqb (line % 0x10000) wanted e) (byte-set kept (base + line / 0x10000) h)
+
+-- ---- labels
+
+call-label : (a : ℕ) → ltb a 0x40 ≡ false → labelOf a ≡ Call (a - 0x40)
+call-label a e = rw e refl
+
+action-label : (a : ℕ) → ltb a 0x40 ≡ true → labelOf a ≡ Action a
+action-label a e = rw e refl
+
+label-action : (a b : ℕ) (t : Bool) → cond t (Action a) (Call (a - 0x40)) ≡ Action b → (t ≡ true) × (a ≡ b)
+label-action a b true e = (refl, cc)
+label-action a b false e = absurd (let z : _≡_ {A = ℕ} 0 1 = cc in omega arith)
+
+-- ---- transitions
+
+in-listed : (t : Transition) (ts : List Transition) → List·Memᴰ t ts → listed (t .before) (t .action) (t .after) ts ≡ true
+unfolding listed
+in-listed t [] m = elim m [ ]
+in-listed t (u ∷ ts) (List·Memᴰ·head e) =
+    rw (← e, eq-eqb (t .before) (t .before) refl, eq-eqb (t .action) (t .action) refl, eq-eqb (t .after) (t .after) refl) refl
+in-listed t (u ∷ ts) (List·Memᴰ·tail m) = rw (in-listed t ts m, or-true (goes (t .before) (t .action) (t .after) u)) refl
+
+-- ---- the keys of edges
+
+-- the key of a step
+record Keyed (keys : List ℕ) (m f n : ℕ) (l : Event) (t : ℕ) : Type 0 where
+  key : ℕ
+  member : List·Memᴰ key (take m keys)
+  routine : key / 0x1000000 ≡ f
+  source : key / 0x10000 % 256 ≡ n
+  label : labelOf (key / 0x100 % 256) ≡ l
+  target : key % 256 ≡ t
+
+module _ (p : Program) (keys : List ℕ) (m : ℕ) (lines : List ℕ) (k : ℕ) (t : Tables p keys m lines k) where
+  z : Sizes p
+  z = sizes p (t .well-formed)
+
+  has-step : (key : ℕ) → List·Memᴰ key (take m keys) → HasStep p (key / 0x1000000) (key / 0x10000 % 256) (labelOf (key / 0x100 % 256)) (key % 256)
+  has-step key h = subst (λ (es : List Edge). List·Memᴰ (stepOf (edgeOf key)) (map stepOf es)) (sym (t .edges)) (in-map stepOf (map edgeOf (take m keys)) (in-map edgeOf (take m keys) h))
+
+  keyed : {f n s : ℕ} {l : Event} → HasStep p f n l s → Keyed keys m f n l s
+  keyed h =
+      let x = map-in stepOf (p .edges) h in
+      let y = map-in edgeOf (take m keys) (subst (λ (es : List Edge). List·Memᴰ (x .from) es) (t .edges) (x .member)) in
+      let e : _≡_ {A = Step} (record { routine = _; source = _; label = _; target = _ }) (stepOf (edgeOf (y .from))) = x .is ∙ ap stepOf (y .is) in
+      record {
+        key = y .from;
+        member = y .member;
+        routine = sym (ap (λ (s : Step). s .routine) e);
+        source = sym (ap (λ (s : Step). s .source) e);
+        label = sym (ap (λ (s : Step). s .label) e);
+        target = sym (ap (λ (s : Step). s .target) e);
+      }
+
+  -- ---- what the search finds is support
+
+  module _ (kept : List ℕ) {f n r q : ℕ} (g : InRange f n r q) where
+    entry-found : (key : ℕ) → List·Memᴰ key (take m keys) → entrySupports kept key f n r q ≡ true → Supported p (Marked kept) f n r q
+    unfolding entrySupports rootKept
+    entry-found key h e =
+        let label = key / 0x100 % 256 in
+        let from = key / 0x1000000 in
+        let source = key / 0x10000 % 256 in
+        let c = cond-true (eqb n 0 && eqb r q && eqb label (64 + f)) (anyFrom (λ x. isSet kept (number from source 0 q + 8 * x)) 8 0) e in
+        let d = both (eqb n 0 && eqb r q) (eqb label (64 + f)) (c .0) in
+        let u = both (eqb n 0) (eqb r q) (d .0) in
+        let x = found-from (λ x. isSet kept (number from source 0 q + 8 * x)) 8 0 (c .1) in
+        let is-call : label ≡ 64 + f = eqb-true label (64 + f) (d .1) in
+        let called : labelOf label ≡ Call f = call-label label (le-ltb label 0x40 (omega arith)) ∙ ap Call (omega arith) in
+        let s : HasStep p from source (Call f) (key % 256) = subst (λ (l : Event). HasStep p from source l (key % 256)) called (has-step key h) in
+        let k : Marked kept from source (x .at) q =
+        (record { routine = z .routine s; node = z .source s; root = omega (arith, x .below); state = g .state }, rw (number-root from source (x .at) q) at (set-byte kept (number from source 0 q + 8 * x .at) (x .test))) in
+        rw (eqb-true n 0 (u .0), eqb-true r q (u .1)) (as-called s k)
+
+    return-found : (key : ℕ) → List·Memᴰ key (take m keys) → returnSupports kept key f n r q ≡ true → Supported p (Marked kept) f n r q
+    unfolding returnSupports returnKept
+    return-found key h e =
+        let label = key / 0x100 % 256 in
+        let from = key / 0x1000000 in
+        let source = key / 0x10000 % 256 in
+        let test : ℕ → Bool = λ y. isSet kept (number f source r 0 + y) && isSet kept (number (label - 64) 1 0 q + 8 * y) in
+        let c = cond-true (eqb from f && eqb (key % 256) n) (cond (ltb label 64) false (anyFrom test 8 0)) e in
+        let d = both (eqb from f) (eqb (key % 256) n) (c .0) in
+        let w = cond-false (ltb label 64) (anyFrom test 8 0) (c .1) in
+        let y = found-from test 8 0 (w .1) in
+        let b = both (isSet kept (number f source r 0 + y .at)) (isSet kept (number (label - 64) 1 0 q + 8 * y .at)) (y .test) in
+        let s : HasStep p f source (Call (label - 64)) n = rw (← (call-label label (w .0)), ← (eqb-true from f (d .0)), ← (eqb-true (key % 256) n (d .1))) (has-step key h) in
+        let small : y .at < 8 = omega (arith, y .below) in
+        let caller : Marked kept f source r (y .at) =
+        (record { routine = g .routine; node = z .source s; root = g .root; state = small }, rw (number-state f source r (y .at)) at (set-byte kept (number f source r 0 + y .at) (b .0))) in
+        let exit : Marked kept (label - 64) 1 (y .at) q =
+        (record { routine = z .called s; node = omega arith; root = small; state = g .state }, rw (number-root (label - 64) 1 (y .at) q) at (set-byte kept (number (label - 64) 1 0 q + 8 * y .at) (b .1))) in
+        as-returned s caller exit
+
+    action-found : (key : ℕ) → List·Memᴰ key (take m keys) → actionSupports kept lines k f n r q key ≡ true → Supported p (Marked kept) f n r q
+    unfolding actionSupports linesToTry moves
+    action-found key h e =
+        let label = key / 0x100 % 256 in
+        let from = key / 0x1000000 in
+        let source = key / 0x10000 % 256 in
+        let test : ℕ → Bool = lineSupports kept (label * 256 + q) (number f source r 0) in
+        let c = tried-lines test lines k (eqb from f && eqb (key % 256) n) (ltb label 64) e in
+        let d = both (eqb from f) (eqb (key % 256) n) (c .0) in
+        let x = found-key test (take k lines) (c .2) in
+        let line = x .key in
+        let w = line-found kept (label * 256 + q) (number f source r 0) line (x .test) in
+        let rule = p .automaton in
+        let member : List·Memᴰ (transitionOf line) (rule .transitions) =
+        subst (λ (ts : List Transition). List·Memᴰ (transitionOf line) ts) (sym (t .transitions)) (in-map transitionOf (take k lines) (x .member)) in
+        let fits = all-in (transitionFits rule) (rule .transitions) (t .well-formed .transitions-fit) member in
+        let parts = both (ltb (line / 0x10000) (rule .states) && ltb (line / 0x100 % 256) (rule .actions)) (ltb (line % 256) (rule .states)) fits in
+        let before = ltb-true (line / 0x10000) (rule .states) (both (ltb (line / 0x10000) (rule .states)) (ltb (line / 0x100 % 256) (rule .actions)) (parts .0) .0) in
+        let small : line / 0x10000 < 8 = omega (arith, z .states) in
+        let on : line / 0x100 % 256 ≡ label = omega (arith, w .0, g .state) in
+        let after : line % 256 ≡ q = omega (arith, w .0, g .state) in
+        let v : Moves p (line / 0x10000) (Action label) q = rw (on, after) at (in-listed (transitionOf line) (rule .transitions) member) in
+        let s : HasStep p f source (Action label) n = rw (← (action-label label (c .1)), ← (eqb-true from f (d .0)), ← (eqb-true (key % 256) n (d .1))) (has-step key h) in
+        let from-there : Marked kept f source r (line / 0x10000) =
+        (record { routine = g .routine; node = z .source s; root = g .root; state = small }, rw (number-state f source r (line / 0x10000)) at (set-byte kept (number f source r 0 + line / 0x10000) (w .1))) in
+        by-edge s v from-there
+
+    pub supports-sound : supports keys m lines k kept f n r q ≡ true → Supported p (Marked kept) f n r q
+    unfolding supports edgeSupports callSupports
+    supports-sound e =
+        let x = found-key (edgeSupports kept lines k f n r q) (take m keys) e in
+        either (callSupports kept (x .key) f n r q) (actionSupports kept lines k f n r q (x .key)) (x .test)
+        (λ c. either (entrySupports kept (x .key) f n r q) (returnSupports kept (x .key) f n r q) c (entry-found (x .key) (x .member)) (return-found (x .key) (x .member)))
+        (action-found (x .key) (x .member))
+
+  -- ---- the search finds the support there is
+
+  module _ (kept : List ℕ) where
+    by-key : (f n r q key : ℕ) → List·Memᴰ key (take m keys) → edgeSupports kept lines k f n r q key ≡ true → supports keys m lines k kept f n r q ≡ true
+    unfolding supports
+    by-key f n r q key h e = any-key (edgeSupports kept lines k f n r q) (take m keys) h e
+
+    entry-there : (f n r q key x : ℕ) → n ≡ 0 → r ≡ q → key / 0x100 % 256 ≡ 64 + f → x < 8
+        → getD kept (number (key / 0x1000000) (key / 0x10000 % 256) x q) 0 ≢ 0 → edgeSupports kept lines k f n r q key ≡ true
+    unfolding edgeSupports callSupports entrySupports rootKept
+    entry-there f n r q key x a b c h o =
+        let base = number (key / 0x1000000) (key / 0x10000 % 256) 0 q in
+        let e = any-from (λ x. isSet kept (base + 8 * x)) 8 0 x (omega arith) (omega arith) (byte-set kept (base + 8 * x) (rw (number-root (key / 0x1000000) (key / 0x10000 % 256) x q) o)) in
+        rw (eq-eqb n 0 a, eq-eqb r q b, eq-eqb (key / 0x100 % 256) (64 + f) c, e) refl
+
+    return-there : (f n r q key y : ℕ) → key / 0x1000000 ≡ f → key % 256 ≡ n → ltb (key / 0x100 % 256) 64 ≡ false → y < 8
+        → getD kept (number f (key / 0x10000 % 256) r y) 0 ≢ 0 → getD kept (number (key / 0x100 % 256 - 64) 1 y q) 0 ≢ 0 → edgeSupports kept lines k f n r q key ≡ true
+    unfolding edgeSupports callSupports returnSupports returnKept
+    return-there f n r q key y a b c h o o′ =
+        let caller = number f (key / 0x10000 % 256) r 0 in
+        let exit = number (key / 0x100 % 256 - 64) 1 0 q in
+        let u : isSet kept (caller + y) ≡ true = byte-set kept (caller + y) (rw (number-state f (key / 0x10000 % 256) r y) o) in
+        let v : isSet kept (exit + 8 * y) ≡ true = byte-set kept (exit + 8 * y) (rw (number-root (key / 0x100 % 256 - 64) 1 y q) o′) in
+        let e = any-from (λ y. isSet kept (caller + y) && isSet kept (exit + 8 * y)) 8 0 y (omega arith) (omega arith) (rw (u, v) refl) in
+        rw (eq-eqb (key / 0x1000000) f a, eq-eqb (key % 256) n b, c, e, or-true (entrySupports kept key f n r q)) refl
+
+    action-there : (f n r q key line : ℕ) → key / 0x1000000 ≡ f → key % 256 ≡ n → ltb (key / 0x100 % 256) 64 ≡ true → List·Memᴰ line (take k lines)
+        → line % 0x10000 ≡ key / 0x100 % 256 * 256 + q → getD kept (number f (key / 0x10000 % 256) r (line / 0x10000)) 0 ≢ 0 → edgeSupports kept lines k f n r q key ≡ true
+    unfolding edgeSupports actionSupports linesToTry
+    action-there f n r q key line a b c h w o =
+        let base = number f (key / 0x10000 % 256) r 0 in
+        let wanted = key / 0x100 % 256 * 256 + q in
+        let u = line-supports kept wanted base line w (rw (number-state f (key / 0x10000 % 256) r (line / 0x10000)) o) in
+        let e = any-key (lineSupports kept wanted base) (take k lines) h u in
+        rw (eq-eqb (key / 0x1000000) f a, eq-eqb (key % 256) n b, c, e, or-true (callSupports kept key f n r q)) refl
+
+    pub supports-found : {f n r q : ℕ} → Supported p (Marked kept) f n r q → supports keys m lines k kept f n r q ≡ true
+    unfolding moves
+    supports-found {f} {n} {r} {q} (by-edge {a = a} {y = y} e v o) =
+        let x = keyed e in
+        let c = label-action (x .key / 0x100 % 256) a (ltb (x .key / 0x100 % 256) 0x40) (x .label) in
+        let there = subst (λ (ts : List Transition). List·Memᴰ (record { before = y; action = a; after = q }) ts) (t .transitions) (listed-in y a q (p .automaton .transitions) v) in
+        let l = map-in transitionOf (take k lines) there in
+        let before : y ≡ l .from / 0x10000 = ap (λ (s : Transition). s .before) (l .is) in
+        let action : a ≡ l .from / 0x100 % 256 = ap (λ (s : Transition). s .action) (l .is) in
+        let after : q ≡ l .from % 256 = ap (λ (s : Transition). s .after) (l .is) in
+        by-key f n r q (x .key) (x .member)
+        (action-there f n r q (x .key) (l .from) (x .routine) (x .target) (c .0) (l .member) (omega (arith, c .1)) (rw (x .source, ← before) (o .1)))
+    supports-found {f} {n} {r} {q} (as-called {x = x} e o) =
+        let y = keyed e in
+        let label = y .key / 0x100 % 256 in
+        let c = label-call label f (ltb label 0x40) (y .label) in
+        let high = ltb-false label 0x40 (c .0) in
+        by-key f n r q (y .key) (y .member)
+        (entry-there f n r q (y .key) x refl refl (omega (arith, c .1)) (o .0 .root) (rw (y .routine, y .source) (o .1)))
+    supports-found {f} {n} {r} {q} (as-returned {g = g} {y = y} e o o′) =
+        let x = keyed e in
+        let label = x .key / 0x100 % 256 in
+        let c = label-call label g (ltb label 0x40) (x .label) in
+        by-key f n r q (x .key) (x .member)
+        (return-there f n r q (x .key) y (x .routine) (x .target) (c .0) (o .0 .state) (rw (x .source) (o .1)) (rw (c .1) (o′ .1)))

@@ -1,0 +1,38 @@
+-- `prune::keep` meets its contract.
+use mathlib.Core.Path.{refl, _∙_}
+use borrow.Author.Needs.{needs}
+use Rattle.program.specs.Decoded.{programOf}
+use Rattle.prune.proofs.Closed.{cleared-sound}
+use Rattle.prune.proofs.keep.Statement.{statement}
+use Rattle.prune.proofs.keep.Tie as tie
+
+clear-requires : tie.Need-clear-requires
+clear-requires c κs = search needs
+
+keep-starts-requires : tie.Need-keep-starts-requires
+keep-starts-requires c κs = search needs
+
+keep-supported-requires : tie.Need-keep-supported-requires
+keep-supported-requires c κs =
+    let z = c .before .before .before .before .before .before .before .before .before .before .before .before .before .before .pre in
+    (z .1 .0, c .before .before .before .keep-starts .kept .1 .1 .0 ∙ c .before .before .before .before .before .before .before .clear .kept .0 ∙ z .1 .1)
+
+same-length : tie.Need-same-length
+same-length c = search needs
+
+returns : tie.Need-returns
+returns c =
+    let z = c .before .before .before .before .before .before .before .before .before .before .before .before .before .before .before .before .before in
+    let p = programOf (z .args .p) in
+    let s = cleared-sound p (z .args .marks .now) (c .before .before .before .before .before .before .before .before .before .before .clear .ensures) (z .pre .1 .1) in
+    c .before .before .keep-supported .ensures p (z .pre .0) refl refl (c .before .before .before .before .before .before .keep-starts .ensures p refl s)
+
+pub keep-spec : {M : Type 1} → statement M
+keep-spec =
+    tie.close
+    (tie.spec
+    clear-requires
+    keep-starts-requires
+    keep-supported-requires
+    same-length
+    returns)

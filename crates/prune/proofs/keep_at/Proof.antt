@@ -1,0 +1,77 @@
+-- `prune::keep_at` meets its contract.
+use mathlib.Core.Path.{refl, sym, _∙_}
+use borrow.Author.Tests.{eq-eqb, ne-eqb}
+use Rattle.reach.specs.Configurations.{routineOf, nodeOf, rootOf, stateOf}
+use Rattle.prune.specs.Parts.{keepsAt}
+use borrow.Author.Needs.{needs}
+use Rattle.prune.proofs.keep_at.Statement.{statement}
+use Rattle.prune.proofs.keep_at.Tie as tie
+
+shared-slice-read-if1 : tie.Need-shared-slice-read-if1
+shared-slice-read-if1 c = search needs
+
+returns : tie.Need-returns
+unfolding keepsAt
+returns c = (rw (eq-eqb _ _ (c .if1 .taken)) refl, refl)
+
+slice-read-if2 : tie.Need-slice-read-if2
+slice-read-if2 c = search needs
+
+returns-2 : tie.Need-returns-2
+unfolding keepsAt
+returns-2 c = (rw (ne-eqb _ _ (c .before .before .if1 .left), ne-eqb _ _ (c .if2 .taken)) refl, refl)
+
+cast-f : tie.Need-cast-f
+cast-f c = search needs
+
+cast-n : tie.Need-cast-n
+cast-n c = search needs
+
+cast-r : tie.Need-cast-r
+cast-r c = search needs
+
+cast-q : tie.Need-cast-q
+cast-q c = search needs
+
+supported-requires : tie.Need-supported-requires
+supported-requires c κs = search needs
+
+slice-write-kept : tie.Need-slice-write-kept
+slice-write-kept c = search needs
+
+same-length : tie.Need-same-length
+same-length c = search needs
+
+returns-3 : tie.Need-returns-3
+unfolding keepsAt routineOf nodeOf rootOf stateOf
+returns-3 c =
+    let b = c .before .before .before in
+    (rw (ne-eqb _ _ (b .before .before .if1 .left), eq-eqb _ _ (b .if2 .left)) (sym (c .if3 .taken) ∙ c .before .supported .ensures), refl)
+
+same-length-2 : tie.Need-same-length-2
+same-length-2 c = search needs
+
+returns-4 : tie.Need-returns-4
+unfolding keepsAt routineOf nodeOf rootOf stateOf
+returns-4 c =
+    let b = c .before .before .before in
+    (rw (ne-eqb _ _ (b .before .before .if1 .left), eq-eqb _ _ (b .if2 .left)) (sym (c .if3 .left) ∙ c .before .supported .ensures), refl)
+
+pub keep-at-spec : {M : Type 1} → statement M
+keep-at-spec =
+    tie.close
+    (tie.spec
+    shared-slice-read-if1
+    returns
+    slice-read-if2
+    returns-2
+    cast-f
+    cast-n
+    cast-r
+    cast-q
+    supported-requires
+    slice-write-kept
+    same-length
+    returns-3
+    same-length-2
+    returns-4)

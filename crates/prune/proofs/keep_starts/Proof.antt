@@ -1,0 +1,74 @@
+-- `prune::keep_starts` meets its contract. The loop's invariant: the marked starts in a state below `q` are kept.
+use mathlib.Core.Path.{_≡_, sym, _∙_}
+use Prim.Native.Nat.{_≤_, _-_}
+use native.Mathlib.Omega.{arith}
+use lib.ListN.{length}
+use Rattle.automaton.specs.Decoded.{automatonOf}
+use Rattle.program.specs.Program.{Program}
+use Rattle.prune.specs.Parts.{Sound, Started}
+use Rattle.prune.proofs.Closed.{start-none, start-turn}
+use borrow.Author.Needs.{needs}
+use Rattle.prune.proofs.keep_starts.Statement.{statement}
+use Rattle.prune.proofs.keep_starts.Tie as tie
+
+abbrev Inv-loop : tie.InvT-loop
+Inv-loop rule marks kept₀ q₀ kept q =
+    (q ≤ 8) × (length kept ≡ 16384) × ((p : Program) → p .automaton ≡ automatonOf rule → Sound p marks kept₀ → Started p marks kept q)
+
+abbrev μ-loop : tie.MeasureT-loop
+μ-loop rule marks kept₀ q₀ kept q = 8 - q
+
+loop-holds : tie.Need-loop-holds Inv-loop μ-loop
+loop-holds c = (omega arith, c .before .before .pre .1, λ p e s. start-none s)
+
+number-of-requires : tie.Need-number-of-requires Inv-loop μ-loop
+number-of-requires c κs = search needs
+
+is-initial-requires : tie.Need-is-initial-requires Inv-loop μ-loop
+is-initial-requires c κs = search needs
+
+keep-when-requires : tie.Need-keep-when-requires Inv-loop μ-loop
+keep-when-requires c κs =
+    let p = c .before .before .before .before in
+    (p .before .before .before .pre .0, p .loop .inv .1)
+
+add-q : tie.Need-add-q Inv-loop μ-loop
+add-q c = search needs
+
+loop-less : tie.Need-loop-less Inv-loop μ-loop
+loop-less c = search needs
+
+loop-again : tie.Need-loop-again Inv-loop μ-loop
+loop-again c =
+    let w = c .before .before .keep-when in
+    let a = c .before .before .before .before in
+    let p = a .before .before .before in (
+      omega arith,
+      w .kept .1 .1 .0 ∙ p .loop .inv .1,
+      λ q e s. start-turn _ (p .loop .inv .2 q e s) (omega arith) e (a .is-initial .ensures) (a .before .number-of .ensures .0) (w .ensures),
+    )
+
+same-length : tie.Need-same-length Inv-loop μ-loop
+same-length c = c .before .loop .inv .1 ∙ sym (c .before .before .before .before .pre .1)
+
+returns : tie.Need-returns Inv-loop μ-loop
+returns c p e s =
+    let l = c .before .loop in
+    let z : 8 ≡ l .q = omega arith in
+    rw z (l .inv .2 p e s)
+
+pub keep-starts-spec : {M : Type 1} → statement M
+keep-starts-spec =
+    tie.close
+    (tie.spec
+    Inv-loop
+    μ-loop
+    loop-holds
+    number-of-requires
+    is-initial-requires
+    keep-when-requires
+    add-q
+    loop-less
+    loop-again
+    same-length
+    returns)

@@ -1,0 +1,52 @@
+-- `prune::keep_supported` meets its contract.
+use mathlib.Core.Path.{_≡_}
+use native.Mathlib.Omega.{arith}
+use lib.ListN.{length}
+use borrow.Author.Needs.{needs}
+use Rattle.prune.proofs.Closed.{its-tables, settled-shows}
+use Rattle.prune.proofs.keep_supported.Statement.{statement}
+use Rattle.prune.proofs.keep_supported.Tie as tie
+
+in-use-requires : tie.Need-in-use-requires
+in-use-requires c κs = search needs
+
+in-use-requires-2 : tie.Need-in-use-requires-2
+in-use-requires-2 c κs = search needs
+
+slice-aggregate-keep-all : tie.Need-slice-aggregate-keep-all
+slice-aggregate-keep-all c = search needs
+
+slice-aggregate-keep-all-2 : tie.Need-slice-aggregate-keep-all-2
+slice-aggregate-keep-all-2 c = search needs
+
+keep-all-requires : tie.Need-keep-all-requires
+keep-all-requires c κs =
+    let z = c .before .before .before .before .before .before .before .before .before in
+    let room : length (z .args .edges .keys) ≡ 256 = search needs in
+    let more-room : length (z .args .transitions .keys) ≡ 256 = search needs in
+    let u = c .before .before .before .before .in-use .ensures in
+    let v = c .before .before .before .in-use2 .ensures in
+    ((omega arith, omega arith), z .pre)
+
+same-length : tie.Need-same-length
+same-length c = search needs
+
+returns : tie.Need-returns
+returns c p w e f s =
+    let z = c .before .before .before .before .before .before .before .before .before .before .before .before in
+    let room : length (z .args .edges .keys) ≡ 256 = search needs in
+    let more-room : length (z .args .transitions .keys) ≡ 256 = search needs in
+    settled-shows (its-tables p w (z .args .edges) (z .args .transitions) e f room more-room (c .before .before .before .before .before .before .before .in-use .ensures) (c .before .before .before .before .before .before .in-use2 .ensures)) (z .args .marks .now) s
+    (c .before .before .keep-all .ensures)
+
+pub keep-supported-spec : {M : Type 1} → statement M
+keep-supported-spec =
+    tie.close
+    (tie.spec
+    in-use-requires
+    in-use-requires-2
+    slice-aggregate-keep-all
+    slice-aggregate-keep-all-2
+    keep-all-requires
+    same-length
+    returns)

@@ -1,0 +1,118 @@
+-- What the private functions of the keeping promise of each other; nothing here has to be believed.
+use Prim.Native.Nat.{ℕ, zero, suc, _≤_, _<_, _+_, _-_, _*_, _/_, _%_}
+use mathlib.Core.Path.{_≡_}
+use mathlib.Core.Bool.{Bool, true, false, cond, _&&_, _||_}
+use mathlib.Core.List.{List, [], _∷_, map, List·Memᴰ}
+use lib.Dec.{eqb, ltb}
+use lib.ListN.{length, getD, set, take}
+use Rattle.automaton.specs.Decoded.{transitionOf}
+use Rattle.program.specs.Program.{Program}
+use Rattle.program.specs.WellFormed.{WellFormed}
+use Rattle.program.specs.Decoded.{edgeOf}
+use Rattle.reach.specs.Configurations.{number, routineOf, nodeOf, rootOf, stateOf}
+use Rattle.reach.specs.Marks.{Marked, countSet}
+use Rattle.reach.proofs.Numbers.{At}
+use Rattle.reach.proofs.Flags.{On}
+use Rattle.analysis.proofs.Table.{isSet}
+use Rattle.prune.specs.Keeping.{Kept}
+
+-- ---- whether one of several meets a test
+
+-- one of n numbers, from j on
+unfoldable pub anyFrom : (ℕ → Bool) → ℕ → ℕ → Bool
+anyFrom t zero j = false
+anyFrom t (suc n) j = t j || anyFrom t n (j + 1)
+
+-- one key of a list
+unfoldable pub anyKey : (ℕ → Bool) → List ℕ → Bool
+anyKey t [] = false
+anyKey t (k ∷ ks) = t k || anyKey t ks
+
+-- ---- what supports a configuration (f, n, r, q), by the kept bytes
+
+-- some root of the configurations from this number on is kept
+unfoldable pub rootKept : List ℕ → ℕ → Bool
+rootKept kept base = anyFrom (λ x. isSet kept (base + 8 * x)) 8 0
+
+-- for some state the caller is kept with it, and the called exit with it as its root
+unfoldable pub returnKept : List ℕ → ℕ → ℕ → Bool
+returnKept kept caller exit = anyFrom (λ y. isSet kept (caller + y) && isSet kept (exit + 8 * y)) 8 0
+
+-- it is an entry, and the edge calls its routine in its state
+unfoldable pub entrySupports : List ℕ → ℕ → ℕ → ℕ → ℕ → ℕ → Bool
+entrySupports kept key f n r q =
+    cond (eqb n 0 && eqb r q && eqb (key / 0x100 % 256) (64 + f)) (rootKept kept (number (key / 0x1000000) (key / 0x10000 % 256) 0 q)) false
+
+-- the edge leads to it by a call that returns
+unfoldable pub returnSupports : List ℕ → ℕ → ℕ → ℕ → ℕ → ℕ → Bool
+returnSupports kept key f n r q =
+    cond (eqb (key / 0x1000000) f && eqb (key % 256) n)
+    (cond (ltb (key / 0x100 % 256) 64) false (returnKept kept (number f (key / 0x10000 % 256) r 0) (number (key / 0x100 % 256 - 64) 1 0 q)))
+    false
+
+unfoldable pub callSupports : List ℕ → ℕ → ℕ → ℕ → ℕ → ℕ → Bool
+callSupports kept key f n r q = entrySupports kept key f n r q || returnSupports kept key f n r q
+
+-- the transition has this action and this state after it, and the configuration before it is kept
+unfoldable pub lineSupports : List ℕ → ℕ → ℕ → ℕ → Bool
+lineSupports kept wanted base line = cond (eqb (line % 0x10000) wanted) (isSet kept (base + line / 0x10000)) false
+
+-- how many transitions are to be tried for an edge: all for an action that leads to node n of routine f, else none
+unfoldable pub linesToTry : ℕ → ℕ → ℕ → ℕ → ℕ
+linesToTry key f n count = cond (eqb (key / 0x1000000) f && eqb (key % 256) n) (cond (ltb (key / 0x100 % 256) 64) count 0) 0
+
+unfoldable pub actionSupports : List ℕ → List ℕ → ℕ → ℕ → ℕ → ℕ → ℕ → ℕ → Bool
+actionSupports kept lines count f n r q key =
+    anyKey (lineSupports kept (key / 0x100 % 256 * 256 + q) (number f (key / 0x10000 % 256) r 0)) (take (linesToTry key f n count) lines)
+
+unfoldable pub edgeSupports : List ℕ → List ℕ → ℕ → ℕ → ℕ → ℕ → ℕ → ℕ → Bool
+edgeSupports kept lines count f n r q key = callSupports kept key f n r q || actionSupports kept lines count f n r q key
+
+-- some edge, with some transition, supports it
+unfoldable pub supports : List ℕ → ℕ → List ℕ → ℕ → List ℕ → ℕ → ℕ → ℕ → ℕ → Bool
+supports keys m lines k kept f n r q = anyKey (edgeSupports kept lines k f n r q) (take m keys)
+
+-- the configuration of number i is marked, not yet kept, and supported
+unfoldable pub keepsAt : List ℕ → ℕ → List ℕ → ℕ → List ℕ → List ℕ → ℕ → Bool
+keepsAt keys m lines k marks kept i =
+    cond (isSet marks i) (cond (isSet kept i) false (supports keys m lines k kept (routineOf i) (nodeOf i) (rootOf i) (stateOf i))) false
+
+-- ---- keeping one after another
+
+-- by keeping, one at a time, what a test of the kept bytes names
+pub data Keeps (test : List ℕ → ℕ → Bool) (old : List ℕ) : List ℕ → Type 0 where
+  same : Keeps test old old
+  more : {kept : List ℕ} → Keeps test old kept → (i : ℕ) → i < 16384 → test kept i ≡ true → Keeps test old (set kept i 1)
+
+-- a pass says whether it has kept more; if not, nothing below i was to be kept
+pub record Passed (test : List ℕ → ℕ → Bool) (old new : List ℕ) (more : Bool) (i : ℕ) : Type 0 where
+  pub len : length new ≡ length old
+  pub keeps : Keeps test old new
+  pub grown : more ≡ true → countSet old < countSet new
+  pub same-bytes : more ≡ false → new ≡ old
+  pub none-left : more ≡ false → (j : ℕ) → j < i → test old j ≡ false
+
+-- nothing is left to be kept
+pub record Settled (test : List ℕ → ℕ → Bool) (old new : List ℕ) : Type 0 where
+  pub len : length new ≡ length old
+  pub keeps : Keeps test old new
+  pub none-left : (j : ℕ) → j < 16384 → test new j ≡ false
+
+-- ---- what the kept bytes mean
+
+-- the tables are those of this program
+pub record Tables (p : Program) (keys : List ℕ) (m : ℕ) (lines : List ℕ) (k : ℕ) : Type 0 where
+  pub well-formed : WellFormed p
+  pub edges : p .edges ≡ map edgeOf (take m keys)
+  pub transitions : p .automaton .transitions ≡ map transitionOf (take k lines)
+
+-- every byte is 0 or 1, and what is kept has support back to a start
+pub record Sound (p : Program) (marks kept : List ℕ) : Type 0 where
+  pub len : length kept ≡ 16384
+  pub bits : (i : ℕ) → getD kept i 0 ≤ 1
+  pub supported : (i : ℕ) → On kept i → At (Kept p marks) i
+
+-- the marked starts in a state below x are kept
+pub record Started (p : Program) (marks kept : List ℕ) (x : ℕ) : Type 0 where
+  pub sound : Sound p marks kept
+  pub starts : (q : ℕ) → q < x → List·Memᴰ q (p .automaton .initial) → Marked marks 0 0 q q → On kept (number 0 0 q q)

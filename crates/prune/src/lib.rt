@@ -1,0 +1,176 @@
+// The keeping: of the marks of a sheet those stay that have support back to a start through marked configurations.
+mod support;
+
+use analysis::check_buffers;
+use analysis::count::clear;
+use analysis::follow::number_of;
+use automaton::DecodedAutomaton;
+use automaton::Table;
+use automaton::in_use;
+use automaton::is_initial;
+use program::DecodedProgram;
+use program::Verdict;
+use support::supported;
+ghost use mathlib.Core.Path.{_≡_};
+ghost use mathlib.Core.Bool.{cond, _&&_};
+ghost use mathlib.Core.List.{map};
+ghost use Prim.Native.Nat.{_<_, _≤_};
+ghost use lib.ListN.{length, set};
+ghost use Rattle.automaton.specs.Decoded.{keysOf, transitionOf, automatonOf};
+ghost use Rattle.program.specs.Program.{Program};
+ghost use Rattle.program.specs.WellFormed.{WellFormed};
+ghost use Rattle.program.specs.Decoded.{edgeOf, programOf};
+ghost use Rattle.program.specs.Reading.{readFile};
+ghost use Rattle.reach.specs.Configurations.{none-set};
+ghost use Rattle.reach.specs.Marks.{Shows};
+ghost use Rattle.analysis.specs.Answers.{checked, workAfter};
+ghost use Rattle.analysis.proofs.Table.{isSet};
+ghost use Rattle.prune.specs.Keeping.{Kept, Pruned};
+ghost use Rattle.prune.specs.Parts.{keepsAt, Passed, Settled, Sound, Started};
+
+// Keeps a configuration that is marked, where the flag says so.
+fn keep_when(yes: bool, marks: &[u8], kept: &mut [u8], at: usize)
+    requires { ⌜ (length (now marks) ≡ 16384) × (length (now kept) ≡ 16384) ⌝ }
+    ensures { λ _. ⌜ now (kept .exit) ≡ cond (yes && isSet (now (marks .entry)) at) (set (now (kept .entry)) at 1) (now (kept .entry)) ⌝ }
+{
+    if yes {
+        if at < 16384 {
+            if marks[at] != 0 {
+                kept[at] = 1;
+            }
+        }
+    }
+}
+
+// The starts: main's entry in each initial state, with that state as its root.
+fn keep_starts(rule: DecodedAutomaton, marks: &[u8], kept: &mut [u8])
+    requires { ⌜ (length (now marks) ≡ 16384) × (length (now kept) ≡ 16384) ⌝ }
+    ensures { λ _. ⌜ ((p : Program) → p .automaton ≡ automatonOf rule → Sound p (now (marks .entry)) (now (kept .entry))
+        → Started p (now (marks .entry)) (now (kept .exit)) 8) ⌝ }
+{
+    let mut q: u8 = 0;
+    while q < 8 {
+        let at = number_of(0, 0, q, q);
+        keep_when(is_initial(rule, q), marks, kept, at);
+        q = q + 1;
+    }
+}
+
+// Keeps the configuration of number i, if it is marked, not yet kept, and supported. Says whether it did.
+fn keep_at(
+    keys: &[u32],
+    m: usize,
+    lines: &[u32],
+    k: usize,
+    marks: &[u8],
+    kept: &mut [u8],
+    i: usize,
+) -> bool
+    requires { ⌜ (m ≤ length (now keys)) × (k ≤ length (now lines)) × (i < 16384) ⌝ }
+    requires { ⌜ (length (now marks) ≡ 16384) × (length (now kept) ≡ 16384) ⌝ }
+    ensures { λ y. ⌜ (y ≡ keepsAt (now (keys .entry)) m (now (lines .entry)) k (now (marks .entry)) (now (kept .entry)) i)
+        × (now (kept .exit) ≡ cond y (set (now (kept .entry)) i 1) (now (kept .entry))) ⌝ }
+{
+    if marks[i] == 0 {
+        return false;
+    }
+    if kept[i] != 0 {
+        return false;
+    }
+    let f = (i / 1024) as u8;
+    let n = (i / 64 % 16) as u8;
+    let r = (i / 8 % 8) as u8;
+    let q = (i % 8) as u8;
+    if supported(keys, m, lines, k, kept, f, n, r, q) {
+        kept[i] = 1;
+        return true;
+    }
+    false
+}
+
+// One pass over all numbers. Says whether it kept one more.
+fn keep_pass(keys: &[u32], m: usize, lines: &[u32], k: usize, marks: &[u8], kept: &mut [u8]) -> bool
+    requires { ⌜ (m ≤ length (now keys)) × (k ≤ length (now lines)) ⌝ }
+    requires { ⌜ (length (now marks) ≡ 16384) × (length (now kept) ≡ 16384) ⌝ }
+    ensures { λ y. ⌜ Passed (keepsAt (now (keys .entry)) m (now (lines .entry)) k (now (marks .entry))) (now (kept .entry)) (now (kept .exit)) y 16384 ⌝ }
+{
+    let mut more = false;
+    let mut i: usize = 0;
+    while i < 16384 {
+        let one = keep_at(keys, m, lines, k, marks, kept, i);
+        more = more | one;
+        i = i + 1;
+    }
+    more
+}
+
+// Passes until one keeps nothing more.
+fn keep_all(keys: &[u32], m: usize, lines: &[u32], k: usize, marks: &[u8], kept: &mut [u8])
+    requires { ⌜ (m ≤ length (now keys)) × (k ≤ length (now lines)) ⌝ }
+    requires { ⌜ (length (now marks) ≡ 16384) × (length (now kept) ≡ 16384) ⌝ }
+    ensures { λ _. ⌜ Settled (keepsAt (now (keys .entry)) m (now (lines .entry)) k (now (marks .entry))) (now (kept .entry)) (now (kept .exit)) ⌝ }
+{
+    let mut more = true;
+    while more {
+        more = keep_pass(keys, m, lines, k, marks, kept);
+    }
+}
+
+// Passes over the tables of a program in which the starts are kept: what is kept in the end is all that has support.
+fn keep_supported(edges: Table, transitions: Table, marks: &[u8], kept: &mut [u8])
+    requires { ⌜ (length (now marks) ≡ 16384) × (length (now kept) ≡ 16384) ⌝ }
+    ensures { λ _. ⌜ ((p : Program) → WellFormed p → p .edges ≡ map edgeOf (keysOf edges) → p .automaton .transitions ≡ map transitionOf (keysOf transitions)
+        → Started p (now (marks .entry)) (now (kept .entry)) 8 → Shows (Kept p (now (marks .entry))) (now (kept .exit))) ⌝ }
+{
+    let keys = edges.keys;
+    let lines = transitions.keys;
+    let m = in_use(edges.count, 256);
+    let k = in_use(transitions.count, 256);
+    keep_all(&keys, m, &lines, k, marks, kept);
+}
+
+// What stays of the marks. It is gathered in a buffer of its own, so that a mark is never its own support.
+fn keep(p: DecodedProgram, marks: &[u8], kept: &mut [u8])
+    requires { ⌜ WellFormed (programOf p) ⌝ }
+    requires { ⌜ (length (now marks) ≡ 16384) × (length (now kept) ≡ 16384) ⌝ }
+    ensures { λ _. ⌜ Shows (Kept (programOf p) (now (marks .entry))) (now (kept .exit)) ⌝ }
+{
+    let rule = p.automaton;
+    let edges = p.edges;
+    let transitions = rule.transitions;
+    clear(kept);
+    keep_starts(rule, marks, kept);
+    keep_supported(edges, transitions, marks, kept);
+}
+
+// Of the marks those stay, as 1, that have support back to a start through marked configurations; all else becomes 0. The
+// reader accepts only well-formed programs, and the caller has measured the buffers (refusals 9 and 11): hence the `requires`.
+pub fn prune_program(p: DecodedProgram, marks: &mut [u8], work: &mut [u8])
+    requires { ⌜ WellFormed (programOf p) ⌝ }
+    requires { ⌜ (length (now marks) ≡ 16384) × (length (now work) ≡ 16384) ⌝ }
+    ensures { λ _. ⌜ Shows (Kept (programOf p) (now (marks .entry))) (now (marks .exit)) × (now (work .exit) ≡ none-set) ⌝ }
+{
+    keep(p, marks, work);
+    let _copied = bytes::copy(work, marks);
+    clear(work);
+}
+
+// The keeping of a file's program on any sheet. A refusal leaves both buffers alone; on success the working buffer is all zero.
+pub fn prune(file: &[u8], marks: &mut [u8], work: &mut [u8]) -> Verdict
+    ensures { λ r. ⌜ (r ≡ checked (now (file .entry)) (length (now (marks .entry))) (length (now (work .entry))))
+        × Pruned (checked (now (file .entry)) (length (now (marks .entry))) (length (now (work .entry)))) (readFile (now (file .entry)) .program)
+        (now (marks .entry)) (now (marks .exit))
+        × (now (work .exit) ≡ workAfter (now (file .entry)) (now (marks .entry)) (now (work .entry))) ⌝ }
+{
+    let r = reader::read(file);
+    let v = r.verdict;
+    let checked = check_buffers(v, marks.len(), work.len());
+    match checked {
+        Verdict::Refused(n, line) => Verdict::Refused(n, line),
+        Verdict::Accepted => {
+            let p = r.program;
+            prune_program(p, marks, work);
+            Verdict::Accepted
+        }
+    }
+}

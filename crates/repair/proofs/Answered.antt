@@ -1,0 +1,177 @@
+-- The repairs of the marks and their answers, by what the functions below promise.
+use mathlib.Core.Path.{_≡_, refl, sym, ap, subst, _∙_}
+use mathlib.Core.Bool.{Bool, true, false, cond}
+use mathlib.Core.List.{List, _++_}
+use Prim.Native.Nat.{ℕ, _≤_, _<_}
+use native.Mathlib.Omega.{arith}
+use lib.Dec.{ltb, eqb}
+use lib.ListN.{length, drop, length-replicate}
+use borrow.Author.Tests.{eqb-true, ltb-false}
+use Rattle.text.specs.Lines.{Bytes}
+use Rattle.program.specs.Program.{Program}
+use Rattle.program.specs.Frames.{edgeFrame}
+use Rattle.program.specs.WellFormed.{WellFormed}
+use Rattle.program.specs.Writing.{written}
+use Rattle.program.specs.Reading.{Outcome, readFile}
+use Rattle.program.specs.declared.Verdict.{Verdict}
+use Rattle.program.specs.declared.Verdict.the-variants as verdict
+use Rattle.program.proofs.Theorems.{accepted-well-formed, written-limited}
+use Rattle.reach.specs.Configurations.{none-set}
+use Rattle.reach.specs.Marks.{Shows, freshMarks}
+use Rattle.reach.proofs.Growing.{Grown}
+use Rattle.reach.proofs.Kept.{marks-length}
+use Rattle.analysis.specs.Answers.{same}
+use Rattle.analysis.proofs.Answered.{same-self, same-equal}
+use Rattle.prune.specs.Keeping.{Kept}
+use Rattle.prune.proofs.Theorems.{kept-fresh}
+use Rattle.writer.specs.declared.WriteAnswer.{WriteAnswer}
+use Rattle.writer.specs.declared.WriteAnswer.the-variants.{Written, Refused}
+use Rattle.edit.specs.Edits.{edgeOfStep}
+use Rattle.edit.specs.Editing.{without, inserted, withEdges, editedProgram, wantedEdit, Applies}
+use Rattle.edit.specs.declared.Step.{Step}
+use Rattle.edit.specs.declared.Label.{Label}
+use Rattle.edit.specs.declared.Edit.{Edit}
+use Rattle.edit.specs.declared.Edit.the-variants.{Add, Drop, Replace}
+use Rattle.edit.specs.declared.EditRead.{EditRead}
+use Rattle.edit.specs.declared.EditRead.the-variants as read
+use Rattle.edit.proofs.Theorems.{applied-well-formed, added-is, dropped-is, replaced-is, relabelled, drop-applies, add-applies}
+use Rattle.repair.specs.Repairs.{After, measuredBy, untouched, foreign, repairedTo, editedBy, wantedBy, repairedBy, measured, repaired}
+use Rattle.repair.specs.Parts.{Repaired}
+use Rattle.repair.proofs.Steps.{add-grown, drop-within, drop-initial}
+
+-- ---- the program, and the marks
+
+module _ (s : Step) (p p′ : Program) (w : WellFormed p) where
+  module _ (a : Applies (Add s) p) (e : p′ ≡ withEdges p (inserted (edgeOfStep s) (p .edges))) where
+    is-added : p′ ≡ editedProgram (Add s) p
+    is-added = e ∙ sym (added-is s p)
+
+    pub added-well-formed : WellFormed p′
+    added-well-formed = subst WellFormed (sym is-added) (applied-well-formed (Add s) p w a)
+
+    pub added-grown : Grown p p′ (s .routine) (s .source)
+    added-grown = subst (λ (x : Program). Grown p x (s .routine) (s .source)) (sym is-added) (add-grown s p w a)
+
+    pub added : {marks work : List ℕ} → (marks ≡ freshMarks p′) × (work ≡ none-set) → Repaired (Add s) p p′ marks work
+    added h = record { is-edited = is-added; own = h .0; clear = h .1 }
+
+  module _ (a : Applies (Drop s) p) (e : p′ ≡ withEdges p (without (edgeOfStep s) (p .edges))) where
+    is-dropped : p′ ≡ editedProgram (Drop s) p
+    is-dropped = e ∙ sym (dropped-is s p)
+
+    pub dropped-well-formed : WellFormed p′
+    dropped-well-formed = subst WellFormed (sym is-dropped) (applied-well-formed (Drop s) p w a)
+
+    pub dropped : {old marks work : List ℕ} → old ≡ freshMarks p → Shows (Kept p′ old) marks × (work ≡ none-set) → Repaired (Drop s) p p′ marks work
+    dropped {old} {marks} {work} o h =
+        record {
+          is-edited = is-dropped;
+          own = rw is-dropped (kept-fresh (editedProgram (Drop s) p) p (applied-well-formed (Drop s) p w a) w (drop-within s p w) (drop-initial s p w) marks shows);
+          clear = h .1;
+        }
+      where
+        shows : Shows (Kept (editedProgram (Drop s) p) (freshMarks p)) marks
+        shows = subst (λ (x : Program). Shows (Kept x (freshMarks p)) marks) is-dropped (subst (λ (l : List ℕ). Shows (Kept p′ l) marks) o (h .0))
+
+-- a replace is the drop and then the add
+module _ (s : Step) (l : Label) (p d p′ : Program) (w : WellFormed p) (a : Applies (Replace s l) p) {m k : List ℕ} (x : Repaired (Drop s) p d m k) where
+  pub between-well-formed : WellFormed d
+  between-well-formed = subst WellFormed (sym (x .is-edited)) (applied-well-formed (Drop s) p w (drop-applies s l p a))
+
+  pub between-applies : Applies (Add (relabelled s l)) d
+  between-applies = subst (Applies (Add (relabelled s l))) (sym (x .is-edited)) (add-applies s l p w a)
+
+  pub replaced : {marks work : List ℕ} → Repaired (Add (relabelled s l)) d p′ marks work → Repaired (Replace s l) p p′ marks work
+  replaced y =
+      record {
+        is-edited = y .is-edited ∙ ap (editedProgram (Add (relabelled s l))) (x .is-edited) ∙ sym (replaced-is s l p);
+        own = y .own;
+        clear = y .clear;
+      }
+
+-- ---- 17
+
+module _ (e : Edit) (p : Program) (marks output : List ℕ) where
+  pub own-answer : marks ≡ freshMarks p → {p′ : Program} {m k : List ℕ} → Repaired e p p′ m k → {n : ℕ} {o : List ℕ}
+      → (n ≡ length (written p′)) × (o ≡ written p′ ++ drop (length (written p′)) output)
+      → _≡_ {A = After} (record { answer = Written n; marks = m; output = o; work = k }) (editedBy e p marks output)
+  own-answer f {p′} {m} {k} r {n} {o} h =
+      let t : same marks (freshMarks p) ≡ true = subst (λ (l : List ℕ). same l (freshMarks p) ≡ true) (sym f) (same-self (freshMarks p)) in
+      rw (t, h .0, h .1, r .own, r .clear, r .is-edited) refl
+
+  pub foreign-answer : (marks ≡ freshMarks p → ⊥) → {k : List ℕ} → k ≡ none-set
+      → _≡_ {A = After} (record { answer = Refused 17 0; marks = marks; output = output; work = k }) (editedBy e p marks output)
+  foreign-answer h {k} z = go (same marks (freshMarks p)) refl
+    where
+      go : (t : Bool) → same marks (freshMarks p) ≡ t → _≡_ {A = After} (record { answer = Refused 17 0; marks = marks; output = output; work = k })
+          (cond (same marks (freshMarks p)) (repairedTo (editedProgram e p) output) (foreign marks output))
+      go true f = absurd (h (same-equal marks (freshMarks p) f))
+      go false f = rw (f, z) refl
+
+  -- there is room for the edited program
+  pub room : WellFormed p → Applies e p → {p′ : Program} {m k : List ℕ} → Repaired e p p′ m k → 5328 ≤ length output
+      → WellFormed p′ × (length (written p′) ≤ length output)
+  room w a {p′} r h =
+      let w′ : WellFormed p′ = subst WellFormed (sym (r .is-edited)) (applied-well-formed e p w a) in
+      (w′, omega (arith, written-limited p′ w′))
+
+-- ---- the checks before
+
+never : {A : Type 0} (n line : ℕ) → verdict.Refused n line ≡ verdict.Accepted → A
+never n line e = absurd (let z : _≡_ {A = ℕ} 0 1 = cc in omega arith)
+
+-- what it takes to pass the measuring
+pub record Measured (v : Verdict) (marks output work : ℕ) : Type 0 where
+  pub file : v ≡ verdict.Accepted
+  pub marks-length : marks ≡ 16384
+  pub output-length : 5328 ≤ output
+  pub work-length : work ≡ 16384
+
+pub passed : (v : Verdict) (marks output work : ℕ) → measuredBy v marks output work ≡ verdict.Accepted → Measured v marks output work
+passed (verdict.Refused n line) marks output work e = never n line e
+passed verdict.Accepted marks output work e = go (eqb marks 16384) refl (ltb output 5328) refl (eqb work 16384) refl e
+  where
+    go : (t : Bool) → eqb marks 16384 ≡ t → (u : Bool) → ltb output 5328 ≡ u → (v : Bool) → eqb work 16384 ≡ v
+        → cond t (cond u (verdict.Refused 10 0) (cond v verdict.Accepted (verdict.Refused 11 0))) (verdict.Refused 9 0) ≡ verdict.Accepted
+        → Measured verdict.Accepted marks output work
+    go true t true u v w e = never 10 0 e
+    go true t false u true w e =
+        record { file = refl; marks-length = eqb-true marks 16384 t; output-length = ltb-false output 5328 u; work-length = eqb-true work 16384 w }
+    go true t false u false w e = never 11 0 e
+    go false t u v w x e = never 9 0 e
+
+module _ (file marks line output work : List ℕ) (o : Outcome) (e : o ≡ readFile file) (c : Verdict)
+    (k : c ≡ measuredBy (o .verdict) (length marks) (length output) (length work)) where
+  is-measured : c ≡ measured file (length marks) (length output) (length work)
+  unfolding measured
+  is-measured = k ∙ ap (λ (x : Outcome). measuredBy (x .verdict) (length marks) (length output) (length work)) e
+
+  pub refused-answer : (n at : ℕ) → c ≡ verdict.Refused n at
+      → _≡_ {A = After} (record { answer = Refused n at; marks = marks; output = output; work = work }) (repaired file marks line output work)
+  unfolding repaired
+  refused-answer n at h = rw (← is-measured, h) refl
+
+  module _ (h : c ≡ verdict.Accepted) where
+    pub measured-parts : Measured (o .verdict) (length marks) (length output) (length work)
+    measured-parts = passed (o .verdict) (length marks) (length output) (length work) (sym k ∙ h)
+
+    pub well-formed : WellFormed (o .program)
+    well-formed = rw e (accepted-well-formed file (rw e at (measured-parts .file)))
+
+    pub accepted-answer : {a : After} → a ≡ wantedBy (wantedEdit (o .program) line) (o .program) marks output work → a ≡ repaired file marks line output work
+    unfolding repaired
+    accepted-answer x = x ∙ rw (← is-measured, h, e) refl
+
+-- ---- the edit line
+
+module _ (p : Program) (marks line output work : List ℕ) {w : EditRead} (e : w ≡ wantedEdit p line) where
+  pub wanted-refused : (n : ℕ) → w ≡ read.Refused n
+      → _≡_ {A = After} (record { answer = Refused n 0; marks = marks; output = output; work = work }) (wantedBy (wantedEdit p line) p marks output work)
+  wanted-refused n h = rw (← e, h) refl
+
+  pub wanted-read : (d : Edit) → w ≡ read.Read d → editedBy d p marks output ≡ wantedBy (wantedEdit p line) p marks output work
+  wanted-read d h = rw (← e, h) refl
+
+pub none-length : length none-set ≡ 16384
+unfolding none-set
+none-length = length-replicate {A = ℕ} 16384 0

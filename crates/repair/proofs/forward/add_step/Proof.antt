@@ -1,0 +1,33 @@
+use Rattle.repair.proofs.Answered.{added-well-formed, added-grown, added}
+use Rattle.edit.proofs.Theorems.{add-ready}
+use Rattle.program.specs.Decoded.{programOf}
+use borrow.Author.Needs.{needs}
+use Rattle.repair.proofs.forward.add_step.Statement.{statement}
+use Rattle.repair.proofs.forward.add_step.Tie as tie
+
+with-step-requires : tie.Need-with-step-requires
+with-step-requires c κs =
+    let z = c .before .before in
+    add-ready (z .args .s) (programOf (z .args .p)) (z .pre .0 .0) (z .pre .0 .1)
+
+follow-added-requires : tie.Need-follow-added-requires
+follow-added-requires c κs =
+    let z = c .before .before .before .before .before in
+    let p = programOf (z .args .p) in
+    let e = c .before .before .with-step .ensures in
+    ((added-well-formed (z .args .s) p _ (z .pre .0 .0) (z .pre .0 .1) e, z .pre .1 .1), (p, added-grown (z .args .s) p _ (z .pre .0 .0) (z .pre .0 .1) e, z .pre .1 .0))
+
+same-length : tie.Need-same-length
+same-length c = search needs
+
+same-length-2 : tie.Need-same-length-2
+same-length-2 c = search needs
+
+returns : tie.Need-returns
+returns c =
+    let z = c .before .before .before .before .before .before .before .before .before .before in
+    added (z .args .s) (programOf (z .args .p)) _ (z .pre .0 .0) (z .pre .0 .1) (c .before .before .before .before .before .before .before .with-step .ensures) (c .before .before .before .before .follow-added .ensures)
+
+pub add-step-spec : {M : Type 1} → statement M
+add-step-spec =
+    tie.close (tie.spec with-step-requires follow-added-requires same-length same-length-2 returns)

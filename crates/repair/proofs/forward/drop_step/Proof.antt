@@ -1,0 +1,37 @@
+use Rattle.repair.proofs.Answered.{dropped-well-formed, dropped}
+use Rattle.edit.proofs.Theorems.{drop-ready}
+use Rattle.reach.proofs.Kept.{marks-length}
+use Rattle.program.specs.Decoded.{programOf}
+use lib.ListN.{length}
+use mathlib.Core.Path.{ap, _∙_}
+use borrow.Author.Needs.{needs}
+use Rattle.repair.proofs.forward.drop_step.Statement.{statement}
+use Rattle.repair.proofs.forward.drop_step.Tie as tie
+
+without-step-requires : tie.Need-without-step-requires
+without-step-requires c κs =
+    let z = c .before .before in
+    drop-ready (z .args .s) (programOf (z .args .p)) (z .pre .0 .0) (z .pre .0 .1)
+
+prune-program-requires : tie.Need-prune-program-requires
+prune-program-requires c κs =
+    let z = c .before .before .before .before .before in
+    let p = programOf (z .args .p) in
+    let e = c .before .before .without-step .ensures in
+    (dropped-well-formed (z .args .s) p _ (z .pre .0 .0) (z .pre .0 .1) e, (ap length (z .pre .1 .0) ∙ marks-length p, z .pre .1 .1))
+
+same-length : tie.Need-same-length
+same-length c = search needs
+
+same-length-2 : tie.Need-same-length-2
+same-length-2 c = search needs
+
+returns : tie.Need-returns
+returns c =
+    let z = c .before .before .before .before .before .before .before .before .before .before in
+    dropped (z .args .s) (programOf (z .args .p)) _ (z .pre .0 .0) (z .pre .0 .1) (c .before .before .before .before .before .before .before .without-step .ensures) (z .pre .1 .0) (c .before .before .before .before .prune-program .ensures)
+
+pub drop-step-spec : {M : Type 1} → statement M
+drop-step-spec =
+    tie.close
+    (tie.spec without-step-requires prune-program-requires same-length same-length-2 returns)

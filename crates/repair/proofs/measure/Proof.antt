@@ -1,0 +1,34 @@
+use borrow.Author.Tests.{eq-eqb, ne-eqb, lt-ltb, le-ltb}
+use borrow.Author.Needs.{needs}
+use Rattle.repair.proofs.measure.Statement.{statement}
+use Rattle.repair.proofs.measure.Tie as tie
+
+enum-known-v : tie.Need-enum-known-v
+enum-known-v c = search needs
+
+enum-told : tie.Need-enum-told
+enum-told c = search needs
+
+returns : tie.Need-returns
+returns c =
+    rw (c .before .before .enum-told .given .1, eq-eqb _ _ (c .before .if1 .taken), lt-ltb _ _ (c .if2 .taken))
+
+returns-2 : tie.Need-returns-2
+returns-2 c =
+    rw (c .before .before .before .enum-told .given .1, eq-eqb _ _ (c .before .before .if1 .taken), le-ltb _ _ (c .before .if2 .left), eq-eqb _ _ (c .if3 .taken))
+
+returns-3 : tie.Need-returns-3
+returns-3 c =
+    rw (c .before .before .before .enum-told .given .1, eq-eqb _ _ (c .before .before .if1 .taken), le-ltb _ _ (c .before .if2 .left), ne-eqb _ _ (c .if3 .left))
+
+returns-4 : tie.Need-returns-4
+returns-4 c =
+    rw (c .before .v .given .1)
+
+returns-5 : tie.Need-returns-5
+returns-5 c =
+    rw (c .before .enum-told .given .1, ne-eqb _ _ (c .if1 .left))
+
+pub measure-spec : {M : Type 1} → statement M
+measure-spec =
+    tie.close (tie.spec enum-known-v enum-told returns returns-2 returns-3 returns-4 returns-5)

@@ -1,0 +1,4 @@
+pub mod Repairs
+pub mod Calls
+pub mod Local
+pub mod Parts

@@ -1,0 +1,54 @@
+// The forward repair of the marks: an add lets the new edge act and follows what is newly marked; a drop keeps what still has
+// support; a replace is the drop and then the add. The edits that come here were not refused and the marks are the program's
+// own (refusals 12 to 17): hence each `requires`.
+use analysis::grow::follow_added;
+use edit::Edit;
+use edit::Step;
+use edit::apply::relabelled;
+use edit::apply::with_step;
+use edit::apply::without_step;
+use program::DecodedProgram;
+use prune::prune_program;
+ghost use mathlib.Core.Path.{_≡_};
+ghost use lib.ListN.{length};
+ghost use Rattle.program.specs.WellFormed.{WellFormed};
+ghost use Rattle.program.specs.Decoded.{programOf};
+ghost use Rattle.edit.specs.Editing.{Applies};
+ghost use Rattle.edit.specs.declared.Edit.the-variants.{Add, Drop};
+ghost use Rattle.reach.specs.Marks.{freshMarks};
+ghost use Rattle.repair.specs.Parts.{Repaired};
+
+fn add_step(p: DecodedProgram, s: Step, marks: &mut [u8], work: &mut [u8]) -> DecodedProgram
+    requires { ⌜ WellFormed (programOf p) × Applies (Add s) (programOf p) ⌝ }
+    requires { ⌜ (now marks ≡ freshMarks (programOf p)) × (length (now work) ≡ 16384) ⌝ }
+    ensures { λ r. ⌜ Repaired (Add s) (programOf p) (programOf r) (now (marks .exit)) (now (work .exit)) ⌝ }
+{
+    let added = with_step(p, s);
+    follow_added(added, s.routine, s.source, marks, work);
+    added
+}
+
+fn drop_step(p: DecodedProgram, s: Step, marks: &mut [u8], work: &mut [u8]) -> DecodedProgram
+    requires { ⌜ WellFormed (programOf p) × Applies (Drop s) (programOf p) ⌝ }
+    requires { ⌜ (now marks ≡ freshMarks (programOf p)) × (length (now work) ≡ 16384) ⌝ }
+    ensures { λ r. ⌜ Repaired (Drop s) (programOf p) (programOf r) (now (marks .exit)) (now (work .exit)) ⌝ }
+{
+    let dropped = without_step(p, s);
+    prune_program(dropped, marks, work);
+    dropped
+}
+
+pub fn repair_marks(p: DecodedProgram, e: Edit, marks: &mut [u8], work: &mut [u8]) -> DecodedProgram
+    requires { ⌜ WellFormed (programOf p) × Applies e (programOf p) ⌝ }
+    requires { ⌜ (now marks ≡ freshMarks (programOf p)) × (length (now work) ≡ 16384) ⌝ }
+    ensures { λ r. ⌜ Repaired e (programOf p) (programOf r) (now (marks .exit)) (now (work .exit)) ⌝ }
+{
+    match e {
+        Edit::Add(s) => add_step(p, s, marks, work),
+        Edit::Drop(s) => drop_step(p, s, marks, work),
+        Edit::Replace(s, l) => {
+            let dropped = drop_step(p, s, marks, work);
+            add_step(dropped, relabelled(s, l), marks, work)
+        }
+    }
+}

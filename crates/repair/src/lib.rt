@@ -1,0 +1,107 @@
+// Repairs: one edit line changes a program, its marks become those of the edited program, and the new file is written.
+mod forward;
+
+use analysis::run::analyze_program;
+use edit::Edit;
+use edit::EditRead;
+use edit::wanted_edit;
+use forward::repair_marks;
+use program::DecodedProgram;
+use program::Verdict;
+use writer::WriteAnswer;
+use writer::put::write_program;
+ghost use mathlib.Core.Path.{_≡_};
+ghost use Prim.Native.Nat.{_≤_};
+ghost use lib.ListN.{length};
+ghost use Rattle.program.specs.WellFormed.{WellFormed};
+ghost use Rattle.program.specs.Decoded.{programOf};
+ghost use Rattle.edit.specs.Editing.{wantedEdit, Applies};
+ghost use Rattle.repair.specs.Repairs.{After, measuredBy, editedBy, wantedBy, repaired};
+
+// The file's verdict, then the lengths of the marks (9), of the output (10) and of the working buffer (11).
+fn measure(v: Verdict, marks: usize, output: usize, work: usize) -> Verdict
+    ensures { λ r. ⌜ r ≡ measuredBy v marks output work ⌝ }
+{
+    match v {
+        Verdict::Refused(n, line) => Verdict::Refused(n, line),
+        Verdict::Accepted => {
+            if marks == 16384 {
+                if output < 5328 {
+                    return Verdict::Refused(10, 0);
+                }
+                if work == 16384 {
+                    return Verdict::Accepted;
+                }
+                return Verdict::Refused(11, 0);
+            }
+            Verdict::Refused(9, 0)
+        }
+    }
+}
+
+// Marks that differ from the program's own are refused (17). Else they are repaired, and the edited program is written.
+fn repair_own(
+    p: DecodedProgram,
+    e: Edit,
+    marks: &mut [u8],
+    output: &mut [u8],
+    work: &mut [u8],
+) -> WriteAnswer
+    requires { ⌜ WellFormed (programOf p) × Applies e (programOf p) ⌝ }
+    requires { ⌜ (length (now marks) ≡ 16384) × (5328 ≤ length (now output)) × (length (now work) ≡ 16384) ⌝ }
+    ensures { λ r. ⌜ _≡_ {A = After} (record { answer = r; marks = now (marks .exit); output = now (output .exit); work = now (work .exit) })
+        (editedBy e (programOf p) (now (marks .entry)) (now (output .entry))) ⌝ }
+{
+    let mut own = [0u8; 16384];
+    let _iterations = analyze_program(p, &mut own, work);
+    if check::same(marks, &own) {
+        let edited = repair_marks(p, e, marks, work);
+        let size = write_program(output, edited);
+        return WriteAnswer::Written(size);
+    }
+    WriteAnswer::Refused(17, 0)
+}
+
+// The refusals of the edit line (12 to 16); else 17 is left to check.
+fn repair_wanted(
+    p: DecodedProgram,
+    marks: &mut [u8],
+    line: &[u8],
+    output: &mut [u8],
+    work: &mut [u8],
+) -> WriteAnswer
+    requires { ⌜ WellFormed (programOf p) ⌝ }
+    requires { ⌜ (length (now marks) ≡ 16384) × (5328 ≤ length (now output)) × (length (now work) ≡ 16384) ⌝ }
+    ensures { λ r. ⌜ _≡_ {A = After} (record { answer = r; marks = now (marks .exit); output = now (output .exit); work = now (work .exit) })
+        (wantedBy (wantedEdit (programOf p) (now (line .entry))) (programOf p) (now (marks .entry)) (now (output .entry)) (now (work .entry))) ⌝ }
+{
+    let wanted = wanted_edit(p, line);
+    match wanted {
+        EditRead::Refused(n) => WriteAnswer::Refused(n, 0),
+        EditRead::Read(e) => repair_own(p, e, marks, output, work),
+    }
+}
+
+// The forward repair. The marks must be the file's own. A refusal leaves the marks and the output alone, and the working
+// buffer too unless it is 17; after 17 and on success the working buffer is all zero.
+pub fn repair_forward(
+    file: &[u8],
+    marks: &mut [u8],
+    line: &[u8],
+    output: &mut [u8],
+    work: &mut [u8],
+) -> WriteAnswer
+    ensures { λ r. ⌜ _≡_ {A = After} (record { answer = r; marks = now (marks .exit); output = now (output .exit); work = now (work .exit) })
+        (repaired (now (file .entry)) (now (marks .entry)) (now (line .entry)) (now (output .entry)) (now (work .entry))) ⌝ }
+{
+    let r = reader::read(file);
+    let v = r.verdict;
+    let measured = measure(v, marks.len(), output.len(), work.len());
+    match measured {
+        Verdict::Refused(n, at) => WriteAnswer::Refused(n, at),
+        Verdict::Accepted => {
+            let p = r.program;
+            repair_wanted(p, marks, line, output, work)
+        }
+    }
+}

@@ -1,0 +1,131 @@
+//! What the program `bench` prints, as a function of what it reads. The repair that it uses does not
+//! show.
+
+use crate::analysis::analyze;
+use crate::edit::{edit_of_line, edited};
+use crate::file::{lines, read, Program};
+use crate::standing::{Standing, SHEET_SIZE};
+use crate::write::line_of;
+
+/// How many bytes of input there may be.
+pub const MOST_INPUT: usize = SHEET_SIZE;
+const INPUT_LONG: u8 = 18;
+/// The kinds of lines that are printed.
+const FINDING: u8 = 0x58;
+const COUNTS: u8 = 0x5A;
+const REFUSED: u8 = 0x21;
+
+/// All that is printed for an input.
+pub fn bench(input: &[u8]) -> Vec<u8> {
+    if input.len() > MOST_INPUT {
+        return line_of(&[REFUSED, INPUT_LONG]);
+    }
+    let (file, edits) = file_and_edits(input);
+    match read(&file) {
+        Err(refusal) => {
+            let [high, low] = two_numbers(refusal.line as usize);
+            line_of(&[REFUSED, refusal.number() as u8, high, low])
+        }
+        Ok(program) => bench_program(program, &edits),
+    }
+}
+
+/// The file goes through the first line that starts with 45, and is all of the input if there is no
+/// such line. Each line after it is an edit.
+fn file_and_edits(input: &[u8]) -> (Vec<u8>, Vec<&[u8]>) {
+    let mut lines = lines(input);
+    let end = lines.iter().position(|line| line.starts_with(b"45"));
+    let edits = match end {
+        Some(end) => lines.split_off(end + 1),
+        None => Vec::new(),
+    };
+    (lines.concat(), edits)
+}
+
+fn bench_program(mut program: Program, edits: &[&[u8]]) -> Vec<u8> {
+    let mut printed = block(&program);
+    for line in edits {
+        match edit_of_line(&program, line).and_then(|edit| edited(&program, edit)) {
+            Ok(after) => {
+                program = after;
+                printed.extend(block(&program));
+            }
+            Err(refusal) => printed.extend(line_of(&[REFUSED, refusal as u8])),
+        }
+    }
+    printed
+}
+
+/// The findings of a program, ascending, then how many standings and findings there are.
+fn block(program: &Program) -> Vec<u8> {
+    let analysis = analyze(program);
+    let mut printed = Vec::new();
+    for &finding in &analysis.findings {
+        let at = Standing::of_number(finding as usize);
+        printed.extend(line_of(&[FINDING, at.routine, at.place, at.root, at.state]));
+    }
+    let standings = two_numbers(analysis.standings() as usize);
+    let findings = two_numbers(analysis.findings.len());
+    printed.extend(line_of(
+        &[&[COUNTS], &standings[..], &findings[..]].concat(),
+    ));
+    printed
+}
+
+/// A number of four digits as two of two, high first.
+fn two_numbers(number: usize) -> [u8; 2] {
+    [(number / 256) as u8, (number % 256) as u8]
+}
+
+#[cfg(test)]
+mod tests {
+    use super::*;
+    use crate::cases;
+
+    fn printed(input: &[u8]) -> String {
+        String::from_utf8(bench(input)).expect("digits")
+    }
+
+    fn after_sample(edits: &str) -> String {
+        printed(&[cases::SAMPLE, edits.as_bytes()].concat())
+    }
+
+    #[test]
+    fn the_sample_prints_what_it_should() {
+        let wanted = "5A00050000\n5800020002\n5A00060001\n5A00050000\n210E\n";
+        let edits = "2B00000102\n2D00000102\n2D00000102\n";
+        assert_eq!(after_sample(edits), wanted);
+    }
+
+    #[test]
+    fn a_refused_file_prints_one_line() {
+        assert_eq!(printed(b""), "21080001\n");
+        assert_eq!(printed(b"2B00000102\n"), "21020001\n");
+        assert_eq!(printed(b"450000\n2B00000102\n"), "21040001\n");
+        assert_eq!(printed(&cases::removed(13)), "2108000D\n");
+        let no_last_byte = &cases::SAMPLE[..cases::SAMPLE.len() - 1];
+        assert_eq!(printed(no_last_byte), "2101000D\n");
+        let wrong_end = [&cases::replaced(13, "45000B")[..], b"2B00000102\n"].concat();
+        assert_eq!(printed(&wrong_end), "2107000D\n");
+    }
+
+    #[test]
+    fn input_may_have_16384_bytes() {
+        assert_eq!(printed(&[b'\n'; 16_384]), "21010001\n");
+        assert_eq!(printed(&[b'\n'; 16_385]), "2112\n");
+        let padded = |length| [cases::SAMPLE, &vec![b'\n'; length - cases::SAMPLE.len()]].concat();
+        let refused = "210C\n".repeat(16_384 - cases::SAMPLE.len());
+        assert_eq!(printed(&padded(16_384)), format!("5A00050000\n{refused}"));
+        assert_eq!(printed(&padded(16_385)), "2112\n");
+    }
+
+    #[test]
+    fn every_line_after_the_file_is_an_edit() {
+        let (block, refused) = ("5A00050000\n", "210C\n");
+        assert_eq!(after_sample("\n"), format!("{block}{refused}"));
+        assert_eq!(after_sample("2B00000102"), format!("{block}{refused}"));
+        assert_eq!(after_sample("45000C\n"), format!("{block}{refused}"));
+        let findings = "5A00050000\n210C\n5800020002\n5A00060001\n210C\n";
+        assert_eq!(after_sample("\n2B00000102\n2D"), findings);
+    }
+}

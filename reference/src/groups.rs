@@ -1,0 +1,210 @@
+//! Which routines an inside-out repair reopens, by what the rules say of its outcome and not by
+//! following it.
+//!
+//! On a drop, everything is taken in the edited program. Groups are routines that call each other
+//! in circles; any other routine is a group alone. A group is reopened if it holds the edited
+//! routine, or calls one outside it whose pairs are no longer the same when the edited program is
+//! worked from all old roots. On an add, a routine is reopened if it has gained a standing. On a
+//! replace, the drop's and the add's are taken together.
+
+use crate::analysis::analyze;
+use crate::edit::{edited, Edit};
+use crate::file::{Label, Program, Step, EXIT};
+use crate::least::grown;
+use crate::standing::{Standing, SHEET_SIZE};
+use std::collections::BTreeSet;
+
+/// The set of reopened routines for an edit that the program accepts, bit f for routine f.
+pub fn reopened(before: &Program, edit: Edit) -> u32 {
+    let after = |program: &Program, edit| edited(program, edit).expect("the edit is accepted");
+    match edit {
+        Edit::Add(_) => gained(before, &after(before, edit)),
+        Edit::Drop(step) => reopened_by_drop(before, &after(before, edit), step),
+        Edit::Replace(step, _) => {
+            let between = after(before, Edit::Drop(step));
+            let dropped = reopened_by_drop(before, &between, step);
+            dropped | gained(&between, &after(before, edit))
+        }
+    }
+}
+
+/// The routines that have a standing more.
+fn gained(before: &Program, after: &Program) -> u32 {
+    let (old, new) = (analyze(before).sheet, analyze(after).sheet);
+    let more = (0..SHEET_SIZE).filter(|&number| new[number] > old[number]);
+    let routines: BTreeSet<u8> = more
+        .map(|number| Standing::of_number(number).routine)
+        .collect();
+    bits(&routines)
+}
+
+fn bits(routines: &BTreeSet<u8>) -> u32 {
+    routines.iter().map(|&routine| 1 << routine).sum()
+}
+
+fn reopened_by_drop(before: &Program, after: &Program, dropped: Step) -> u32 {
+    let changed = changed_pairs(before, after);
+    let calls = calls(after);
+    let is_reopened = |group: &BTreeSet<u8>| {
+        let mut calls = calls.iter();
+        let calls_changed = calls.any(|(caller, callee)| {
+            group.contains(caller) && !group.contains(callee) && changed.contains(callee)
+        });
+        group.contains(&dropped.routine) || calls_changed
+    };
+    let groups = groups(after).into_iter().filter(is_reopened);
+    bits(&groups.flatten().collect())
+}
+
+/// Who calls whom, by the steps there are.
+pub fn calls(program: &Program) -> BTreeSet<(u8, u8)> {
+    let steps = program.steps.iter();
+    steps
+        .filter_map(|step| match step.label {
+            Label::Call(callee) => Some((step.routine, callee)),
+            Label::Action(_) => None,
+        })
+        .collect()
+}
+
+/// The groups, in no order that means anything.
+pub fn groups(program: &Program) -> BTreeSet<BTreeSet<u8>> {
+    let routines = 0..program.places.len() as u8;
+    let reached: Vec<BTreeSet<u8>> = routines.clone().map(|one| reached(program, one)).collect();
+    let reaches = |one: u8, other: u8| reached[usize::from(one)].contains(&other);
+    let group_of = |one: u8| {
+        let others = routines.clone();
+        let with = |&other: &u8| other == one || (reaches(one, other) && reaches(other, one));
+        others.filter(with).collect()
+    };
+    routines.clone().map(group_of).collect()
+}
+
+/// The routines that a routine reaches by one call or more.
+fn reached(program: &Program, routine: u8) -> BTreeSet<u8> {
+    let calls = calls(program);
+    let mut reached = BTreeSet::new();
+    loop {
+        let is_next = |caller: &u8| *caller == routine || reached.contains(caller);
+        let next = calls.iter().filter(|(caller, _)| is_next(caller));
+        let next: BTreeSet<u8> = next.map(|&(_, callee)| callee).collect();
+        if next == reached {
+            return reached;
+        }
+        reached = next;
+    }
+}
+
+/// The routines whose pairs, over their old roots, are not the same in the edited program worked
+/// from all old roots.
+fn changed_pairs(before: &Program, after: &Program) -> BTreeSet<u8> {
+    let old = standings(&analyze(before).sheet);
+    let roots: BTreeSet<Standing> = old.iter().copied().filter(is_root).collect();
+    let new = grown(after, roots.clone());
+    let pairs = |set: &BTreeSet<Standing>, routine| -> BTreeSet<(u8, u8)> {
+        let is_pair = |at: &&Standing| {
+            let has_old_root = roots.contains(&Standing::entry(routine, at.root));
+            (at.routine, at.place) == (routine, EXIT) && has_old_root
+        };
+        let exits = set.iter().filter(is_pair);
+        exits.map(|at| (at.root, at.state)).collect()
+    };
+    let routines = 0..after.places.len() as u8;
+    routines
+        .filter(|&routine| pairs(&old, routine) != pairs(&new, routine))
+        .collect()
+}
+
+/// The standings that a sheet marks.
+pub fn standings(sheet: &[u8]) -> BTreeSet<Standing> {
+    let marked = (0..SHEET_SIZE).filter(|&number| sheet[number] == 1);
+    marked.map(Standing::of_number).collect()
+}
+
+/// Whether a standing is an entry as a call leaves it: then its state is a root of its routine.
+pub fn is_root(standing: &Standing) -> bool {
+    *standing == Standing::entry(standing.routine, standing.root)
+}
+
+#[cfg(test)]
+mod tests {
+    use super::*;
+    use crate::edit::edit_of_line;
+    use crate::edits;
+    use crate::inside_out;
+    use crate::programs::{program_of_shape, Shape};
+    use crate::random::Random;
+    use crate::small::program;
+
+    #[test]
+    fn groups_are_circles_of_calls() {
+        let sizes = "50050101 520002 520102 520202 520302 520402";
+        let calls = "5300004101 5301004201 5302004101 5302004301 5303004301";
+        let program = program(&format!("{sizes} {calls}"));
+        let wanted: Vec<BTreeSet<u8>> = [vec![0], vec![1, 2], vec![3], vec![4]]
+            .into_iter()
+            .map(|group| group.into_iter().collect())
+            .collect();
+        assert_eq!(groups(&program).into_iter().collect::<Vec<_>>(), wanted);
+    }
+
+    /// What the edits of the seeds have met.
+    #[derive(Debug, Default)]
+    struct Met {
+        drops: usize,
+        replaces: usize,
+        beyond_the_group: usize,
+        not_all: usize,
+        circles: usize,
+    }
+
+    /// Following the repair as it is described gives the same sheet as working afresh, and reopens
+    /// the same routines.
+    fn check(program: &Program, edit: Edit, met: &mut Met) {
+        let after = edited(program, edit).expect("the edit is accepted");
+        let followed = inside_out::repair(program, edit);
+        assert_eq!(
+            followed.standings,
+            standings(&analyze(&after).sheet),
+            "{edit:?}"
+        );
+        let reopened = reopened(program, edit);
+        assert_eq!(followed.reopened, reopened, "{edit:?}");
+        if let Edit::Drop(step) = edit {
+            let all_groups = groups(&after);
+            let own = all_groups
+                .iter()
+                .find(|group| group.contains(&step.routine));
+            let own = own.expect("each routine has a group");
+            met.drops += 1;
+            met.beyond_the_group += usize::from(reopened != bits(own));
+            met.not_all += usize::from(reopened.count_ones() < program.places.len() as u32);
+            met.circles += usize::from(own.len() > 1);
+        }
+        met.replaces += usize::from(matches!(edit, Edit::Replace(..)));
+    }
+
+    #[test]
+    fn following_the_repair_reopens_the_same_routines() {
+        let mut met = Met::default();
+        let shapes = [Shape::Tiny, Shape::Recursive, Shape::Layered, Shape::Mixed];
+        for seed in 0..240 {
+            let random = &mut Random::new(seed);
+            let home = program_of_shape(random, shapes[seed as usize % shapes.len()]);
+            let few = home.steps.iter().take(12);
+            let drops = few.map(|&step| Edit::Drop(step).line());
+            let own = analyze(&home).sheet;
+            let others = (0..2).map(|_| edits::line(random, &home, &home, &own));
+            for line in drops.chain(others) {
+                match edit_of_line(&home, &line) {
+                    Ok(edit) if edited(&home, edit).is_ok() => check(&home, edit, &mut met),
+                    _ => {}
+                }
+            }
+        }
+        println!("{met:?}");
+        assert!(met.drops >= 1500 && met.replaces >= 20, "{met:?}");
+        assert!(met.beyond_the_group >= 100, "{met:?}");
+        assert!(met.not_all >= 800 && met.circles >= 300, "{met:?}");
+    }
+}

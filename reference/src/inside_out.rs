@@ -1,0 +1,194 @@
+//! The inside-out repair, followed group by group as it is described.
+//!
+//! It is here to be held against `groups`, which says what is reopened by the outcome alone, and
+//! against working afresh, which says what the sheet is.
+
+use crate::analysis::analyze;
+use crate::edit::{edited, Edit};
+use crate::file::{Label, Program, RuleLine, Step};
+use crate::groups::{calls, groups, is_root, standings};
+use crate::standing::{Standing, MOST_STATES};
+use std::collections::BTreeSet;
+
+/// What a repair leaves.
+pub struct Followed {
+    pub standings: BTreeSet<Standing>,
+    /// Bit f for routine f.
+    pub reopened: u32,
+}
+
+/// Repairs the program's own sheet for an edit that the program accepts.
+pub fn repair(before: &Program, edit: Edit) -> Followed {
+    let own = standings(&analyze(before).sheet);
+    match (edit.leaves(), edit.joins()) {
+        (Some(step), None) => drop_step(before, step, own),
+        (None, Some(step)) => add_step(before, step, own),
+        (Some(leaves), Some(joins)) => {
+            let dropped = drop_step(before, leaves, own);
+            let between = after(before, Edit::Drop(leaves));
+            let added = add_step(&between, joins, dropped.standings);
+            Followed {
+                standings: added.standings,
+                reopened: dropped.reopened | added.reopened,
+            }
+        }
+        (None, None) => unreachable!("an edit is an add, a drop or a replace"),
+    }
+}
+
+fn after(program: &Program, edit: Edit) -> Program {
+    edited(program, edit).expect("the edit is accepted")
+}
+
+/// The new step acts, and what is newly marked is followed.
+fn add_step(before: &Program, step: Step, old: BTreeSet<Standing>) -> Followed {
+    let program = after(before, Edit::Add(step));
+    let all = 0..program.places.len() as u8;
+    let standings = follow(&program, &all.collect(), old.clone());
+    let routines: BTreeSet<u8> = standings.difference(&old).map(|at| at.routine).collect();
+    Followed {
+        standings,
+        reopened: routines.iter().map(|&routine| 1 << routine).sum(),
+    }
+}
+
+fn drop_step(before: &Program, step: Step, old: BTreeSet<Standing>) -> Followed {
+    let program = after(before, Edit::Drop(step));
+    let calls = calls(&program);
+    let mut standings = old.clone();
+    let mut reopened = 0;
+    for group in called_first(&program) {
+        let mut outside = calls
+            .iter()
+            .filter(|(caller, callee)| group.contains(caller) && !group.contains(callee));
+        let calls_changed =
+            outside.any(|&(_, callee)| pairs(&old, callee) != pairs(&standings, callee));
+        if group.contains(&step.routine) || calls_changed {
+            standings = work_anew(&program, &group, &old, standings);
+            reopened |= group.iter().map(|&routine| 1 << routine).sum::<u32>();
+        }
+    }
+    Followed {
+        standings: with_roots_that_occur(&program, standings),
+        reopened,
+    }
+}
+
+/// The groups in an order in which the called come before the calling.
+fn called_first(program: &Program) -> Vec<BTreeSet<u8>> {
+    let calls = calls(program);
+    let mut left: Vec<BTreeSet<u8>> = groups(program).into_iter().collect();
+    let mut ordered = Vec::new();
+    while !left.is_empty() {
+        let waits = |group: &BTreeSet<u8>| {
+            let is_left = |callee: &u8| left.iter().any(|other| other.contains(callee));
+            calls.iter().any(|(caller, callee)| {
+                group.contains(caller) && !group.contains(callee) && is_left(callee)
+            })
+        };
+        let next = left.iter().position(|group| !waits(group));
+        let next = next.expect("groups do not call each other in circles");
+        ordered.push(left.remove(next));
+    }
+    ordered
+}
+
+/// The pairs of a routine on a sheet. On an old sheet, and on one worked from the roots of it, every
+/// standing has an old root.
+fn pairs(sheet: &BTreeSet<Standing>, routine: u8) -> BTreeSet<(u8, u8)> {
+    let last = MOST_STATES - 1;
+    let exits = Standing::exit(routine, 0, 0)..=Standing::exit(routine, last, last);
+    sheet.range(exits).map(|at| (at.root, at.state)).collect()
+}
+
+/// A group's standings are cleared and worked anew from its old roots; the others stay.
+fn work_anew(
+    program: &Program,
+    group: &BTreeSet<u8>,
+    old: &BTreeSet<Standing>,
+    standings: BTreeSet<Standing>,
+) -> BTreeSet<Standing> {
+    let others = standings
+        .into_iter()
+        .filter(|at| !group.contains(&at.routine));
+    let roots = old.iter().copied().filter(is_root);
+    let roots = roots.filter(|root| group.contains(&root.routine));
+    follow(program, group, others.chain(roots).collect())
+}
+
+/// Follows the steps of some routines until they lead to nothing new. A call of another routine
+/// goes by the pairs that this routine has, and enters nothing.
+fn follow(
+    program: &Program,
+    routines: &BTreeSet<u8>,
+    mut standings: BTreeSet<Standing>,
+) -> BTreeSet<Standing> {
+    loop {
+        let mut further = BTreeSet::new();
+        for at in &standings {
+            let steps = program.steps.iter().filter(|step| {
+                routines.contains(&step.routine)
+                    && (step.routine, step.from) == (at.routine, at.place)
+            });
+            for step in steps {
+                further.extend(led_to(program, routines, &standings, *at, step));
+            }
+        }
+        if further.is_subset(&standings) {
+            return standings;
+        }
+        standings.extend(further);
+    }
+}
+
+fn led_to(
+    program: &Program,
+    routines: &BTreeSet<u8>,
+    standings: &BTreeSet<Standing>,
+    at: Standing,
+    step: &Step,
+) -> Vec<Standing> {
+    match step.label {
+        Label::Action(action) => {
+            let allowed = |line: &&RuleLine| (line.from, line.action) == (at.state, action);
+            let lines = program.rule.iter().filter(allowed);
+            lines.map(|line| at.at(step.to, line.to)).collect()
+        }
+        Label::Call(callee) => {
+            let returns = pairs(standings, callee);
+            let returns = returns.into_iter().filter(|pair| pair.0 == at.state);
+            let mut results: Vec<_> = returns.map(|pair| at.at(step.to, pair.1)).collect();
+            if routines.contains(&callee) {
+                results.push(Standing::entry(callee, at.state));
+            }
+            results
+        }
+    }
+}
+
+/// Leaves out the standings whose root no longer occurs. A root occurs if it is main's in a start
+/// state, or if a standing whose root occurs calls the routine in it.
+fn with_roots_that_occur(program: &Program, sheet: BTreeSet<Standing>) -> BTreeSet<Standing> {
+    let starts = program.starts.iter();
+    let mut roots: BTreeSet<(u8, u8)> = starts.map(|&state| (0, state)).collect();
+    loop {
+        let before = roots.len();
+        for at in &sheet {
+            if !roots.contains(&(at.routine, at.root)) {
+                continue;
+            }
+            for step in &program.steps {
+                match step.label {
+                    Label::Call(callee) if (step.routine, step.from) == (at.routine, at.place) => {
+                        roots.insert((callee, at.state));
+                    }
+                    _ => {}
+                }
+            }
+        }
+        if roots.len() == before {
+            let occurs = |at: &Standing| roots.contains(&(at.routine, at.root));
+            return sheet.into_iter().filter(occurs).collect();
+        }
+    }
+}
