@@ -244,6 +244,27 @@ uint32_t palthrenni_repair_forward(const uint8_t *file, size_t file_len,
                                    uint8_t *work, size_t work_len,
                                    uint32_t *line, uint32_t *written);
 
+/*
+ * As palthrenni_repair_forward, by the inside-out repair. The marks, the
+ * output, the working buffer and the numbers are the same; one number more
+ * says which routines were reanalyzed.
+ *
+ *   reanalyzed          set to a bit for each routine, bit f for routine f, or
+ *                       to 0 if the call was refused. On a drop these are the
+ *                       routines of each group (routines that call each other
+ *                       in circles in the edited program) that holds the
+ *                       edited routine or calls one outside it whose pairs
+ *                       have changed; on an add those that gained a
+ *                       configuration; on a replace both together.
+ */
+uint32_t palthrenni_repair_inside_out(const uint8_t *file, size_t file_len,
+                                      uint8_t *marks, size_t marks_len,
+                                      const uint8_t *edit, size_t edit_len,
+                                      uint8_t *output, size_t output_len,
+                                      uint8_t *work, size_t work_len,
+                                      uint32_t *line, uint32_t *written,
+                                      uint32_t *reanalyzed);
+
 #ifdef __cplusplus
 }
 #endif

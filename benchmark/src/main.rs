@@ -1,8 +1,9 @@
 //! How many programs a second the proved analysis does, through the C interface, beside the same
-//! procedure in plain Rust.
+//! procedure in plain Rust; and how many edits the forward repair does.
 
 #[path = "../../reference/tests/desk/mod.rs"]
 mod desk;
+mod edits;
 mod plain;
 
 use plain::{Search, Tables};
@@ -33,6 +34,7 @@ takings are the means over the programs of a kind.
 
 /// One program in the forms that the two sides take.
 struct Input {
+    program: Program,
     file: Vec<u8>,
     tables: Tables,
     counts: [u32; 3],
@@ -110,6 +112,7 @@ fn input(program: &Program) -> Input {
     desk::analyze(&file, &mut given, &mut work);
     assert_eq!(given, marks, "the two sides do not mark the same");
     Input {
+        program: program.clone(),
         file,
         tables,
         counts,
@@ -129,8 +132,8 @@ fn mean(inputs: &[Input], count: usize) -> u32 {
     sum / inputs.len() as u32
 }
 
-/// Prints a row of the table: its kind, and its cells.
-fn print_row(kind: &str, cells: [String; 8]) {
+/// Prints a row of a table: its kind, and its cells.
+fn print_row<const N: usize>(kind: &str, cells: [String; N]) {
     let cells = cells.map(|cell| format!("{cell:>10}"));
     println!("{kind:<23}{}", cells.concat());
 }
@@ -165,9 +168,16 @@ fn main() {
         "ratio",
     ];
     print_row("programs a second", names.map(String::from));
-    measure_row("wide, over 2000", &of_shape(Shape::Wide, 2000));
-    measure_row("recursive, over 500", &of_shape(Shape::Recursive, 500));
-    measure_row("full, over 4000", &of_shape(Shape::Full, 4000));
-    measure_row("full, over 10000", &of_shape(Shape::Full, 10_000));
-    measure_row("one place calls all 16", &[input(&hub())]);
+    let kinds = [
+        ("wide, over 2000", of_shape(Shape::Wide, 2000)),
+        ("recursive, over 500", of_shape(Shape::Recursive, 500)),
+        ("full, over 4000", of_shape(Shape::Full, 4000)),
+        ("full, over 10000", of_shape(Shape::Full, 10_000)),
+        ("one place calls all 16", vec![input(&hub())]),
+    ];
+    for (kind, inputs) in &kinds {
+        measure_row(kind, inputs);
+    }
+    println!();
+    edits::print_table(&kinds);
 }

@@ -2,24 +2,14 @@
 use crate::marking::mark;
 use crate::marking::mark_each;
 use crate::marking::wake_roots;
+use crate::number::number_of;
+use crate::number::wide;
 ghost use mathlib.Core.Path.{_≡_};
 ghost use Prim.Native.Nat.{_<_, _≤_, _+_, _-_, _*_};
 ghost use lib.ListN.{length, getD};
 ghost use Rattle.reach.specs.Configurations.{number};
 ghost use Rattle.reach.specs.Worklist.{mark as marked};
 ghost use Rattle.analysis.specs.Parts.{Becomes, Lowers, each, markFlag, wakeAt, labelStep, edgeStep, callerStep};
-
-fn wide(x: u8) -> usize
-    ensures { λ r. ⌜ (r ≡ x) × (r < 256) ⌝ }
-{
-    x as usize
-}
-
-pub fn number_of(f: u8, n: u8, r: u8, q: u8) -> usize
-    ensures { λ v. ⌜ (v ≡ number f n r q) × (v < 1000000) ⌝ }
-{
-    ((wide(f) * 16 + wide(n)) * 8 + wide(r)) * 8 + wide(q)
-}
 
 // A call of g in state q: its entry, and what its known summaries give.
 fn follow_call(

@@ -1,7 +1,7 @@
 // After edges were added to a program, its marks are completed to those of the program that it has become.
 use crate::count::clear;
-use crate::follow::number_of;
 use crate::marking::wake;
+use crate::number::number_of;
 use crate::run::follow_program;
 use program::DecodedProgram;
 ghost use mathlib.Core.Path.{_≡_};

@@ -1,9 +1,10 @@
 // The full analysis of a file's program, and the list of its violations.
 pub mod count;
-pub mod follow;
+mod follow;
 pub mod grow;
 mod marking;
 pub mod next;
+pub mod number;
 pub mod run;
 mod take;
 

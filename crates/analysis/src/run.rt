@@ -1,8 +1,8 @@
 // The analysis of a decoded program: what is pending is followed, lowest number first, until nothing is.
 use crate::count::clear;
-use crate::follow::number_of;
 use crate::marking::mark;
 use crate::next::next_states;
+use crate::number::number_of;
 use crate::take::take;
 use automaton::States;
 use automaton::in_use;

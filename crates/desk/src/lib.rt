@@ -2,6 +2,7 @@
 use analysis::AnalyzeAnswer;
 use analysis::NextAnswer;
 use program::Verdict;
+use repair::RepairAnswer;
 use writer::WriteAnswer;
 ghost use mathlib.Core.Path.{_≡_};
 ghost use Prim.Native.Nat.{_<_, _^_};
@@ -9,7 +10,10 @@ ghost use lib.ListN.{length};
 ghost use Rattle.program.specs.Reading.{refusal, refusalLine, readFile};
 ghost use Rattle.writer.specs.Answers.{writeAnswer, outputAfter, refusal as writeRefusal, refusalLine as writeLine, writtenLength};
 ghost use Rattle.prune.specs.Keeping.{Pruned};
-ghost use Rattle.repair.specs.Repairs.{repaired};
+ghost use Rattle.repair.specs.Repairs.{repaired, plain, reanalyzed as reanalyzedNumber};
+ghost use Rattle.repair.specs.Calls.{insideOutNumber};
+ghost use Rattle.edit.specs.Editing.{wantedEdit};
+ghost use lib.Dec.{eqb};
 ghost use Rattle.analysis.specs.Answers.{checked, analyzeAnswer, marksAfter, workAfter, analyzeRefusal, analyzeLine, configurationCount, violationCount, iterationCount, nextAnswer, nextRefusal, nextLine, nextFound};
 
 fn refusal_of(v: Verdict) -> u32
@@ -264,4 +268,69 @@ pub extern "C" fn palthrenni_repair_forward(
     *line = write_line_of(a);
     *written = written_of(a);
     write_refusal_of(a)
+}
+
+fn repair_refusal_of(a: RepairAnswer) -> u32
+    ensures { λ r. ⌜ r ≡ writeRefusal (plain a) ⌝ }
+{
+    match a {
+        RepairAnswer::Repaired(_, _) => 0,
+        RepairAnswer::Refused(n, _) => n as u32,
+    }
+}
+
+fn repair_line_of(a: RepairAnswer) -> u32
+    requires { ⌜ writeLine (plain a) < 2 ^ 32 ⌝ }
+    ensures { λ r. ⌜ r ≡ writeLine (plain a) ⌝ }
+{
+    match a {
+        RepairAnswer::Repaired(_, _) => 0,
+        RepairAnswer::Refused(_, at) => at as u32,
+    }
+}
+
+fn repair_written_of(a: RepairAnswer) -> u32
+    requires { ⌜ writtenLength (plain a) < 2 ^ 32 ⌝ }
+    ensures { λ r. ⌜ r ≡ writtenLength (plain a) ⌝ }
+{
+    match a {
+        RepairAnswer::Repaired(n, _) => n as u32,
+        RepairAnswer::Refused(_, _) => 0,
+    }
+}
+
+fn reanalyzed_of(a: RepairAnswer) -> u32
+    ensures { λ r. ⌜ r ≡ reanalyzedNumber a ⌝ }
+{
+    match a {
+        RepairAnswer::Repaired(_, routines) => routines,
+        RepairAnswer::Refused(_, _) => 0,
+    }
+}
+
+// The inside-out repair: as the forward one, and the set of the reanalyzed routines is set too, bit f for routine f.
+#[no_mangle]
+pub extern "C" fn palthrenni_repair_inside_out(
+    file: &[u8],
+    marks: &mut [u8],
+    edit: &[u8],
+    output: &mut [u8],
+    work: &mut [u8],
+    line: &mut u32,
+    written: &mut u32,
+    reanalyzed: &mut u32,
+) -> u32
+    ensures numbers { λ r. ⌜ (r ≡ writeRefusal (repaired (now (file .entry)) (now (marks .entry)) (now (edit .entry)) (now (output .entry)) (now (work .entry)) .answer))
+        × (now (line .exit) ≡ writeLine (repaired (now (file .entry)) (now (marks .entry)) (now (edit .entry)) (now (output .entry)) (now (work .entry)) .answer))
+        × (now (written .exit) ≡ writtenLength (repaired (now (file .entry)) (now (marks .entry)) (now (edit .entry)) (now (output .entry)) (now (work .entry)) .answer)) ⌝ }
+    ensures routines { λ r. ⌜ insideOutNumber (eqb r 0) (wantedEdit (readFile (now (file .entry)) .program) (now (edit .entry))) (readFile (now (file .entry)) .program) (now (reanalyzed .exit)) ⌝ }
+    ensures bytes { λ r. ⌜ (now (marks .exit) ≡ repaired (now (file .entry)) (now (marks .entry)) (now (edit .entry)) (now (output .entry)) (now (work .entry)) .marks)
+        × (now (output .exit) ≡ repaired (now (file .entry)) (now (marks .entry)) (now (edit .entry)) (now (output .entry)) (now (work .entry)) .output)
+        × (now (work .exit) ≡ repaired (now (file .entry)) (now (marks .entry)) (now (edit .entry)) (now (output .entry)) (now (work .entry)) .work) ⌝ }
+{
+    let a = repair::repair_inside_out(file, marks, edit, output, work);
+    *line = repair_line_of(a);
+    *written = repair_written_of(a);
+    *reanalyzed = reanalyzed_of(a);
+    repair_refusal_of(a)
 }

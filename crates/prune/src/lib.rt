@@ -3,7 +3,7 @@ mod support;
 
 use analysis::check_buffers;
 use analysis::count::clear;
-use analysis::follow::number_of;
+use analysis::number::number_of;
 use automaton::DecodedAutomaton;
 use automaton::Table;
 use automaton::in_use;

@@ -1,5 +1,5 @@
 // Whether a configuration (f, n, r, q) has support through kept ones: the search over edges and transitions.
-use analysis::follow::number_of;
+use analysis::number::number_of;
 ghost use mathlib.Core.Path.{_≡_};
 ghost use Prim.Native.Nat.{_<_, _≤_};
 ghost use lib.ListN.{length};

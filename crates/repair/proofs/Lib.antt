@@ -1,7 +1,9 @@
 pub mod Numbers
-pub mod Listed
 pub mod Steps
 pub mod Local
+pub mod Listed
+pub mod Numbered
 pub mod Answered
+pub mod Reworked
 pub mod Demands
 pub mod Cases

@@ -25,7 +25,9 @@ use Rattle.edit.specs.declared.EditRead.the-variants as read
 use Rattle.edit.proofs.Theorems.{wanted-applies, applied-well-formed, wanted-sorted, booked}
 use Rattle.repair.specs.Repairs.{After, measuredBy, untouched, repairedTo, wantedBy, repairedBy, measured, repaired}
 use Rattle.repair.proofs.Numbers.{wanted-number}
-use Rattle.repair.specs.Calls.{Call, Seen, Desk, call, seen, after, played, foreseen, bookCall, bookPlayed}
+use Rattle.repair.proofs.Local.{local-change}
+use Rattle.writer.specs.Answers.{refusal}
+use Rattle.repair.specs.Calls.{editOf, NumberBy, Call, Seen, Desk, call, seen, after, played, foreseen, bookCall, bookPlayed, Numbers, BookNumbers, LeavesOthers, BookLeaves}
 
 take-front : (xs ys : List ℕ) → take (length xs) (xs ++ ys) ≡ xs
 take-front [] ys = refl
@@ -101,3 +103,48 @@ never-drifts [] d b g = refl
 never-drifts (c ∷ cs) d b g =
     let s = one-call d b g c in
     λ i. s .same-seen i ∷ never-drifts cs (after (call d c) (d .file)) (bookCall b c) (s .again) i
+
+-- ---- the reanalyzed routines
+
+module _ (d : Desk) (b : Program) (g : Agrees d b) (c : Call) where
+  is-program : readFile (d .file) .program ≡ bookProgram b
+  is-program = ap (λ (o : Outcome). o .program) (ap readFile (g .file) ∙ read-again (bookProgram b) (g .well-formed))
+
+  is-refusal : refusal (call d c .answer) ≡ bookRefusal b (c .line) (length (c .output)) (length (c .work))
+  is-refusal = ap (λ (s : Seen). s .refused) (one-call d b g c .same-seen)
+
+  one-number : (n : ℕ)
+      → NumberBy (c .repair) (eqb (refusal (call d c .answer)) 0) (wantedEdit (readFile (d .file) .program) (c .line)) (readFile (d .file) .program) n
+      → NumberBy (c .repair) (eqb (bookRefusal b (c .line) (length (c .output)) (length (c .work))) 0) (wantedEdit b (c .line)) (bookProgram b) n
+  one-number n x =
+      let y = subst (λ (t : ℕ). NumberBy (c .repair) (eqb t 0) (wantedEdit (readFile (d .file) .program) (c .line)) (readFile (d .file) .program) n) is-refusal x in
+      let z = subst (λ (q : Program). NumberBy (c .repair) (eqb (bookRefusal b (c .line) (length (c .output)) (length (c .work))) 0) (wantedEdit q (c .line)) q n) is-program y in
+      subst (λ (w : EditRead). NumberBy (c .repair) (eqb (bookRefusal b (c .line) (length (c .output)) (length (c .work))) 0) w (bookProgram b) n) (wanted-sorted b (c .line)) z
+
+pub numbers-right : (cs : List Call) (ns : List ℕ) (d : Desk) (b : Program) → Agrees d b → Numbers cs ns d → BookNumbers cs ns b
+unfolding Numbers BookNumbers
+numbers-right [] [] d b g x = tt
+numbers-right [] (n ∷ ns) d b g x = x
+numbers-right (c ∷ cs) [] d b g x = x
+numbers-right (c ∷ cs) (n ∷ ns) d b g x =
+    (one-number d b g c n (x .0), numbers-right cs ns (after (call d c) (d .file)) (bookCall b c) (one-call d b g c .again) (x .1))
+
+-- ---- what edits leave alone
+
+one-leaves : (b : Program) (c : Call)
+    → LeavesOthers (editOf (bookRefusal b (c .line) (length (c .output)) (length (c .work))) (wantedEdit b (c .line))) (bookProgram b) (bookProgram (bookCall b c))
+unfolding bookAfter
+one-leaves b c = go (eqb (bookRefusal b (c .line) (length (c .output)) (length (c .work))) 0) (wantedEdit b (c .line))
+  where
+    go : (t : Bool) (w : EditRead)
+        → LeavesOthers (cond t w (read.Refused (bookRefusal b (c .line) (length (c .output)) (length (c .work))))) (bookProgram b) (bookProgram (cond t (bookEdited w b) b))
+    go false w = tt
+    go true (read.Refused n) = tt
+    go true (read.Read e) =
+        let k = booked b e in
+        subst (λ (q : Program). LeavesOthers (read.Read e) (bookProgram b) q) (sym k) (λ x g n r q ne. local-change e (bookProgram b) x ne)
+
+pub leaves-others : (cs : List Call) (b : Program) → BookLeaves cs b
+unfolding BookLeaves
+leaves-others [] b = tt
+leaves-others (c ∷ cs) b = (one-leaves b c, leaves-others cs (bookCall b c))

@@ -1,4 +1,5 @@
 pub mod Repairs
-pub mod Calls
+pub mod Reanalyzed
 pub mod Local
+pub mod Calls
 pub mod Parts

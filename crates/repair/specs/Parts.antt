@@ -1,10 +1,12 @@
 -- What the private functions of the repairs promise of each other; nothing here has to be believed.
-use Prim.Native.Nat.{ℕ}
+use Prim.Native.Nat.{ℕ, _<_}
 use mathlib.Core.Path.{_≡_}
+use mathlib.Core.Logic.{_↔_, _≢_}
 use mathlib.Core.List.{List}
+use lib.ListN.{getD}
 use Rattle.program.specs.Program.{Program}
 use Rattle.reach.specs.Configurations.{none-set}
-use Rattle.reach.specs.Marks.{freshMarks}
+use Rattle.reach.specs.Marks.{Marked, freshMarks}
 use Rattle.edit.specs.Editing.{editedProgram}
 use Rattle.edit.specs.declared.Edit.{Edit}
 
@@ -13,3 +15,15 @@ pub record Repaired (e : Edit) (p p′ : Program) (marks work : List ℕ) : Type
   pub is-edited : p′ ≡ editedProgram e p
   pub own : marks ≡ freshMarks p′
   pub clear : work ≡ none-set
+
+-- the flags are set exactly at these routines
+pub record FlagsOf (R : ℕ → Type 0) (flags : List ℕ) : Type 0 where
+  pub flag : (f : ℕ) → f < 16 → (getD flags f 0 ≢ 0) ↔ R f
+
+-- some configuration of routine f is marked in the new marks and not in the old
+pub record MarkedMore (old new : List ℕ) (f : ℕ) : Type 0 where
+  pub node : ℕ
+  pub root : ℕ
+  pub state : ℕ
+  pub now-there : Marked new f node root state
+  pub not-before : ¬ (Marked old f node root state)

@@ -20,6 +20,8 @@ use Rattle.edit.specs.Editing.{editedProgram, wantedEdit}
 use Rattle.edit.specs.declared.Edit.{Edit}
 use Rattle.edit.specs.declared.EditRead.{EditRead}
 use Rattle.edit.specs.declared.EditRead.the-variants as read
+use Rattle.repair.specs.declared.RepairAnswer.{RepairAnswer}
+use Rattle.repair.specs.declared.RepairAnswer.the-variants as repair
 
 -- the answer, and the lent bytes afterwards
 pub record After : Type 0 where
@@ -77,3 +79,15 @@ measured file marks output work = measuredBy (readFile file .verdict) marks outp
 unfoldable pub repaired : List ℕ → List ℕ → List ℕ → List ℕ → List ℕ → After
 repaired file marks line output work =
     repairedBy (measured file (length marks) (length output) (length work)) (readFile file .program) marks line output work
+
+-- ---- the numbers of an inside-out repair's answer
+
+-- the answer without the reanalyzed routines
+abbrev pub plain : RepairAnswer → WriteAnswer
+plain (repair.Repaired size routines) = Written size
+plain (repair.Refused n line) = Refused n line
+
+-- the reanalyzed routines as a number, a bit each; 0 where there is none
+abbrev pub reanalyzed : RepairAnswer → ℕ
+reanalyzed (repair.Repaired size routines) = routines
+reanalyzed (repair.Refused n line) = 0

@@ -18,7 +18,7 @@ ghost use Rattle.edit.specs.declared.Edit.the-variants.{Add, Drop};
 ghost use Rattle.reach.specs.Marks.{freshMarks};
 ghost use Rattle.repair.specs.Parts.{Repaired};
 
-fn add_step(p: DecodedProgram, s: Step, marks: &mut [u8], work: &mut [u8]) -> DecodedProgram
+pub fn add_step(p: DecodedProgram, s: Step, marks: &mut [u8], work: &mut [u8]) -> DecodedProgram
     requires { ⌜ WellFormed (programOf p) × Applies (Add s) (programOf p) ⌝ }
     requires { ⌜ (now marks ≡ freshMarks (programOf p)) × (length (now work) ≡ 16384) ⌝ }
     ensures { λ r. ⌜ Repaired (Add s) (programOf p) (programOf r) (now (marks .exit)) (now (work .exit)) ⌝ }

@@ -1,22 +1,37 @@
 // Repairs: one edit line changes a program, its marks become those of the edited program, and the new file is written.
 mod forward;
+mod inside_out;
 
 use analysis::run::analyze_program;
+use components::bits::bits_of;
 use edit::Edit;
 use edit::EditRead;
 use edit::wanted_edit;
 use forward::repair_marks;
+use inside_out::rework_marks;
 use program::DecodedProgram;
 use program::Verdict;
 use writer::WriteAnswer;
 use writer::put::write_program;
 ghost use mathlib.Core.Path.{_≡_};
+ghost use lib.Dec.{eqb};
 ghost use Prim.Native.Nat.{_≤_};
 ghost use lib.ListN.{length};
 ghost use Rattle.program.specs.WellFormed.{WellFormed};
 ghost use Rattle.program.specs.Decoded.{programOf};
 ghost use Rattle.edit.specs.Editing.{wantedEdit, Applies};
-ghost use Rattle.repair.specs.Repairs.{After, measuredBy, editedBy, wantedBy, repaired};
+ghost use Rattle.program.specs.Reading.{readFile};
+ghost use Rattle.writer.specs.Answers.{refusal};
+ghost use Rattle.edit.specs.declared.EditRead.the-variants.{Read};
+ghost use Rattle.repair.specs.Repairs.{After, measuredBy, editedBy, wantedBy, repaired, plain, reanalyzed};
+ghost use Rattle.repair.specs.Calls.{insideOutNumber};
+
+// So many bytes were written, and these routines were reanalyzed, a bit each; or nothing was done, and a refusal says why, at
+// which line.
+pub enum RepairAnswer {
+    Repaired(usize, u32),
+    Refused(u8, usize),
+}
 
 // The file's verdict, then the lengths of the marks (9), of the output (10) and of the working buffer (11).
 fn measure(v: Verdict, marks: usize, output: usize, work: usize) -> Verdict
@@ -102,6 +117,79 @@ pub fn repair_forward(
         Verdict::Accepted => {
             let p = r.program;
             repair_wanted(p, marks, line, output, work)
+        }
+    }
+}
+
+// As `repair_own`, inside-out.
+fn rework_own(
+    p: DecodedProgram,
+    e: Edit,
+    marks: &mut [u8],
+    output: &mut [u8],
+    work: &mut [u8],
+) -> RepairAnswer
+    requires { ⌜ WellFormed (programOf p) × Applies e (programOf p) ⌝ }
+    requires { ⌜ (length (now marks) ≡ 16384) × (5328 ≤ length (now output)) × (length (now work) ≡ 16384) ⌝ }
+    ensures { λ r. ⌜ _≡_ {A = After} (record { answer = plain r; marks = now (marks .exit); output = now (output .exit); work = now (work .exit) })
+        (editedBy e (programOf p) (now (marks .entry)) (now (output .entry)))
+        × insideOutNumber (eqb (refusal (plain r)) 0) (Read e) (programOf p) (reanalyzed r) ⌝ }
+{
+    let mut own = [0u8; 16384];
+    let _iterations = analyze_program(p, &mut own, work);
+    if check::same(marks, &own) {
+        let reworked = rework_marks(p, e, marks, work);
+        let edited = reworked.program;
+        let routines = reworked.routines;
+        let flags = routines.flags;
+        let bits = bits_of(&flags);
+        let size = write_program(output, edited);
+        return RepairAnswer::Repaired(size, bits);
+    }
+    RepairAnswer::Refused(17, 0)
+}
+
+// As `repair_wanted`, inside-out.
+fn rework_wanted(
+    p: DecodedProgram,
+    marks: &mut [u8],
+    line: &[u8],
+    output: &mut [u8],
+    work: &mut [u8],
+) -> RepairAnswer
+    requires { ⌜ WellFormed (programOf p) ⌝ }
+    requires { ⌜ (length (now marks) ≡ 16384) × (5328 ≤ length (now output)) × (length (now work) ≡ 16384) ⌝ }
+    ensures { λ r. ⌜ _≡_ {A = After} (record { answer = plain r; marks = now (marks .exit); output = now (output .exit); work = now (work .exit) })
+        (wantedBy (wantedEdit (programOf p) (now (line .entry))) (programOf p) (now (marks .entry)) (now (output .entry)) (now (work .entry)))
+        × insideOutNumber (eqb (refusal (plain r)) 0) (wantedEdit (programOf p) (now (line .entry))) (programOf p) (reanalyzed r) ⌝ }
+{
+    let wanted = wanted_edit(p, line);
+    match wanted {
+        EditRead::Refused(n) => RepairAnswer::Refused(n, 0),
+        EditRead::Read(e) => rework_own(p, e, marks, output, work),
+    }
+}
+
+// The inside-out repair: as the forward one, and the answer says which routines were reanalyzed.
+pub fn repair_inside_out(
+    file: &[u8],
+    marks: &mut [u8],
+    line: &[u8],
+    output: &mut [u8],
+    work: &mut [u8],
+) -> RepairAnswer
+    ensures { λ r. ⌜ _≡_ {A = After} (record { answer = plain r; marks = now (marks .exit); output = now (output .exit); work = now (work .exit) })
+        (repaired (now (file .entry)) (now (marks .entry)) (now (line .entry)) (now (output .entry)) (now (work .entry)))
+        × insideOutNumber (eqb (refusal (plain r)) 0) (wantedEdit (readFile (now (file .entry)) .program) (now (line .entry))) (readFile (now (file .entry)) .program) (reanalyzed r) ⌝ }
+{
+    let r = reader::read(file);
+    let v = r.verdict;
+    let measured = measure(v, marks.len(), output.len(), work.len());
+    match measured {
+        Verdict::Refused(n, at) => RepairAnswer::Refused(n, at),
+        Verdict::Accepted => {
+            let p = r.program;
+            rework_wanted(p, marks, line, output, work)
         }
     }
 }

@@ -1,8 +1,8 @@
 use Rattle.reach.specs.Configurations.{number}
 use native.Mathlib.Omega.{arith}
 use borrow.Author.Needs.{needs}
-use Rattle.analysis.proofs.follow.number_of.Statement.{statement}
-use Rattle.analysis.proofs.follow.number_of.Tie as tie
+use Rattle.analysis.proofs.number.number_of.Statement.{statement}
+use Rattle.analysis.proofs.number.number_of.Tie as tie
 
 wide-requires : tie.Need-wide-requires
 wide-requires c κs = search needs

@@ -1,0 +1,224 @@
+//! How many edits a second the forward repair does, beside the analysis of the edited program.
+
+use crate::{desk, print_row, Input, AT_LEAST};
+use reference::edit::{edited, Edit};
+use reference::file::{Label, Program, Step};
+use reference::repair;
+use reference::standing::SHEET_SIZE;
+use reference::write::{write, OUTPUT_SIZE};
+use std::time::{Duration, Instant};
+
+/// How many edits of each kind a program gets.
+const EDITS: usize = 4;
+
+const ABOUT: &str = "\
+An edit by the forward repair beside the analysis of the edited program, both by the library
+through its C interface, for the same programs and timed in the same way. In each program a
+few steps are chosen, spread evenly over those that begin where something is marked. 'drop' drops
+such a step, 'add' puts it back into the program without it, and 'replace' gives it the next
+label that no step between the same places has. All these edits are accepted. Before the timing
+the two sides were seen to leave the same marks, and the repair to write the edited file.
+Each repair starts from the old program's own marks, and copying them in is within the time
+measured. A repair reads the old file and writes the new one, and it tests the marks (refusal 17)
+by a full analysis of the old program: so it cannot be faster than one analysis of that program.
+For 'add' that is the analysis in the row of 'drop', and for 'drop' and 'replace' the one in the
+row of 'add'; but the rows are timed one after the other, so on a busy machine numbers of
+different rows compare only roughly. A ratio above 1 means that the repair is faster than the
+analysis of the edited program. Standings of the edited program, and marks changed by the edit,
+are means.
+";
+
+/// One edit, with what the two sides take and what they have to answer.
+struct Task {
+    old_file: Vec<u8>,
+    old_marks: Vec<u8>,
+    line: Vec<u8>,
+    new_file: Vec<u8>,
+    counts: [u32; 3],
+    /// How many marks the edit changes.
+    changed: usize,
+}
+
+/// The sheet, the working buffer and the output, used for call after call.
+struct Buffers {
+    marks: Vec<u8>,
+    work: Vec<u8>,
+    output: Vec<u8>,
+}
+
+impl Buffers {
+    fn new() -> Buffers {
+        Buffers {
+            marks: vec![0xA5; SHEET_SIZE],
+            work: vec![0x5A; SHEET_SIZE],
+            output: vec![0xA5; OUTPUT_SIZE],
+        }
+    }
+}
+
+/// Whether the repair is accepted and writes as much as it should.
+fn repair(task: &Task, buffers: &mut Buffers) -> bool {
+    buffers.marks.copy_from_slice(&task.old_marks);
+    let lent = &mut repair::Buffers {
+        sheet: &mut buffers.marks,
+        line: &task.line,
+        output: &mut buffers.output,
+        work: &mut buffers.work,
+    };
+    let answer = desk::repair_forward(&task.old_file, lent);
+    answer.refusal == 0 && answer.written as usize == task.new_file.len()
+}
+
+/// Whether the analysis of the edited program counts what it should.
+fn analysis(task: &Task, buffers: &mut Buffers) -> bool {
+    analyze(&task.new_file, buffers) == task.counts
+}
+
+fn analyze(file: &[u8], buffers: &mut Buffers) -> [u32; 3] {
+    let answer = desk::analyze(file, &mut buffers.marks, &mut buffers.work);
+    assert_eq!(answer.refusal, 0, "the file is accepted");
+    [answer.standings, answer.findings, answer.takings]
+}
+
+/// An edit of a program, after both sides have done it and agree.
+fn task(old: &Program, edit: Edit) -> Task {
+    let new = edited(old, edit).expect("the edit is accepted");
+    let (old_file, new_file) = (write(old), write(&new));
+    let mut buffers = Buffers::new();
+    analyze(&old_file, &mut buffers);
+    let old_marks = buffers.marks.clone();
+    let counts = analyze(&new_file, &mut buffers);
+    let new_marks = buffers.marks.clone();
+    let differs = |&at: &usize| old_marks[at] != new_marks[at];
+    let changed = (0..SHEET_SIZE).filter(differs).count();
+    let task = Task {
+        old_file,
+        old_marks,
+        line: edit.line(),
+        new_file,
+        counts,
+        changed,
+    };
+    assert!(repair(&task, &mut buffers), "the repair is accepted");
+    assert_eq!(buffers.marks, new_marks, "the two sides mark the same");
+    let written = &buffers.output[..task.new_file.len()];
+    assert_eq!(written, task.new_file, "the repair writes the edited file");
+    task
+}
+
+/// Steps that begin where something is marked, spread evenly over all of these.
+fn chosen_steps(input: &Input) -> Vec<Step> {
+    let mut buffers = Buffers::new();
+    analyze(&input.file, &mut buffers);
+    let acts = |step: &&Step| {
+        let place = 16 * usize::from(step.routine) + usize::from(step.from);
+        buffers.marks[64 * place..64 * (place + 1)].contains(&1)
+    };
+    let steps: Vec<Step> = input.program.steps.iter().filter(acts).copied().collect();
+    let middle = |part: usize| steps[(2 * part + 1) * steps.len() / (2 * EDITS)];
+    (0..EDITS).map(middle).collect()
+}
+
+/// The next label, after a step's own, that no step between its places has: the actions come first,
+/// then the calls, and then the first action again.
+fn next_label(program: &Program, step: Step) -> Label {
+    let actions = (0..program.actions).map(Label::Action);
+    let calls = (0..program.places.len() as u8).map(Label::Call);
+    let labels: Vec<Label> = actions.chain(calls).collect();
+    let is_own = |&label: &Label| label == step.label;
+    let is_new = |&label: &Label| !program.steps.contains(&Step { label, ..step });
+    let after_own = labels
+        .iter()
+        .copied()
+        .cycle()
+        .skip_while(|one| !is_own(one));
+    let mut once = after_own.take(labels.len());
+    once.find(is_new).expect("some label is new")
+}
+
+fn add(program: &Program, step: Step) -> Task {
+    let without = edited(program, Edit::Drop(step)).expect("the step is there");
+    task(&without, Edit::Add(step))
+}
+
+fn drop(program: &Program, step: Step) -> Task {
+    task(program, Edit::Drop(step))
+}
+
+fn replace(program: &Program, step: Step) -> Task {
+    task(program, Edit::Replace(step, next_label(program, step)))
+}
+
+type EditKind = fn(&Program, Step) -> Task;
+const EDIT_KINDS: [(&str, EditKind); 3] = [("add", add), ("drop", drop), ("replace", replace)];
+
+type Side = fn(&Task, &mut Buffers) -> bool;
+const SIDES: [Side; 2] = [repair, analysis];
+
+/// One turn: every edit once. The answer has to be right each time.
+fn turn(side: Side, tasks: &[Task], buffers: &mut Buffers) -> Duration {
+    let begin = Instant::now();
+    for task in tasks {
+        assert!(side(task, buffers), "the answer is not the right one");
+    }
+    begin.elapsed()
+}
+
+/// Repairs and analyses a second. The two take turns, so that what else the machine does disturbs
+/// them alike.
+fn measure(tasks: &[Task]) -> [f64; 2] {
+    let mut buffers = Buffers::new();
+    for side in SIDES {
+        turn(side, tasks, &mut buffers);
+    }
+    let (mut times, mut turns) = ([Duration::ZERO; 2], [0; 2]);
+    while times.iter().any(|&time| time < AT_LEAST) {
+        for place in 0..SIDES.len() {
+            if times[place] < AT_LEAST {
+                times[place] += turn(SIDES[place], tasks, &mut buffers);
+                turns[place] += 1;
+            }
+        }
+    }
+    let rate = |place: usize| (turns[place] * tasks.len()) as f64 / times[place].as_secs_f64();
+    [rate(0), rate(1)]
+}
+
+fn measure_row(kind: &str, edit: &str, tasks: &[Task]) {
+    let [repairs, analyses] = measure(tasks);
+    let standings: u32 = tasks.iter().map(|task| task.counts[0]).sum();
+    let changed: usize = tasks.iter().map(|task| task.changed).sum();
+    let cells = [
+        edit.to_string(),
+        (standings as usize / tasks.len()).to_string(),
+        (changed / tasks.len()).to_string(),
+        format!("{repairs:.0}"),
+        format!("{analyses:.0}"),
+        format!("{:.2}", repairs / analyses),
+    ];
+    print_row(kind, cells);
+}
+
+/// Measures and prints the table: for each kind of program a row for each kind of edit.
+pub fn print_table(kinds: &[(&str, Vec<Input>)]) {
+    println!("{ABOUT}");
+    let names = [
+        "edit",
+        "standings",
+        "changed",
+        "repairs",
+        "analyses",
+        "ratio",
+    ];
+    print_row("edits a second", names.map(String::from));
+    for (kind, inputs) in kinds {
+        for (edit, make) in EDIT_KINDS {
+            let edits = |input| {
+                let tasks = chosen_steps(input).into_iter();
+                tasks.map(move |step| make(&input.program, step))
+            };
+            let tasks: Vec<Task> = inputs.iter().flat_map(edits).collect();
+            measure_row(kind, edit, &tasks);
+        }
+    }
+}

@@ -1,0 +1,237 @@
+-- Rounds over the routines of a component: each turn marks what follows by the edges of one routine, and once a round marks nothing, what is marked
+-- is exactly what follows by the edges of all of them.
+use Prim.Native.Nat.{ℕ, suc, zero, _+_, _-_, _≤_, _<_}
+use mathlib.Core.Path.{_≡_, refl, sym, ap, subst, _∙_}
+use mathlib.Core.Logic.{_≢_}
+use mathlib.Core.Bool.{Bool, true, cond, not}
+use mathlib.Core.List.{List, [], _∷_}
+use native.Mathlib.Omega.{arith}
+use native.Mathlib.Decide.{ℕ-discrete}
+use lib.Dec.{eqb}
+use lib.ListN.{length, getD}
+use borrow.Author.Tests.{eqb-true, eqb-false, eq-eqb, ne-eqb, not-true}
+use Rattle.program.specs.Program.{Program}
+use Rattle.program.specs.WellFormed.{WellFormed}
+use Rattle.reach.specs.Configurations.{Set, number}
+use Rattle.reach.specs.Reachable.{Derivable, seeded, by-action, by-call, by-return, Any}
+use Rattle.reach.specs.Marks.{Marked, Shows, countSet}
+use Rattle.reach.proofs.Laws.{Sub, Within, grows}
+use Rattle.reach.proofs.Numbers.{number-of, parts-in-range}
+use Rattle.reach.proofs.Sizes.{sizes, Proper, derivable-state, derivable-in-range}
+use Rattle.reach.proofs.Flags.{on-lt}
+use Rattle.reach.proofs.Shown.{one-of, shows-marked, count-small}
+use Rattle.components.specs.Passes.{onlyOf}
+use Rattle.components.specs.Parts.{memberOf, Member}
+use Rattle.components.specs.PassParts.{is, Ready, ByRoutine, ByMembers, Grows, Round, Turn}
+use Rattle.components.proofs.Only.{only-well-formed, only-step, only-routine, step-only, only-within}
+
+-- ---- members
+
+pub member-true : (members : List ℕ) (f : ℕ) → Member members f → memberOf members f ≡ true
+member-true members f h = ap not (ne-eqb (getD members f 0) 0 h)
+
+pub true-member : (members : List ℕ) (f : ℕ) → memberOf members f ≡ true → Member members f
+true-member members f h = eqb-false (getD members f 0) 0 (not-true (eqb (getD members f 0) 0) h)
+
+-- ---- what follows from what follows
+
+flat : {p : Program} {S T : Set} → Sub S (Derivable p T Any) → {f n r q : ℕ} → Derivable p S Any f n r q → Derivable p T Any f n r q
+flat i (seeded x y) = i .at x
+flat i (by-action d e v y) = by-action (flat i d) e v y
+flat i (by-call d e v y) = by-call (flat i d) e v y
+flat i (by-return d e v d′ v′ y) = by-return (flat i d) e v (flat i d′) v′ y
+
+-- ---- marks that show a set
+
+pub shown-marked : {S : Set} {l : List ℕ} → Shows S l → Sub (Marked l) S
+shown-marked s = record { at = λ {f} {n} {r} {q} x. s .shown (x .0) .0 (one-of (s .bit (number f n r q)) (x .1)) }
+
+module _ {p : Program} {marks : List ℕ} (h : Ready p marks) (c : ℕ → Bool) where
+  w : WellFormed (onlyOf c p)
+  w = only-well-formed c p (h .well-formed)
+
+  proper : Proper (onlyOf c p) (Marked marks)
+  proper = record { in-range = λ x. x .0; state = λ x. h .states x }
+
+  pub only-state : {f n r q : ℕ} → Derivable (onlyOf c p) (Marked marks) Any f n r q → q < p .automaton .states
+  only-state d = derivable-state (sizes (onlyOf c p) w) proper d
+
+  pub marked-shown : {l : List ℕ} → Shows (Derivable (onlyOf c p) (Marked marks) Any) l → Sub (Derivable (onlyOf c p) (Marked marks) Any) (Marked l)
+  marked-shown s =
+      record {
+        at = λ {f} {n} {r} {q} d.
+            let i = derivable-in-range (sizes (onlyOf c p) w) proper d in
+            let e = s .shown i .1 d in
+            (i, λ z. omega arith);
+      }
+
+-- ---- marks that grow
+
+module _ {p : Program} {members marks : List ℕ} (h : Ready p marks) where
+  pub grows-none : Grows p members marks marks
+  grows-none =
+      record {
+        marks-length = h .marks-length;
+        marks-bits = h .marks-bits;
+        keeps = record { at = λ x. x };
+        sound = record { at = λ x. seeded x tt };
+      }
+
+  module _ {marks′ : List ℕ} (g : Grows p members marks marks′) where
+    pub grown-ready : Ready p marks′
+    grown-ready =
+        record {
+          well-formed = h .well-formed;
+          marks-length = g .marks-length;
+          marks-bits = g .marks-bits;
+          states = λ x. only-state h (memberOf members) (g .sound .at x);
+        }
+
+    pub grows-then : {marks″ : List ℕ} → Grows p members marks′ marks″ → Grows p members marks marks″
+    grows-then k =
+        record {
+          marks-length = k .marks-length;
+          marks-bits = k .marks-bits;
+          keeps = record { at = λ x. k .keeps .at (g .keeps .at x) };
+          sound = record { at = λ x. flat (g .sound) (k .sound .at x) };
+        }
+
+-- ---- a turn
+
+module _ {p : Program} {members marks : List ℕ} (h : Ready p marks) (f : ℕ) where
+  pub no-turn : getD members f 0 ≡ 0 → Turn p members f marks marks
+  no-turn e = record { grows = grows-none h; closed = λ m. absurd (m e) }
+
+  pub turn-shown : {marks′ : List ℕ} → Member members f → Shows (ByRoutine p f marks) marks′ → Turn p members f marks marks′
+  turn-shown m s =
+      let to = marked-shown h (is f) s in
+      record {
+        grows = record {
+          marks-length = s .len;
+          marks-bits = s .bit;
+          keeps = record { at = λ x. to .at (seeded x tt) };
+          sound = record { at = λ x. grows mine (record { at = λ y. y }) (record { at = λ y. y }) (shown-marked s .at x) };
+        };
+        closed = λ y. to;
+      }
+    where
+      mine : Within (onlyOf (is f) p) (onlyOf (memberOf members) p)
+      mine = only-within (is f) p (memberOf members) (λ g e. rw (eqb-true g f e) (member-true members f m))
+
+-- ---- a round
+
+pub round-none : {p : Program} {members marks : List ℕ} → Ready p marks → Round p members 0 marks marks
+round-none h = record { grows = grows-none h; closed = λ x f l. absurd (omega arith) }
+
+pub round-turn : {p : Program} {members marks marks′ marks″ : List ℕ} {n : ℕ} → Ready p marks → Round p members n marks marks′ → Turn p members n marks′ marks″
+    → Round p members (n + 1) marks marks″
+round-turn {p} {members} {marks} {marks′} {marks″} {n} h g t =
+    record {
+      grows = grows-then h (g .grows) (t .grows);
+      closed = λ x f l m.
+          elim (ℕ-discrete f n) [
+            | yes e ↦
+                let m′ : Member members n = subst (Member members) e m in
+                subst (λ (k : ℕ). Sub (ByRoutine p k marks) (Marked marks)) (sym e)
+                (record { at = λ y. x .at (t .closed m′ .at (grows (only-within (is n) p (is n) (λ k e. e)) (g .grows .keeps) (record { at = λ z. z }) y)) })
+            | no e ↦ g .closed (record { at = λ y. x .at (t .grows .keeps .at y) }) f (omega arith) m
+          ];
+    }
+
+-- ---- how many are marked
+
+-- a list that has each set byte of another has no fewer, and if it has no more, then the same
+one : ℕ → ℕ
+one b = cond (eqb b 0) 0 1
+
+one-set : (b : ℕ) → b ≢ 0 → one b ≡ 1
+unfolding one
+one-set b h = rw (ne-eqb b 0 h)
+
+one-clear : (b : ℕ) → b ≡ 0 → one b ≡ 0
+unfolding one
+one-clear b h = rw (eq-eqb b 0 h)
+
+one-grows : (a b : ℕ) → (a ≢ 0 → b ≢ 0) → one a ≤ one b
+one-grows a b i =
+    elim (ℕ-discrete a 0) [
+      | yes e ↦ omega (arith, one-clear a e)
+      | no e ↦ omega (arith, one-set a e, one-set b (i e))
+    ]
+
+pub count-grows : (l k : List ℕ) → length l ≡ length k → ((j : ℕ) → getD l j 0 ≢ 0 → getD k j 0 ≢ 0) → countSet l ≤ countSet k
+unfolding countSet one
+count-grows [] [] e i = omega arith
+count-grows [] (b ∷ k) e i = absurd (omega arith)
+count-grows (a ∷ l) [] e i = absurd (omega arith)
+count-grows (a ∷ l) (b ∷ k) e i = omega (arith, one-grows a b (i 0), count-grows l k (omega arith) (λ j. i (suc j)))
+
+pub count-same : (l k : List ℕ) → length l ≡ length k → ((j : ℕ) → getD l j 0 ≢ 0 → getD k j 0 ≢ 0) → countSet k ≤ countSet l
+    → (j : ℕ) → getD k j 0 ≢ 0 → getD l j 0 ≢ 0
+unfolding countSet one
+count-same [] [] e i c j h = h
+count-same [] (b ∷ k) e i c j h = absurd (omega arith)
+count-same (a ∷ l) [] e i c j h = absurd (omega arith)
+count-same (a ∷ l) (b ∷ k) e i c zero h =
+    λ z. omega (arith, count-grows l k (omega arith) (λ j. i (suc j)), one-set b h, one-clear a z)
+count-same (a ∷ l) (b ∷ k) e i c (suc j) h =
+    count-same l k (omega arith) (λ j. i (suc j)) (omega (arith, one-grows a b (i 0))) j h
+
+module _ {p : Program} {members marks marks′ : List ℕ} (h : Ready p marks) (g : Grows p members marks marks′) where
+  kept-at : (j : ℕ) → getD marks j 0 ≢ 0 → getD marks′ j 0 ≢ 0
+  kept-at j x =
+      let b : j < 16384 = omega (arith, h .marks-length, on-lt marks j (record { on = x })) in
+      let e = number-of j in
+      let y : Marked marks _ _ _ _ = (parts-in-range j b, subst (λ (i : ℕ). getD marks i 0 ≢ 0) (sym e) x) in
+      subst (λ (i : ℕ). getD marks′ i 0 ≢ 0) e (g .keeps .at y .1)
+
+  pub more-marks : countSet marks ≤ countSet marks′
+  more-marks = count-grows marks marks′ (h .marks-length ∙ sym (g .marks-length)) kept-at
+
+  -- so a round that marks more comes nearer to all
+  pub rounds-less : {after before : ℕ} → after ≡ countSet marks′ → before ≡ countSet marks → after ≢ before → 16384 - countSet marks′ < 16384 - countSet marks
+  rounds-less a b ne =
+      elim (ℕ-discrete (countSet marks′) (countSet marks)) [
+        | yes e ↦ absurd (ne (a ∙ e ∙ sym b))
+        | no e ↦ omega (arith, more-marks, count-small marks′, g .marks-length)
+      ]
+
+  pub none-new : countSet marks′ ≡ countSet marks → Sub (Marked marks′) (Marked marks)
+  none-new e =
+      record {
+        at = λ {f} {n} {r} {q} x.
+            (x .0, count-same marks marks′ (h .marks-length ∙ sym (g .marks-length)) kept-at (omega arith) (number f n r q) (x .1));
+      }
+
+-- ---- the end of the rounds
+
+module _ {p : Program} {members marks marks′ marks″ : List ℕ} (h : Ready p marks) (g : Grows p members marks marks′)
+    (r : Round p members 16 marks′ marks″) (e : countSet marks″ ≡ countSet marks′) where
+  closed : (f : ℕ) → f < 16 → Member members f → Sub (ByRoutine p f marks′) (Marked marks′)
+  closed = r .closed (none-new (grown-ready h g) (r .grows) e)
+
+  own-step : (f : ℕ) → is f f ≡ true
+  own-step f = eq-eqb f f refl
+
+  all-marked : {f n r q : ℕ} → ByMembers p members marks f n r q → Marked marks′ f n r q
+  all-marked (seeded x y) = g .keeps .at x
+  all-marked (by-action {f = f} d s v y) =
+      let x = all-marked d in
+      let m = true-member members f (only-routine (memberOf members) p s) in
+      closed f (x .0 .routine) m .at (by-action (seeded x tt) (step-only (is f) p (own-step f) (only-step (memberOf members) p s)) v tt)
+  all-marked (by-call {f = f} d s v y) =
+      let x = all-marked d in
+      let m = true-member members f (only-routine (memberOf members) p s) in
+      closed f (x .0 .routine) m .at (by-call (seeded x tt) (step-only (is f) p (own-step f) (only-step (memberOf members) p s)) v tt)
+  all-marked (by-return {f = f} {x = z} d s v d′ v′ y) =
+      let x = all-marked d in
+      let x′ = all-marked d′ in
+      let m = true-member members f (only-routine (memberOf members) p s) in
+      closed f (x .0 .routine) m .at
+      (by-return {x = z} (seeded x tt) (step-only (is f) p (own-step f) (only-step (memberOf members) p s)) v (seeded x′ tt) v′ tt)
+
+  pub rounds-end : Shows (ByMembers p members marks) marks″
+  rounds-end =
+      let k = grows-then h g (r .grows) in
+      shows-marked (k .marks-length) (k .marks-bits)
+      (λ f n r′ q. (λ x. k .sound .at x, λ d. r .grows .keeps .at (all-marked d)))

@@ -1,0 +1,35 @@
+-- `components::decide::calls_differ` meets its contract.
+use native.Mathlib.Omega.{arith}
+use mathlib.Core.Path.{_≡_}
+use lib.ListN.{length}
+use borrow.Author.Needs.{needs}
+use Rattle.components.proofs.Keyed.{keys-of}
+use Rattle.components.proofs.Turning.{differing-call, call-differing}
+use Rattle.components.proofs.decide.calls_differ.Statement.{statement}
+use Rattle.components.proofs.decide.calls_differ.Tie as tie
+
+room : (c : tie.Start) → length (c .args .p .edges .keys) ≡ 256
+room c = search needs
+
+in-use-requires : tie.Need-in-use-requires
+in-use-requires c κs = search needs
+
+slice-aggregate-some-differ : tie.Need-slice-aggregate-some-differ
+slice-aggregate-some-differ c = search needs
+
+some-differ-requires : tie.Need-some-differ-requires
+some-differ-requires c κs =
+    let z = c .before .before .before .before .before .before .before in
+    let h = room z in
+    let u = c .before .in-use .ensures in
+    (omega (arith, h, u), z .pre .1, z .pre .2, z .pre .3)
+
+returns : tie.Need-returns
+returns c =
+    let z = c .before .before .before .before .before .before .before .before in
+    let k = keys-of (z .args .p) (z .pre .0) (room z) (c .before .before .in-use .ensures) in
+    let s = c .some-differ .ensures in
+    record { if-yes = λ e. differing-call k (s .if-yes e); if-no = λ e d. s .if-no e (call-differing k d) }
+
+pub calls-differ-spec : {M : Type 1} → statement M
+calls-differ-spec = tie.close (tie.spec in-use-requires slice-aggregate-some-differ some-differ-requires returns)

@@ -1,0 +1,54 @@
+use mathlib.Core.Logic.{⊎-elim}
+use Rattle.components.proofs.Deciding.{Joining, joining-start, joining-off, joining-on, joining-end}
+use borrow.Author.Needs.{needs}
+use native.Mathlib.Omega.{arith}
+use Prim.Native.Nat.{_-_}
+use Rattle.components.proofs.decide.join.Statement.{statement}
+use Rattle.components.proofs.decide.join.Tie as tie
+
+abbrev Inv-loop : tie.InvT-loop
+Inv-loop flags₀ more f₀ flags f = Joining flags₀ more f flags
+
+abbrev μ-loop : tie.MeasureT-loop
+μ-loop flags₀ more f₀ flags f = 16 - f
+
+loop-holds : tie.Need-loop-holds Inv-loop μ-loop
+loop-holds c = joining-start _ _
+
+shared-slice-read-if1 : tie.Need-shared-slice-read-if1 Inv-loop μ-loop
+shared-slice-read-if1 c = search needs
+
+slice-write-flags : tie.Need-slice-write-flags Inv-loop μ-loop
+slice-write-flags c = let j = c .before .before .before .loop .inv in omega (arith, j .len)
+
+add-f : tie.Need-add-f Inv-loop μ-loop
+add-f c = search needs
+
+loop-less : tie.Need-loop-less Inv-loop μ-loop
+loop-less c = search needs
+
+loop-again : tie.Need-loop-again Inv-loop μ-loop
+loop-again c =
+    let j = c .before .before .before .loop .inv in
+    ⊎-elim (λ w. rw (w .1) (joining-on j (omega (arith, j .len)) (w .0 .taken))) (λ w. rw (w .1) (joining-off j (w .0 .left))) (c .if1 .came)
+
+same-length : tie.Need-same-length Inv-loop μ-loop
+same-length c = c .before .loop .inv .len
+
+returns : tie.Need-returns Inv-loop μ-loop
+returns c = joining-end (omega arith) (c .before .loop .inv)
+
+pub join-spec : {M : Type 1} → statement M
+join-spec =
+    tie.close
+    (tie.spec
+    Inv-loop
+    μ-loop
+    loop-holds
+    shared-slice-read-if1
+    slice-write-flags
+    add-f
+    loop-less
+    loop-again
+    same-length
+    returns)

@@ -1,0 +1,60 @@
+use Rattle.components.proofs.Deciding.{said-yes, said-no, none-more}
+use Rattle.components.specs.Turns.{DifferingEdge}
+use Rattle.program.specs.Decoded.{edgeOf}
+use borrow.Author.Needs.{needs}
+use native.Mathlib.Omega.{arith}
+use Prim.Native.Nat.{ℕ, _<_, _-_}
+use lib.ListN.{getD}
+use Rattle.components.proofs.decide.some_differ.Statement.{statement}
+use Rattle.components.proofs.decide.some_differ.Tie as tie
+
+abbrev Inv-loop : tie.InvT-loop
+Inv-loop keys count members before marks i₀ i = (j : ℕ) → j < i → ¬ (DifferingEdge members before marks (edgeOf (getD keys j 0)))
+
+abbrev μ-loop : tie.MeasureT-loop
+μ-loop keys count members before marks i₀ i = count - i
+
+loop-holds : tie.Need-loop-holds Inv-loop μ-loop
+loop-holds c = λ j h. absurd (omega arith)
+
+mul-edge-differs : tie.Need-mul-edge-differs Inv-loop μ-loop
+mul-edge-differs c = search needs
+
+shared-slice-read-edge-differs : tie.Need-shared-slice-read-edge-differs Inv-loop μ-loop
+shared-slice-read-edge-differs c = search needs
+
+edge-differs-requires : tie.Need-edge-differs-requires Inv-loop μ-loop
+edge-differs-requires c κs = search needs
+
+returns : tie.Need-returns Inv-loop μ-loop
+returns c =
+    let l = c .before .before .before .before in
+    said-yes (record { at = l .loop .i; below = omega arith; differing = c .before .edge-differs .ensures .if-yes (c .if1 .taken) })
+
+add-i : tie.Need-add-i Inv-loop μ-loop
+add-i c = search needs
+
+loop-less : tie.Need-loop-less Inv-loop μ-loop
+loop-less c = search needs
+
+loop-again : tie.Need-loop-again Inv-loop μ-loop
+loop-again c = none-more _ (c .before .before .before .before .loop .inv) (c .before .edge-differs .ensures .if-no (c .if1 .left))
+
+returns-2 : tie.Need-returns-2 Inv-loop μ-loop
+returns-2 c = said-no (λ d. c .before .loop .inv (d .at) (omega (arith, d .below)) (d .differing))
+
+pub some-differ-spec : {M : Type 1} → statement M
+some-differ-spec =
+    tie.close
+    (tie.spec
+    Inv-loop
+    μ-loop
+    loop-holds
+    mul-edge-differs
+    shared-slice-read-edge-differs
+    edge-differs-requires
+    returns
+    add-i
+    loop-less
+    loop-again
+    returns-2)

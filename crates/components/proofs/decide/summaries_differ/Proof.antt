@@ -1,0 +1,74 @@
+use Rattle.components.proofs.Deciding.{ApartAt, said-yes, said-no, apart-yes, apart-no, found-differs, none-differs, none-more}
+use borrow.Author.Needs.{needs}
+use native.Mathlib.Omega.{arith}
+use Prim.Native.Nat.{ℕ, _<_, _-_}
+use Rattle.components.proofs.decide.summaries_differ.Statement.{statement}
+use Rattle.components.proofs.decide.summaries_differ.Tie as tie
+
+abbrev Inv-loop : tie.InvT-loop
+Inv-loop before marks g i₀ i = (j : ℕ) → j < i → ¬ (ApartAt before marks g j)
+
+abbrev μ-loop : tie.MeasureT-loop
+μ-loop before marks g i₀ i = 64 - i
+
+loop-holds : tie.Need-loop-holds Inv-loop μ-loop
+loop-holds c = λ j h. absurd (omega arith)
+
+mul-was : tie.Need-mul-was Inv-loop μ-loop
+mul-was c = search needs
+
+add-was : tie.Need-add-was Inv-loop μ-loop
+add-was c = search needs
+
+shared-slice-read-was : tie.Need-shared-slice-read-was Inv-loop μ-loop
+shared-slice-read-was c = search needs
+
+mul-is : tie.Need-mul-is Inv-loop μ-loop
+mul-is c = search needs
+
+add-is : tie.Need-add-is Inv-loop μ-loop
+add-is c = search needs
+
+add-is-2 : tie.Need-add-is-2 Inv-loop μ-loop
+add-is-2 c = search needs
+
+shared-slice-read-is : tie.Need-shared-slice-read-is Inv-loop μ-loop
+shared-slice-read-is c = search needs
+
+returns : tie.Need-returns Inv-loop μ-loop
+returns c =
+    let z = c .before .before .before .before .before in
+    let l = c .before .before .before .before in
+    said-yes (found-differs _ _ (z .args .g) (omega arith) (l .loop .i) (omega arith) (apart-yes _ _ (c .if1 .taken)))
+
+add-i : tie.Need-add-i Inv-loop μ-loop
+add-i c = search needs
+
+loop-less : tie.Need-loop-less Inv-loop μ-loop
+loop-less c = search needs
+
+loop-again : tie.Need-loop-again Inv-loop μ-loop
+loop-again c = none-more _ (c .before .before .before .before .loop .inv) (apart-no _ _ (c .if1 .left))
+
+returns-2 : tie.Need-returns-2 Inv-loop μ-loop
+returns-2 c = said-no (none-differs _ _ (c .before .before .args .g) (omega arith) (λ j h. c .before .loop .inv j (omega arith)))
+
+pub summaries-differ-spec : {M : Type 1} → statement M
+summaries-differ-spec =
+    tie.close
+    (tie.spec
+    Inv-loop
+    μ-loop
+    loop-holds
+    mul-was
+    add-was
+    shared-slice-read-was
+    mul-is
+    add-is
+    add-is-2
+    shared-slice-read-is
+    returns
+    add-i
+    loop-less
+    loop-again
+    returns-2)

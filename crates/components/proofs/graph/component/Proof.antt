@@ -1,0 +1,56 @@
+-- `components::graph::component` meets its contract. The loop's invariant: the flags below `g` are those of the
+-- component.
+use Rattle.components.proofs.Graphed.{component-flag}
+use Rattle.components.specs.Graphs.{togetherFlag}
+use Rattle.components.proofs.Bytewise.{Filling, filling-start, filling-turn}
+use borrow.Author.Needs.{needs}
+use native.Mathlib.Omega.{arith}
+use Prim.Native.Nat.{_<_, _-_}
+use mathlib.Core.Path.{_≡_, refl}
+use lib.ListN.{length, length-set}
+use Rattle.components.proofs.graph.component.Statement.{statement}
+use Rattle.components.proofs.graph.component.Tie as tie
+
+abbrev Inv-loop : tie.InvT-loop
+Inv-loop leads f flags₀ g₀ flags g = Filling (togetherFlag leads f) flags₀ g flags × (length flags ≡ 16)
+
+abbrev μ-loop : tie.MeasureT-loop
+μ-loop leads f flags₀ g₀ flags g = 16 - g
+
+loop-holds : tie.Need-loop-holds Inv-loop μ-loop
+loop-holds c = (filling-start _ _, refl)
+
+is-together-requires : tie.Need-is-together-requires Inv-loop μ-loop
+is-together-requires c κs = search needs
+
+array-write-flags : tie.Need-array-write-flags Inv-loop μ-loop
+array-write-flags c = search needs
+
+add-g : tie.Need-add-g Inv-loop μ-loop
+add-g c = search needs
+
+loop-less : tie.Need-loop-less Inv-loop μ-loop
+loop-less c = search needs
+
+loop-again : tie.Need-loop-again Inv-loop μ-loop
+loop-again c = let p = c .before .before .loop in
+    let h : p .g < length (p .flags) = omega (arith, p .inv .1) in
+    (filling-turn (p .inv .0) h (c .is-together .ensures), simp length-set (p .inv .1))
+
+returns : tie.Need-returns Inv-loop μ-loop
+returns c = λ p l g h.
+    component-flag l (omega (arith, c .before .before .before .pre)) h (c .before .loop .inv .0 .done g (omega arith))
+
+pub component-spec : {M : Type 1} → statement M
+component-spec =
+    tie.close
+    (tie.spec
+    Inv-loop
+    μ-loop
+    loop-holds
+    is-together-requires
+    array-write-flags
+    add-g
+    loop-less
+    loop-again
+    returns)

@@ -1,0 +1,51 @@
+-- `components::graph::rank` meets its contract. The loop's invariant: `n` is the count of the routines below `g`.
+use Rattle.components.proofs.Graphed.{rank-none, rank-next, rank-all}
+use Rattle.components.specs.Graphs.{rankBelow}
+use borrow.Author.Needs.{needs}
+use native.Mathlib.Omega.{arith}
+use Prim.Native.Nat.{_≤_, _-_}
+use mathlib.Core.Path.{_≡_}
+use Rattle.components.proofs.graph.rank.Statement.{statement}
+use Rattle.components.proofs.graph.rank.Tie as tie
+
+abbrev Inv-loop : tie.InvT-loop
+Inv-loop leads f n₀ g₀ n g = (n ≡ rankBelow leads f g) × (n ≤ g) × (g ≤ 16)
+
+abbrev μ-loop : tie.MeasureT-loop
+μ-loop leads f n₀ g₀ n g = 16 - g
+
+loop-holds : tie.Need-loop-holds Inv-loop μ-loop
+loop-holds c = (rank-none _ _, omega arith, omega arith)
+
+is-counted-requires : tie.Need-is-counted-requires Inv-loop μ-loop
+is-counted-requires c κs = search needs
+
+add-n : tie.Need-add-n Inv-loop μ-loop
+add-n c = search needs
+
+add-g : tie.Need-add-g Inv-loop μ-loop
+add-g c = search needs
+
+loop-less : tie.Need-loop-less Inv-loop μ-loop
+loop-less c = search needs
+
+loop-again : tie.Need-loop-again Inv-loop μ-loop
+loop-again c = let p = c .before .before .loop in
+    (rank-next _ _ _ (p .inv .0) (c .is-counted .ensures .0), omega (arith, p .inv .1), omega (arith, p .inv .2))
+
+returns : tie.Need-returns Inv-loop μ-loop
+returns c = rank-all _ _ (omega (arith, c .before .loop .inv .2)) (c .before .loop .inv .0)
+
+pub rank-spec : {M : Type 1} → statement M
+rank-spec =
+    tie.close
+    (tie.spec
+    Inv-loop
+    μ-loop
+    loop-holds
+    is-counted-requires
+    add-n
+    add-g
+    loop-less
+    loop-again
+    returns)

@@ -1,0 +1,48 @@
+-- `components::pass::component_pass` meets its contract.
+use Rattle.components.proofs.Passing.{first-ready, passed}
+use mathlib.Core.Path.{_≡_, sym, _∙_}
+use lib.ListN.{length}
+use borrow.Author.Needs.{needs}
+use Rattle.components.proofs.pass.component_pass.Statement.{statement}
+use Rattle.components.proofs.pass.component_pass.Tie as tie
+
+next-states-requires : tie.Need-next-states-requires
+next-states-requires c κs = search needs
+
+reset-requires : tie.Need-reset-requires
+reset-requires c κs =
+    let z = c .before .before .before .before .before .before .before .before .pre .1 in
+    (z .members-length, z .roots-length, z .marks-length)
+
+slice-aggregate-rounds : tie.Need-slice-aggregate-rounds
+slice-aggregate-rounds c = search needs
+
+rounds-requires : tie.Need-rounds-requires
+rounds-requires c κs =
+    let z = c .before .before .before .before .before .before .before .before .before .before .before .before .before .before .pre in
+    let o = c .before .before .before .before .before .before .before .before .next-states .ok in
+    let flags : length (c .before .before .before .before .before .before .before .before .next-states .result .flags) ≡ 2048 = search (needs, o) in
+    ((z .1 .members-length, flags, z .0 .1), (first-ready (z .0 .0) (z .1) (c .before .before .before .before .before .reset .ensures), c .before .before .before .before .before .before .before .before .next-states .ensures))
+
+same-length : tie.Need-same-length
+same-length c = c .before .before .before .before .rounds .ensures .len ∙ sym (c .before .before .before .before .before .before .before .before .before .before .before .before .before .before .before .before .before .before .before .pre .1 .marks-length)
+
+same-length-2 : tie.Need-same-length-2
+same-length-2 c = c .before .before .before .before .rounds .kept .1 .1 .1 .1 .0
+
+returns : tie.Need-returns
+returns c =
+    let z = c .before .before .before .before .before .before .before .before .before .before .before .before .before .before .before .before .before .before .before .pre in
+    (passed (z .0 .0) (z .1) (c .before .before .before .before .before .before .before .before .before .before .reset .ensures) (c .before .before .before .before .rounds .ensures), c .before .before .before .before .rounds .kept .1 .1 .1 .1 .0 ∙ z .0 .1)
+
+pub component-pass-spec : {M : Type 1} → statement M
+component-pass-spec =
+    tie.close
+    (tie.spec
+    next-states-requires
+    reset-requires
+    slice-aggregate-rounds
+    rounds-requires
+    same-length
+    same-length-2
+    returns)

@@ -1,0 +1,59 @@
+-- `components::pass::first_of` meets its contract. The loop's invariant: the routines of the first `i` edges are below `f`.
+use native.Mathlib.Decide.{ℕ-discrete}
+use borrow.Author.Needs.{needs}
+use native.Mathlib.Omega.{arith}
+use Prim.Native.Nat.{ℕ, _≤_, _<_, _-_, _/_}
+use lib.ListN.{getD}
+use Rattle.components.proofs.pass.first_of.Statement.{statement}
+use Rattle.components.proofs.pass.first_of.Tie as tie
+
+abbrev Inv-loop : tie.InvT-loop
+Inv-loop keys count f i₀ i = (i ≤ count) × ((j : ℕ) → j < i → getD keys j 0 / 0x1000000 < f)
+
+abbrev μ-loop : tie.MeasureT-loop
+μ-loop keys count f i₀ i = count - i
+
+loop-holds : tie.Need-loop-holds Inv-loop μ-loop
+loop-holds c = (omega arith, λ j h. absurd (omega arith))
+
+mul-if1 : tie.Need-mul-if1 Inv-loop μ-loop
+mul-if1 c = search needs
+
+shared-slice-read-if1 : tie.Need-shared-slice-read-if1 Inv-loop μ-loop
+shared-slice-read-if1 c = search needs
+
+returns : tie.Need-returns Inv-loop μ-loop
+returns c =
+    let p = c .before .before .before in
+    record { within = p .loop .inv .0; below = p .loop .inv .1; not-below = λ h. c .if1 .taken }
+
+add-i : tie.Need-add-i Inv-loop μ-loop
+add-i c = search needs
+
+loop-less : tie.Need-loop-less Inv-loop μ-loop
+loop-less c = search needs
+
+loop-again : tie.Need-loop-again Inv-loop μ-loop
+loop-again c =
+    let p = c .before .before .before in
+    (omega arith, λ j h. elim (ℕ-discrete j (p .loop .i)) [ yes e ↦ rw e (omega (arith, c .if1 .left)) | no e ↦ p .loop .inv .1 j (omega arith) ])
+
+returns-2 : tie.Need-returns-2 Inv-loop μ-loop
+returns-2 c =
+    let p = c .before in
+    record { within = p .loop .inv .0; below = p .loop .inv .1; not-below = λ h. absurd (omega arith) }
+
+pub first-of-spec : {M : Type 1} → statement M
+first-of-spec =
+    tie.close
+    (tie.spec
+    Inv-loop
+    μ-loop
+    loop-holds
+    mul-if1
+    shared-slice-read-if1
+    returns
+    add-i
+    loop-less
+    loop-again
+    returns-2)

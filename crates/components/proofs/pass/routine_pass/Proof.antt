@@ -1,0 +1,48 @@
+-- `components::pass::routine_pass` meets its contract: following starts from these marks, so it ends with what follows from them.
+use Rattle.analysis.proofs.Begun.{none-yet}
+use Rattle.components.proofs.Closure.{routine-ends, routine-done}
+use native.Mathlib.Omega.{arith}
+use borrow.Author.Needs.{needs}
+use Rattle.components.proofs.pass.routine_pass.Statement.{statement}
+use Rattle.components.proofs.pass.routine_pass.Tie as tie
+
+slice-aggregate-learn-exits : tie.Need-slice-aggregate-learn-exits
+slice-aggregate-learn-exits c = search needs
+
+learn-exits-requires : tie.Need-learn-exits-requires
+learn-exits-requires c κs = search needs
+
+await-routine-requires : tie.Need-await-routine-requires
+await-routine-requires c κs = search needs
+
+slice-aggregate-follow-pending : tie.Need-slice-aggregate-follow-pending
+slice-aggregate-follow-pending c = search needs
+
+follow-pending-requires : tie.Need-follow-pending-requires
+follow-pending-requires c κs =
+    let z = c .before .before .before .before .before .before .before .before .before .before .before .before .before .before .before .before .pre in
+    let p = z .1 .0 in
+    let e = routine-ends (z .1 .1) (c .before .before .before .before .before .before .before .before .before .learn-exits .ensures) (c .before .before .before .before .before .await-routine .ensures) in
+    ((omega arith, z .0 .0, none-yet _), (_, e))
+
+same-length : tie.Need-same-length
+same-length c = search needs
+
+same-length-2 : tie.Need-same-length-2
+same-length-2 c = search needs
+
+returns : tie.Need-returns
+returns c = λ p r. let kn = c .before .before .before .before .before .before .before .before .before .before .before .before .before .before .before .learn-exits .ensures in let pe = c .before .before .before .before .before .before .before .before .before .before .before .await-routine .ensures in routine-done r kn pe (c .before .before .before .before .before .follow-pending .ensures _ (routine-ends r kn pe))
+
+pub routine-pass-spec : {M : Type 1} → statement M
+routine-pass-spec =
+    tie.close
+    (tie.spec
+    slice-aggregate-learn-exits
+    learn-exits-requires
+    await-routine-requires
+    slice-aggregate-follow-pending
+    follow-pending-requires
+    same-length
+    same-length-2
+    returns)

@@ -1,0 +1,101 @@
+-- `components::pass::turn` meets its contract: the part of the table that is handed on has the edges of routine `f`.
+use Rattle.program.specs.Decoded.{programOf}
+use Rattle.components.proofs.Slice.{part-starts, routine-edges}
+use Rattle.components.proofs.Rounds.{no-turn, turn-shown}
+use native.Mathlib.Omega.{arith}
+use mathlib.Core.Path.{_≡_}
+use lib.ListN.{length}
+use borrow.Author.Needs.{needs}
+use Rattle.components.proofs.pass.turn.Statement.{statement}
+use Rattle.components.proofs.pass.turn.Tie as tie
+
+room : (c : tie.Start) → length (c .args .p .edges .keys) ≡ 256
+room c = search needs
+
+shared-slice-read-if1 : tie.Need-shared-slice-read-if1
+shared-slice-read-if1 c = search needs
+
+returns : tie.Need-returns
+returns c = no-turn (c .before .before .before .before .before .before .pre .1 .0) _ (c .if1 .taken)
+
+in-use-requires : tie.Need-in-use-requires
+in-use-requires c κs = search needs
+
+slice-aggregate-first-of : tie.Need-slice-aggregate-first-of
+slice-aggregate-first-of c = search needs
+
+first-of-requires : tie.Need-first-of-requires
+first-of-requires c κs =
+    let h = room (c .before .before .before .before .before .before .before .before .before .before) in
+    let u = c .before .in-use .ensures in
+    omega (arith, h, u)
+
+slice-aggregate-first-of-2 : tie.Need-slice-aggregate-first-of-2
+slice-aggregate-first-of-2 c = search needs
+
+add-first-of : tie.Need-add-first-of
+add-first-of c = search needs
+
+first-of-requires-2 : tie.Need-first-of-requires-2
+first-of-requires-2 c κs =
+    let h = room (c .before .before .before .before .before .before .before .before .before .before .before .before) in
+    let u = c .before .before .before .in-use .ensures in
+    omega (arith, h, u)
+
+mul-routine-pass : tie.Need-mul-routine-pass
+mul-routine-pass c = search needs
+
+sub-routine-pass : tie.Need-sub-routine-pass
+sub-routine-pass c = part-starts (c .before .before .first-of .ensures) (c .first-of2 .ensures)
+
+part-routine-pass-start : tie.Need-part-routine-pass-start
+part-routine-pass-start c =
+    let x = part-starts (c .before .before .before .first-of .ensures) (c .before .first-of2 .ensures) in
+    omega (arith, x)
+
+part-routine-pass-end : tie.Need-part-routine-pass-end
+part-routine-pass-end c =
+    let h = room (c .before .before .before .before .before .before .before .before .before .before .before .before .before .before) in
+    let u = c .before .before .before .before .before .in-use .ensures in
+    let x = part-starts (c .before .before .before .first-of .ensures) (c .before .first-of2 .ensures) in
+    let y = c .before .first-of2 .ensures .within in
+    omega (arith, h, u, x, y)
+
+routine-pass-requires : tie.Need-routine-pass-requires
+routine-pass-requires c κs =
+    let z = c .before .before .before .before .before .before .before .before .before .before .before .before .before .before .before .before .before in
+    let e = routine-edges (z .args .p .edges .count) (room z) (c .before .before .before .before .before .before .before .before .in-use .ensures) (c .before .before .before .before .before .before .first-of .ensures) (c .before .before .before .before .first-of2 .ensures) (z .pre .1 .0 .well-formed .edges-ascend) in
+    ((z .pre .0 .2, z .pre .0 .3), (programOf (z .args .p), record { ready = z .pre .1 .0; edges = e; answers = z .pre .1 .1 }))
+
+same-length : tie.Need-same-length
+same-length c = search needs
+
+same-length-2 : tie.Need-same-length-2
+same-length-2 c = search needs
+
+returns-2 : tie.Need-returns-2
+returns-2 c =
+    let z = c .before .before .before .before .before .before .before .before .before .before .before .before .before .before .before .before .before .before .before .before .before .before in
+    let e = routine-edges (z .args .p .edges .count) (room z) (c .before .before .before .before .before .before .before .before .before .before .before .before .before .in-use .ensures) (c .before .before .before .before .before .before .before .before .before .before .before .first-of .ensures) (c .before .before .before .before .before .before .before .before .before .first-of2 .ensures) (z .pre .1 .0 .well-formed .edges-ascend) in
+    turn-shown (z .pre .1 .0) _ (c .before .before .before .before .before .before .before .before .before .before .before .before .before .before .before .before .if1 .left) (c .before .before .before .before .routine-pass .ensures (programOf (z .args .p)) (record { ready = z .pre .1 .0; edges = e; answers = z .pre .1 .1 }))
+
+pub turn-spec : {M : Type 1} → statement M
+turn-spec =
+    tie.close
+    (tie.spec
+    shared-slice-read-if1
+    returns
+    in-use-requires
+    slice-aggregate-first-of
+    first-of-requires
+    slice-aggregate-first-of-2
+    add-first-of
+    first-of-requires-2
+    mul-routine-pass
+    sub-routine-pass
+    part-routine-pass-start
+    part-routine-pass-end
+    routine-pass-requires
+    same-length
+    same-length-2
+    returns-2)

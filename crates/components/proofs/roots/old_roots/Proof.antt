@@ -1,0 +1,65 @@
+-- `components::roots::old_roots` meets its contract. The loop's invariant: the flags below `i` are the entries' bytes.
+use Rattle.components.proofs.Occurring.{entries-flagged}
+use Rattle.components.proofs.Bytewise.{Filling, filling-start, filling-turn}
+use Prim.Native.Nat.{_/_, _%_, _<_, _+_, _-_, _*_}
+use borrow.Author.Needs.{needs}
+use native.Mathlib.Omega.{arith}
+use mathlib.Core.Path.{_≡_, refl}
+use lib.ListN.{length, getD, length-set}
+use Rattle.components.proofs.roots.old_roots.Statement.{statement}
+use Rattle.components.proofs.roots.old_roots.Tie as tie
+
+abbrev Inv-loop : tie.InvT-loop
+Inv-loop marks flags₀ i₀ flags i = Filling (λ i. getD marks (i / 8 * 1024 + i % 8 * 9) 0) flags₀ i flags × (length flags ≡ 128)
+
+abbrev μ-loop : tie.MeasureT-loop
+μ-loop marks flags₀ i₀ flags i = 128 - i
+
+loop-holds : tie.Need-loop-holds Inv-loop μ-loop
+loop-holds c = (filling-start _ _, refl)
+
+mul-flags : tie.Need-mul-flags Inv-loop μ-loop
+mul-flags c = search needs
+
+mul-flags-2 : tie.Need-mul-flags-2 Inv-loop μ-loop
+mul-flags-2 c = search needs
+
+add-flags : tie.Need-add-flags Inv-loop μ-loop
+add-flags c = search needs
+
+shared-slice-read-flags : tie.Need-shared-slice-read-flags Inv-loop μ-loop
+shared-slice-read-flags c = search needs
+
+array-write-flags : tie.Need-array-write-flags Inv-loop μ-loop
+array-write-flags c = search needs
+
+add-i : tie.Need-add-i Inv-loop μ-loop
+add-i c = search needs
+
+loop-less : tie.Need-loop-less Inv-loop μ-loop
+loop-less c = search needs
+
+loop-again : tie.Need-loop-again Inv-loop μ-loop
+loop-again c = let p = c .before .before .loop in
+    let h : p .i < length (p .flags) = omega (arith, p .inv .1) in
+    (filling-turn (p .inv .0) h refl, simp length-set (p .inv .1))
+
+returns : tie.Need-returns Inv-loop μ-loop
+returns c = entries-flagged (c .before .before .args .marks .now) (c .before .loop .flags) (c .before .loop .inv .1) (λ i h. c .before .loop .inv .0 .done i (omega arith))
+
+pub old-roots-spec : {M : Type 1} → statement M
+old-roots-spec =
+    tie.close
+    (tie.spec
+    Inv-loop
+    μ-loop
+    loop-holds
+    mul-flags
+    mul-flags-2
+    add-flags
+    shared-slice-read-flags
+    array-write-flags
+    add-i
+    loop-less
+    loop-again
+    returns)

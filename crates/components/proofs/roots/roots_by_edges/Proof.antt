@@ -1,0 +1,59 @@
+-- `components::roots::roots_by_edges` meets its contract. The loop's invariant: what the edges from `i` on add gives
+-- the whole.
+use Rattle.components.specs.Graphs.{rootsByEdge}
+use Rattle.components.proofs.Growth.{Turning, turning-start, turning-turn, turning-end}
+use borrow.Author.Needs.{needs}
+use native.Mathlib.Omega.{arith}
+use Prim.Native.Nat.{_-_}
+use lib.ListN.{getD}
+use Rattle.components.proofs.roots.roots_by_edges.Statement.{statement}
+use Rattle.components.proofs.roots.roots_by_edges.Tie as tie
+
+abbrev Inv-loop : tie.InvT-loop
+Inv-loop marks states keys count live₀ i₀ live i = Turning (λ i. rootsByEdge marks states (getD keys i 0)) count live₀ i live
+
+abbrev μ-loop : tie.MeasureT-loop
+μ-loop marks states keys count live₀ i₀ live i = count - i
+
+loop-holds : tie.Need-loop-holds Inv-loop μ-loop
+loop-holds c = turning-start _ _ _
+
+mul-roots-by-edge : tie.Need-mul-roots-by-edge Inv-loop μ-loop
+mul-roots-by-edge c = search needs
+
+shared-slice-read-roots-by-edge : tie.Need-shared-slice-read-roots-by-edge Inv-loop μ-loop
+shared-slice-read-roots-by-edge c = search needs
+
+roots-by-edge-requires : tie.Need-roots-by-edge-requires Inv-loop μ-loop
+roots-by-edge-requires c κs = search needs
+
+add-i : tie.Need-add-i Inv-loop μ-loop
+add-i c = search needs
+
+loop-less : tie.Need-loop-less Inv-loop μ-loop
+loop-less c = search needs
+
+loop-again : tie.Need-loop-again Inv-loop μ-loop
+loop-again c = turning-turn (c .before .before .before .before .before .before .loop .inv) (omega arith) (c .before .before .roots-by-edge .ensures) (c .before .before .roots-by-edge .kept .1 .1 .0)
+
+same-length : tie.Need-same-length Inv-loop μ-loop
+same-length c = c .before .loop .inv .size
+
+returns : tie.Need-returns Inv-loop μ-loop
+returns c = turning-end (c .before .loop .inv) (omega arith)
+
+pub roots-by-edges-spec : {M : Type 1} → statement M
+roots-by-edges-spec =
+    tie.close
+    (tie.spec
+    Inv-loop
+    μ-loop
+    loop-holds
+    mul-roots-by-edge
+    shared-slice-read-roots-by-edge
+    roots-by-edge-requires
+    add-i
+    loop-less
+    loop-again
+    same-length
+    returns)

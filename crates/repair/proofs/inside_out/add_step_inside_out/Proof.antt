@@ -1,0 +1,54 @@
+-- `repair::inside_out::add_step_inside_out` meets its contract.
+use Rattle.repair.proofs.Reworked.{copied-fresh, added-flags}
+use Rattle.reach.proofs.Kept.{marks-length}
+use Rattle.program.specs.Decoded.{programOf}
+use lib.ListN.{length}
+use mathlib.Core.Path.{_≡_, ap, _∙_}
+use borrow.Author.Needs.{needs}
+use Rattle.repair.proofs.inside_out.add_step_inside_out.Statement.{statement}
+use Rattle.repair.proofs.inside_out.add_step_inside_out.Tie as tie
+
+slice-aggregate-copy : tie.Need-slice-aggregate-copy
+slice-aggregate-copy c = search needs
+
+copy-requires : tie.Need-copy-requires
+copy-requires c κs =
+    let z = c .before .before .before .before in
+    let m : length (z .args .marks .now) ≡ 16384 = ap length (z .pre .1 .0) ∙ marks-length (programOf (z .args .p)) in
+    search (needs, m)
+
+add-step-requires : tie.Need-add-step-requires
+add-step-requires c κs = let z = c .before .before .before .before .before .before .before .before in (z .pre .0, z .pre .1)
+
+slice-aggregate-gained : tie.Need-slice-aggregate-gained
+slice-aggregate-gained c = search needs
+
+gained-requires : tie.Need-gained-requires
+gained-requires c κs = (search needs, ap length (c .before .before .before .before .before .before .add-step .ensures .own) ∙ marks-length _)
+
+same-length : tie.Need-same-length
+same-length c = search needs
+
+same-length-2 : tie.Need-same-length-2
+same-length-2 c = search needs
+
+returns : tie.Need-returns
+returns c =
+    let z = c .before .before .before .before .before .before .before .before .before .before .before .before .before .before .before .before in
+    let p = programOf (z .args .p) in
+    let r = c .before .before .before .before .before .before .before .add-step .ensures in
+    let o = copied-fresh p (z .args .marks .now) (z .pre .1 .0) (c .before .before .before .before .before .before .before .before .before .before .before .copy .ensures .1) in
+    (r, added-flags (z .args .s) p _ (z .pre .0 .0) (z .pre .0 .1) o r (c .gained .ensures))
+
+pub add-step-inside-out-spec : {M : Type 1} → statement M
+add-step-inside-out-spec =
+    tie.close
+    (tie.spec
+    slice-aggregate-copy
+    copy-requires
+    add-step-requires
+    slice-aggregate-gained
+    gained-requires
+    same-length
+    same-length-2
+    returns)

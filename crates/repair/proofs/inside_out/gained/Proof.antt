@@ -1,0 +1,58 @@
+-- `repair::inside_out::gained` meets its contract. The loop's invariant: the flags are those of the new marks below `i`.
+use mathlib.Core.Logic.{⊎-elim}
+use Rattle.repair.proofs.Reworked.{Gaining, gaining-start, gaining-on, gaining-off, gaining-end, more-yes, more-no}
+use borrow.Author.Needs.{needs}
+use native.Mathlib.Omega.{arith}
+use Prim.Native.Nat.{_-_, _<_}
+use Rattle.repair.proofs.inside_out.gained.Statement.{statement}
+use Rattle.repair.proofs.inside_out.gained.Tie as tie
+
+abbrev Inv-loop : tie.InvT-loop
+Inv-loop old new flags₀ i₀ flags i = Gaining old new i flags
+
+abbrev μ-loop : tie.MeasureT-loop
+μ-loop old new flags₀ i₀ flags i = 16384 - i
+
+loop-holds : tie.Need-loop-holds Inv-loop μ-loop
+loop-holds c = gaining-start _ _
+
+shared-slice-read-was : tie.Need-shared-slice-read-was Inv-loop μ-loop
+shared-slice-read-was c = search needs
+
+shared-slice-read-is : tie.Need-shared-slice-read-is Inv-loop μ-loop
+shared-slice-read-is c = search needs
+
+array-write-flags : tie.Need-array-write-flags Inv-loop μ-loop
+array-write-flags c = omega arith
+
+add-i : tie.Need-add-i Inv-loop μ-loop
+add-i c = search needs
+
+loop-less : tie.Need-loop-less Inv-loop μ-loop
+loop-less c = search needs
+
+loop-again : tie.Need-loop-again Inv-loop μ-loop
+loop-again c =
+    let l = c .before .before .before .before .loop in
+    let b : l .i < 16384 = omega arith in
+    ⊎-elim (λ w. let m = more-yes _ _ (w .0 .taken) in rw (w .1) (gaining-on (l .inv) b (m .0) (m .1)))
+    (λ w. rw (w .1) (gaining-off (l .inv) b (more-no _ _ (w .0 .left))))
+    (c .if1 .came)
+
+returns : tie.Need-returns Inv-loop μ-loop
+returns c = gaining-end (c .before .loop .inv) (omega arith)
+
+pub gained-spec : {M : Type 1} → statement M
+gained-spec =
+    tie.close
+    (tie.spec
+    Inv-loop
+    μ-loop
+    loop-holds
+    shared-slice-read-was
+    shared-slice-read-is
+    array-write-flags
+    add-i
+    loop-less
+    loop-again
+    returns)

@@ -1,0 +1,4 @@
+pub mod Sample
+pub mod Ends
+pub mod Blocks
+pub mod Theorems

@@ -1,0 +1,27 @@
+-- The paper's sample input and output of `bench`, by the definition.
+use mathlib.Core.Path.{_≡_, refl}
+use mathlib.Core.List.{List, [], _∷_, _++_}
+use Prim.Native.Nat.{ℕ}
+use Prim.Native.String.{String}
+use Rattle.text.specs.Hex.{hex}
+use Rattle.text.specs.Lines.{lines, numbers}
+use Rattle.automaton.specs.Automaton.{listed, moves, member}
+use Rattle.program.specs.Reading.{judgeAs, judge, afterAs, after, readFrom, readFile}
+use Rattle.program.specs.Writing.{text}
+use Rattle.program.proofs.Samples.{bytes, header, edges, transitions}
+use Rattle.reach.specs.Configurations.{number, routineOf, nodeOf, rootOf, stateOf, none-set}
+use Rattle.reach.specs.Worklist.{lowest, mark, wake, markWhen, summary, onAction, onReturns, onLabel, labelWhen, onSteps, wakeRoots, calls, wakeWhen, wakeCallers, learn, takeFrom, takeAt, work, opened, analysis}
+use Rattle.reach.specs.Marks.{countSet, violationsFrom}
+use Rattle.edit.specs.EditLines.{editFrom, readEdit}
+use Rattle.edit.specs.Editing.{hasEdge, without, inserted, editedProgram, wantedEdit}
+use Rattle.report.specs.Report.{fileSize, blockOf, editsText, benchText}
+
+abbrev input : List String
+input = header ++ edges ++ transitions ++ "4900" ∷ "4602" ∷ "45000C" ∷ "2B00000102" ∷ "2D00000102" ∷ "2D00000102" ∷ []
+
+abbrev output : List String
+output = "5A00050000" ∷ "5800020002" ∷ "5A00060001" ∷ "5A00050000" ∷ "210E" ∷ []
+
+sample : benchText (bytes input) ≡ bytes output
+unfolding hex lines numbers listed moves member judgeAs judge afterAs after readFrom readFile text number routineOf nodeOf rootOf stateOf none-set lowest mark wake markWhen summary onAction onReturns onLabel labelWhen onSteps wakeRoots calls wakeWhen wakeCallers learn takeFrom takeAt work opened analysis countSet violationsFrom editFrom readEdit hasEdge without inserted editedProgram wantedEdit fileSize blockOf editsText benchText
+sample = refl

@@ -1,0 +1,55 @@
+-- `report::put::put_violation` meets its contract, whichever program has these rejecting states.
+use mathlib.Core.Path.{_≡_, ap}
+use native.Mathlib.Omega.{arith}
+use borrow.Author.Needs.{needs}
+use Rattle.text.specs.declared.Line.{Line}
+use Rattle.writer.proofs.Written.{put-one}
+use Rattle.report.specs.Report.{violationFrame}
+use Rattle.report.proofs.Blocks.{put-violation, put-nothing}
+use Rattle.report.proofs.put.put_violation.Statement.{statement}
+use Rattle.report.proofs.put.put_violation.Tie as tie
+
+shared-slice-read-is-violation : tie.Need-shared-slice-read-is-violation
+shared-slice-read-is-violation c = search needs
+
+shared-slice-read-is-violation-2 : tie.Need-shared-slice-read-is-violation-2
+shared-slice-read-is-violation-2 c = search needs
+
+violation-line-requires : tie.Need-violation-line-requires
+violation-line-requires c κs = search needs
+
+put-line-requires : tie.Need-put-line-requires
+put-line-requires c κs =
+    let n : c .before .violation-line .result .count ≡ 5 = ap (λ (l : Line). l .count) (c .before .violation-line .ensures) in
+    omega arith
+
+same-length : tie.Need-same-length
+same-length c = search needs
+
+returns : tie.Need-returns
+returns c =
+    let q = c .before .before in
+    let v = q .before .before in
+    let n : v .violation-line .result .count ≡ 5 = ap (λ (l : Line). l .count) (v .violation-line .ensures) in
+    let a = v .before .before .before .before .before .before .before .args in (
+      omega (arith, q .put-line .ensures .0),
+      λ p r. put-violation p (a .marks .now) (a .rejecting .now) (a .i) r (v .before .if1 .taken)
+          (put-one (v .violation-line .result) (violationFrame (a .i)) (v .violation-line .ensures) (omega arith) (q .put-line .ensures)),
+    )
+
+returns-2 : tie.Need-returns-2
+returns-2 c =
+    let a = c .before .before .before .before .before .before .args in
+    (omega arith, λ p r. put-nothing p (a .marks .now) (a .rejecting .now) (a .i) r (c .if1 .left))
+
+pub put-violation-spec : {M : Type 1} → statement M
+put-violation-spec =
+    tie.close
+    (tie.spec
+    shared-slice-read-is-violation
+    shared-slice-read-is-violation-2
+    violation-line-requires
+    put-line-requires
+    same-length
+    returns
+    returns-2)

@@ -1,0 +1,66 @@
+-- `report::put::put_violations` meets its contract. The loop's invariant: the violations below `i` were put, whichever program has
+-- these rejecting states, and none took more than 11 bytes.
+use mathlib.Core.Path.{_≡_, refl, _∙_}
+use Prim.Native.Nat.{_≤_, _*_, _-_}
+use native.Mathlib.Omega.{arith}
+use lib.ListN.{length}
+use borrow.Author.Needs.{needs}
+use Rattle.program.specs.Program.{Program}
+use Rattle.analysis.specs.Parts.{Rejects}
+use Rattle.report.proofs.Blocks.{Listed, none-listed, one-listed, all-listed}
+use Rattle.report.proofs.put.put_violations.Statement.{statement}
+use Rattle.report.proofs.put.put_violations.Tie as tie
+
+abbrev Inv-loop : tie.InvT-loop
+Inv-loop marks rejecting out₀ at₀ i₀ out at i =
+    (at ≤ 11 * i) × ((i ≤ 16384) × ((length out ≡ length out₀) × ((p : Program) → Rejects (p .automaton) rejecting → Listed p marks out₀ out at i)))
+
+abbrev μ-loop : tie.MeasureT-loop
+μ-loop marks rejecting out₀ at₀ i₀ out at i = length marks - i
+
+loop-holds : tie.Need-loop-holds Inv-loop μ-loop
+loop-holds c = (omega arith, (omega arith, (refl, λ p r. none-listed p _ _)))
+
+put-violation-requires : tie.Need-put-violation-requires Inv-loop μ-loop
+put-violation-requires c κs = search needs
+
+add-i : tie.Need-add-i Inv-loop μ-loop
+add-i c = search needs
+
+loop-less : tie.Need-loop-less Inv-loop μ-loop
+loop-less c = search needs
+
+loop-again : tie.Need-loop-again Inv-loop μ-loop
+loop-again c =
+    let q = c .before .before in
+    let p = q .before .before .before in
+    let told = q .put-violation .ensures in (
+      omega (arith, told .0),
+      (
+        omega arith,
+        (
+          q .put-violation .kept .1 .1 .1 .0 ∙ p .loop .inv .1 .1 .0,
+          λ y r. one-listed (p .loop .inv .1 .1 .1 y r) (omega arith) (told .1 y r),
+        ),
+      ),
+    )
+
+same-length : tie.Need-same-length Inv-loop μ-loop
+same-length c = c .before .loop .inv .1 .1 .0
+
+returns : tie.Need-returns Inv-loop μ-loop
+returns c = (omega arith, λ p r. all-listed (c .before .loop .inv .1 .1 .1 p r) (c .loop-test .left))
+
+pub put-violations-spec : {M : Type 1} → statement M
+put-violations-spec =
+    tie.close
+    (tie.spec
+    Inv-loop
+    μ-loop
+    loop-holds
+    put-violation-requires
+    add-i
+    loop-less
+    loop-again
+    same-length
+    returns)

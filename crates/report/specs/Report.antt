@@ -1,0 +1,116 @@
+-- What `bench` prints, as one function of its input: a file through its first line that starts with 45, and then edits, a line each.
+use Prim.Native.Nat.{ℕ, _+_, _*_, _/_, _%_}
+use mathlib.Core.Path.{_≡_}
+use mathlib.Core.Bool.{Bool, cond, _&&_}
+use mathlib.Core.List.{List, [], _∷_, _++_, map}
+use lib.Dec.{eqb, ltb}
+use lib.ListN.{length, getD, take, drop}
+use Rattle.text.specs.Hex.{hexLine}
+use Rattle.text.specs.Lines.{lines}
+use Rattle.program.specs.Program.{Program}
+use Rattle.program.specs.Reading.{Outcome, readFile}
+use Rattle.program.specs.Writing.{text}
+use Rattle.program.specs.declared.Verdict.{Verdict}
+use Rattle.program.specs.declared.Verdict.the-variants as verdict
+use Rattle.reach.specs.Configurations.{routineOf, nodeOf, rootOf, stateOf}
+use Rattle.reach.specs.Marks.{freshMarks, countSet, violationsFrom}
+use Rattle.edit.specs.Editing.{editedProgram, wantedEdit}
+use Rattle.edit.specs.declared.EditRead.{EditRead}
+use Rattle.edit.specs.declared.EditRead.the-variants.{Read, Refused}
+
+-- ---- where the file ends
+
+-- a line that starts with the characters 45
+abbrev pub startsEnd : List ℕ → Bool
+startsEnd l = eqb (getD l 0 0) 0x34 && eqb (getD l 1 0) 0x35
+
+-- how many bytes the lines have through the first that starts so; all of them if none does
+unfoldable pub fileSize : List (List ℕ) → ℕ
+fileSize [] = 0
+fileSize (l ∷ ls) = length l + cond (startsEnd l) 0 (fileSize ls)
+
+-- how many bytes the first line has
+abbrev pub firstSize : List (List ℕ) → ℕ
+firstSize [] = 0
+firstSize (l ∷ ls) = length l
+
+-- ---- what is printed
+
+-- a violation (paper: a finding)
+abbrev pub violationFrame : ℕ → List ℕ
+violationFrame i = 0x58 ∷ routineOf i ∷ nodeOf i ∷ rootOf i ∷ stateOf i ∷ []
+
+-- the counts of configurations (paper: standings) and of violations, four digits each
+abbrev pub countFrame : ℕ → ℕ → List ℕ
+countFrame c v = 0x5A ∷ c / 256 ∷ c % 256 ∷ v / 256 ∷ v % 256 ∷ []
+
+-- the block of a program and its marks: each violation, ascending, and then the counts
+unfoldable pub blockOf : Program → List ℕ → List ℕ
+blockOf p marks = text (map violationFrame (violationsFrom p marks 0) ++ countFrame (countSet marks) (length (violationsFrom p marks 0)) ∷ [])
+
+-- a refused edit, a refused file with its line, and an input that is too long (18)
+abbrev pub refusedEdit : ℕ → List ℕ
+refusedEdit n = hexLine (0x21 ∷ n ∷ [])
+
+abbrev pub refusedFile : ℕ → ℕ → List ℕ
+refusedFile n line = hexLine (0x21 ∷ n ∷ line / 256 ∷ line % 256 ∷ [])
+
+abbrev pub tooLong : List ℕ
+tooLong = refusedEdit 18
+
+-- a block comes after each accepted edit; a refused one prints its number, and leaves the program
+abbrev pub editText : EditRead → Program → List ℕ
+editText (Read e) p = blockOf (editedProgram e p) (freshMarks (editedProgram e p))
+editText (Refused n) p = refusedEdit n
+
+abbrev pub programAfter : EditRead → Program → Program
+programAfter (Read e) p = editedProgram e p
+programAfter (Refused n) p = p
+
+unfoldable pub editsText : Program → List (List ℕ) → List ℕ
+editsText p [] = []
+editsText p (l ∷ ls) = editText (wantedEdit p l) p ++ editsText (programAfter (wantedEdit p l) p) ls
+
+-- after a refused file nothing more is printed
+abbrev pub fileText : Verdict → Program → List (List ℕ) → List ℕ
+fileText verdict.Accepted p ls = blockOf p (freshMarks p) ++ editsText p ls
+fileText (verdict.Refused n line) p ls = refusedFile n line
+
+abbrev pub inputText : List ℕ → ℕ → List ℕ
+inputText input size = fileText (readFile (take size input) .verdict) (readFile (take size input) .program) (lines (drop size input))
+
+unfoldable pub benchText : List ℕ → List ℕ
+benchText input = cond (ltb 16384 (length input)) tooLong (inputText input (fileSize (lines input)))
+
+-- ---- the text of a block, as it is asked for: for a file and marks, into an output
+
+-- no block is longer
+abbrev pub blockSize : ℕ
+blockSize = 11 * 16384 + 11
+
+-- the block, or nothing where the file is refused, the marks do not have 16,384 bytes or the output is too short for every block
+abbrev pub blockBy : Verdict → Program → List ℕ → ℕ → List ℕ
+blockBy verdict.Accepted p marks room = cond (eqb (length marks) 16384 && ltb blockSize (room + 1)) (blockOf p marks) []
+blockBy (verdict.Refused n line) p marks room = []
+
+unfoldable pub blockText : List ℕ → List ℕ → ℕ → List ℕ
+blockText file marks room = blockBy (readFile file .verdict) (readFile file .program) marks room
+
+-- ---- a line of a refusal, as it is asked for: into an output
+
+-- the line, or nothing where the output has under 11 bytes: no line that is printed is longer
+abbrev pub lineWithin : List ℕ → ℕ → List ℕ
+lineWithin l room = cond (ltb room 11) [] l
+
+abbrev pub editRefusal : ℕ → ℕ → List ℕ
+editRefusal n room = lineWithin (refusedEdit n) room
+
+-- four digits hold a line below 65,536, and of any other its remainder; no input that is read has so many lines
+abbrev pub fileRefusal : ℕ → ℕ → ℕ → List ℕ
+fileRefusal n line room = lineWithin (refusedFile n (line % 65536)) room
+
+-- ---- an output
+
+-- the text at the output's start, and the output's own bytes after it; the answer is the text's length
+abbrev pub Printed : List ℕ → List ℕ → List ℕ → ℕ → Type 0
+Printed t old new r = (r ≡ length t) × (new ≡ t ++ drop (length t) old)
