@@ -98,7 +98,7 @@ pub fn is_reopened(
     calls_differ(p, members, before, marks)
 }
 
-// One set of routines joins another.
+// One set of routines joins another. A set has 16 flags, as `Routines` has: hence the `requires`.
 pub fn join(flags: &mut [u8], more: &[u8])
     requires { ⌜ (length (now flags) ≡ 16) × (length (now more) ≡ 16) ⌝ }
     ensures { λ _. ⌜ Joined (now (flags .entry)) (now (more .entry)) (now (flags .exit)) ⌝ }
