@@ -19,7 +19,8 @@ use Rattle.writer.specs.declared.WriteAnswer.the-variants as answer
 use Rattle.reach.specs.Marks.{freshMarks, violations, firstFrom}
 use Rattle.reach.proofs.Bound.{iterations-bound}
 use Rattle.reach.proofs.Shown.{fresh-shows, few-marks}
-use Rattle.reach.proofs.Violations.{Violation, First, nowhere, at, few-violations, next-violation}
+use Rattle.reach.specs.Violations.{Violation, First, nowhere, at}
+use Rattle.reach.proofs.Violations.{few-violations, next-violation}
 use Rattle.analysis.specs.Answers.{checkedBy, checked, analyzeBy, analyzeAnswer, analyzeLine, configurationCount, violationCount, iterationCount, same, foundOf, nextBy, nextAnswer, nextLine, nextFound}
 use Rattle.analysis.specs.declared.NextAnswer.the-variants as next
 use Rattle.analysis.proofs.Answered.{passed}

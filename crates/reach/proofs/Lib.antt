@@ -15,6 +15,4 @@ pub mod Laws
 pub mod Occurs
 pub mod Shown
 pub mod Violations
-pub mod Demands
-pub mod Cases
 pub mod Growing

@@ -16,15 +16,10 @@ use Rattle.program.proofs.Judged.{both}
 use Rattle.reach.specs.Configurations.{stateOf}
 use Rattle.reach.specs.Runs.{Occurs}
 use Rattle.reach.specs.Marks.{Shows, freshMarks, countSet, violates, frontWhen, violationsFrom, violations, firstFrom}
-use Rattle.reach.proofs.Numbers.{At}
+use Rattle.reach.specs.Violations.{Violation, Ascends, all-passed, rises, First, nowhere, at}
 use Rattle.reach.proofs.Shown.{shown-at, one-of}
 
 -- ---- numbers that ascend
-
--- each is at least low, and the next is above it
-pub data Ascends : ℕ → List ℕ → Type 0 where
-  all-passed : {low : ℕ} → Ascends low []
-  rises : {low v : ℕ} {vs : List ℕ} → low ≤ v → Ascends (v + 1) vs → Ascends low (v ∷ vs)
 
 lower : {a b : ℕ} {vs : List ℕ} → a ≤ b → Ascends b vs → Ascends a vs
 lower h all-passed = all-passed
@@ -34,11 +29,6 @@ at-least : {a w : ℕ} {vs : List ℕ} → Ascends a vs → List·Memᴰ w vs �
 at-least all-passed m = elim m [ ]
 at-least (rises k t) (List·Memᴰ·head e) = omega arith
 at-least (rises k t) (List·Memᴰ·tail m) = let h = at-least t m in omega arith
-
--- the first number with A that is not below low: the least of those, or none where there are none
-pub data First (A : ℕ → Type 0) (low : ℕ) : Option ℕ → Type 0 where
-  nowhere : ((w : ℕ) → A w → w < low) → First A low none
-  at : {v : ℕ} → A v → low ≤ v → ((w : ℕ) → A w → low ≤ w → v ≤ w) → First A low (some v)
 
 first-same : {A B : ℕ → Type 0} {low : ℕ} {o : Option ℕ} → ((w : ℕ) → A w ↔ B w) → First A low o → First B low o
 first-same e (nowhere x) = nowhere (λ w y. x w (e w .1 y))
@@ -151,12 +141,6 @@ violations-fewer p (b ∷ bs) i =
     front-fewer (eqb b 0) (isRejecting (p .automaton) (stateOf i)) i (violationsFrom p bs (i + 1)) (violations-fewer p bs (i + 1))
 
 -- ---- marks of what occurs
-
--- the number of a configuration that occurs, its state a rejecting one now
-pub record Violation (p : Program) (i : ℕ) : Type 0 where
-  pub inside : i < 16384
-  pub occurs : At (Occurs p) i
-  pub rejects : isRejecting (p .automaton) (stateOf i) ≡ true
 
 module _ {p : Program} {l : List ℕ} (a : Shows (Occurs p) l) where
   pub listed-iff : (i : ℕ) → In (violationsFrom p l 0) i ↔ Violation p i

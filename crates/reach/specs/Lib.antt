@@ -3,3 +3,4 @@ pub mod Runs
 pub mod Reachable
 pub mod Worklist
 pub mod Marks
+pub mod Violations

@@ -5,5 +5,3 @@ pub mod Listed
 pub mod Numbered
 pub mod Answered
 pub mod Reworked
-pub mod Demands
-pub mod Cases

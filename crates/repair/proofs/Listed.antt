@@ -12,7 +12,7 @@ use Rattle.program.specs.WellFormed.{WellFormed}
 use Rattle.program.specs.Reading.{Outcome, accepted, readFile}
 use Rattle.program.specs.Writing.{written}
 use Rattle.program.specs.declared.Verdict.the-variants as verdict
-use Rattle.program.proofs.Theorems.{read-again}
+use Rattle.program.proofs.Theorems.{accepted-well-formed, written-back, read-again}
 use Rattle.reach.specs.Marks.{freshMarks}
 use Rattle.reach.proofs.Kept.{marks-length}
 use Rattle.analysis.specs.Answers.{same}
@@ -23,11 +23,12 @@ use Rattle.edit.specs.declared.Edit.{Edit}
 use Rattle.edit.specs.declared.EditRead.{EditRead}
 use Rattle.edit.specs.declared.EditRead.the-variants as read
 use Rattle.edit.proofs.Theorems.{wanted-applies, applied-well-formed, wanted-sorted, booked}
+use Rattle.edit.proofs.Booked.{book-well-formed}
 use Rattle.repair.specs.Repairs.{After, measuredBy, untouched, repairedTo, wantedBy, repairedBy, measured, repaired}
 use Rattle.repair.proofs.Numbers.{wanted-number}
 use Rattle.repair.proofs.Local.{local-change}
 use Rattle.writer.specs.Answers.{refusal}
-use Rattle.repair.specs.Calls.{editOf, NumberBy, Call, Seen, Desk, call, seen, after, played, foreseen, bookCall, bookPlayed, Numbers, BookNumbers, LeavesOthers, BookLeaves}
+use Rattle.repair.specs.Calls.{editOf, NumberBy, Call, Seen, Desk, started, call, seen, after, played, foreseen, bookCall, bookPlayed, Numbers, BookNumbers, LeavesOthers, BookLeaves}
 
 take-front : (xs ys : List ℕ) → take (length xs) (xs ++ ys) ≡ xs
 take-front [] ys = refl
@@ -38,6 +39,17 @@ pub record Agrees (d : Desk) (b : Program) : Type 0 where
   pub file : d .file ≡ written (bookProgram b)
   pub marks : d .marks ≡ freshMarks (bookProgram b)
   pub well-formed : WellFormed (bookProgram b)
+
+-- they do at the start: an accepted file is its program, written
+pub agreed : (file : List ℕ) → readFile file .verdict ≡ verdict.Accepted → Agrees (started file) (readFile file .program)
+agreed file h =
+    let w = accepted-well-formed file h in
+    let e = book-well-formed (readFile file .program) w in
+    record {
+      file = sym (ap written e ∙ written-back file h);
+      marks = ap freshMarks (sym e);
+      well-formed = subst WellFormed (sym e) w;
+    }
 
 -- what is seen of a call and what the model says, and they agree again
 record Step (d : Desk) (b : Program) (a : After) (n : ℕ) (b′ : Program) : Type 0 where

@@ -65,6 +65,10 @@ pub record Desk : Type 0 where
   pub file : List ℕ
   pub marks : List ℕ
 
+-- at the start: an accepted file and its fresh marks
+abbrev pub started : List ℕ → Desk
+started file = record { file = file; marks = freshMarks (readFile file .program) }
+
 abbrev pub call : Desk → Call → After
 call d c = repaired (d .file) (d .marks) (c .line) (c .output) (c .work)
 

@@ -1,0 +1,89 @@
+-- The refusals of a file are those of the table.
+use mathlib.Core.Path.{_≡_, refl, sym, subst, ap, _∙_}
+use mathlib.Core.Logic.{_≢_}
+use mathlib.Core.Bool.{Bool, true, false, cond}
+use mathlib.Core.List.{List, [], _∷_}
+use Prim.Native.Nat.{ℕ, _+_}
+use native.Mathlib.Omega.{arith}
+use lib.Dec.{ltb}
+use borrow.Author.Tests.{ltb-true, ltb-false}
+use Rattle.text.specs.Lines.{lines, numbers, lineFrom}
+use Rattle.text.specs.declared.Line.{Line}
+use Rattle.program.specs.Reading.{Progress, start, accepted, refused, judgeAs, judge, after, readFrom, readFile}
+use Rattle.program.specs.declared.Verdict.{Verdict}
+use Rattle.program.specs.declared.Verdict.the-variants.{Accepted, Refused}
+use Rattle.demands.specs.Refusals.{firstMet, lineRows, lineNumber, Faulty, unended, after-end, here, later, FaultyFile}
+
+-- what a verdict says: this refusal, or none
+abbrev pub Says : Progress → List (List ℕ) → Verdict → Type 0
+Says s ls Accepted = (n line : ℕ) → ¬ (Faulty s ls n line)
+Says s ls (Refused n line) = Faulty s ls n line
+
+both : {A : Type 0} {t : Bool} → t ≡ true → t ≡ false → A
+both e h = absurd (subst (λ t. cond t ⊥ Unit) (sym h ∙ e) tt)
+
+not-none : (n : ℕ) → ltb 0 n ≡ true → n ≢ 0
+not-none n h z = let x = ltb-true 0 n h in absurd (omega arith)
+
+-- ---- lines that refuse nothing
+
+ended-good : {s : Progress} {n line : ℕ} → s .ended ≡ true → ¬ (Faulty s [] n line)
+ended-good e (unended h) = both e h
+
+line-good : {s : Progress} {l : List ℕ} {ls : List (List ℕ)} {n line : ℕ} → s .ended ≡ false → lineNumber s l ≡ 0
+    → ¬ (Faulty (after s (lineFrom (numbers l))) ls n line) → ¬ (Faulty s (l ∷ ls) n line)
+line-good e z r (after-end h) = both h e
+line-good e z r (here h x) = x z
+line-good e z r (later h y f) = r f
+
+-- ---- line after line
+
+pub told : (ls : List (List ℕ)) (s : Progress) → Says s ls (readFrom s ls .verdict)
+unfolding readFrom judge judgeAs firstMet
+told [] s = go (s .ended) refl
+  where
+    go : (t : Bool) → s .ended ≡ t → Says s [] (cond t (accepted (s .program)) (refused 8 (s .frames + 1)) .verdict)
+    go true e = λ n line. ended-good e
+    go false e = unended e
+told (l ∷ ls) s = go (s .ended) refl (told ls (after s (lineFrom (numbers l))))
+  where
+    good : s .ended ≡ false → lineNumber s l ≡ 0 → (v : Verdict) → Says (after s (lineFrom (numbers l))) ls v → Says s (l ∷ ls) v
+    good e z Accepted r = λ n line. line-good e z (r n line)
+    good e z (Refused n line) r = later e z r
+
+    go : (t : Bool) → s .ended ≡ t → Says (after s (lineFrom (numbers l))) ls (readFrom (after s (lineFrom (numbers l))) ls .verdict)
+        → Says s (l ∷ ls) (cond t (refused 8 (s .frames + 1)) (cond (ltb 0 (lineNumber s l)) (refused (lineNumber s l) (s .frames + 1)) (readFrom (after s (lineFrom (numbers l))) ls)) .verdict)
+    go true e r = after-end e
+    go false e r = by-fault (ltb 0 (lineNumber s l)) refl
+      where
+        by-fault : (t : Bool) → ltb 0 (lineNumber s l) ≡ t
+            → Says s (l ∷ ls) (cond t (refused (lineNumber s l) (s .frames + 1)) (readFrom (after s (lineFrom (numbers l))) ls) .verdict)
+        by-fault true h = here e (not-none (lineNumber s l) h)
+        by-fault false h = good e (let x = ltb-false 0 (lineNumber s l) h in omega arith) (readFrom (after s (lineFrom (numbers l))) ls .verdict) r
+
+abbrev pub SaysFile : List ℕ → Verdict → Type 0
+SaysFile file v = Says start (lines file) v
+
+pub file-told : (file : List ℕ) → SaysFile file (readFile file .verdict)
+unfolding readFile
+file-told file = told (lines file) start
+
+-- ---- a refusal has a number, and there is one at most
+
+pub faulty-number : {s : Progress} {ls : List (List ℕ)} {n line : ℕ} → Faulty s ls n line → n ≢ 0
+faulty-number (unended e) z = absurd (omega arith)
+faulty-number (after-end e) z = absurd (omega arith)
+faulty-number (here e x) z = x z
+faulty-number (later e x f) z = faulty-number f z
+
+pub faulty-once : {s : Progress} {ls : List (List ℕ)} {n line m at : ℕ} → Faulty s ls n line → Faulty s ls m at → (n ≡ m) × (line ≡ at)
+faulty-once (unended e) (unended h) = (refl, refl)
+faulty-once (after-end e) (after-end h) = (refl, refl)
+faulty-once (after-end e) (here h x) = both e h
+faulty-once (after-end e) (later h x f) = both e h
+faulty-once (here e x) (after-end h) = both h e
+faulty-once (here e x) (here h y) = (refl, refl)
+faulty-once (here e x) (later h y f) = absurd (x y)
+faulty-once (later e x f) (after-end h) = both h e
+faulty-once (later e x f) (here h y) = absurd (y x)
+faulty-once (later e x f) (later h y g) = faulty-once f g

@@ -1,0 +1,9 @@
+pub mod Filed
+pub mod Edited
+pub mod Returning
+pub mod Analyzing
+pub mod Bench
+pub mod Depends
+pub mod Reopened
+pub mod Cases
+pub mod Demands

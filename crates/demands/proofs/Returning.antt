@@ -1,0 +1,265 @@
+-- Demand 1, function by function: what is returned is of the table, and what a refusal leaves.
+use mathlib.Core.Path.{_≡_, refl, sym, ap, subst, _∙_}
+use mathlib.Core.Logic.{_≢_, _⊎_, inl, inr}
+use mathlib.Core.Bool.{Bool, true, false, cond, not}
+use mathlib.Core.Option.{Option, some, none}
+use mathlib.Core.List.{List, [], _∷_, _++_}
+use Prim.Native.Nat.{ℕ}
+use native.Mathlib.Omega.{arith}
+use lib.Dec.{ltb, eqb}
+use lib.ListN.{length, drop}
+use borrow.Author.Tests.{eqb-false}
+use Rattle.program.specs.Program.{Program}
+use Rattle.program.specs.Reading.{refusal, refusalLine, readFile}
+use Rattle.program.specs.declared.Verdict.{Verdict}
+use Rattle.program.specs.declared.Verdict.the-variants.{Accepted, Refused}
+use Rattle.program.proofs.Theorems.{few-lines}
+use Rattle.writer.specs.Answers.{answerBy, outputBy, writeAnswer, outputAfter, refusal as writeRefusal, refusalLine as writeLine}
+use Rattle.writer.specs.declared.WriteAnswer.the-variants as answer
+use Rattle.program.specs.Writing.{written}
+use Rattle.reach.specs.Configurations.{none-set}
+use Rattle.reach.specs.Marks.{freshMarks, firstFrom, violations}
+use Rattle.analysis.specs.Answers.{checkedBy, checked, analyzeBy, analyzeAnswer, onSuccess, marksAfter, workAfter, analyzeRefusal, analyzeLine, same, foundOf, nextBy, nextAnswer, nextRefusal, nextLine}
+use Rattle.analysis.specs.declared.NextAnswer.the-variants as next
+use Rattle.prune.specs.Keeping.{Pruned}
+use Rattle.edit.specs.EditLines.{onlyLine}
+use Rattle.edit.specs.Editing.{editedProgram, wantedEdit}
+use Rattle.edit.specs.declared.Edit.{Edit}
+use Rattle.edit.specs.declared.EditRead.{EditRead}
+use Rattle.edit.specs.declared.EditRead.the-variants as read
+use Rattle.repair.specs.Repairs.{After, measuredBy, foreign, repairedTo, wantedBy, repairedBy, measured, repaired}
+use Rattle.demands.specs.Entries.{Entry, read as reads, write, analyze, next-violation, prune, repair-forward, repair-inside-out, Lent, Back, hasWork, readBack, writeBack, analyzeBack, nextBack, pruneBack, repairBack, Gives}
+use Rattle.demands.specs.Demands.{Demand1}
+use Rattle.demands.specs.Refusals.{Row, firstMet, FaultyFile, editRows, marksRow, outputRow, workRow, foreignRow, repairRows, rows, Returned, of-the-file, of-the-rest}
+use Rattle.demands.proofs.Filed.{SaysFile, file-told, faulty-number, faulty-once}
+use Rattle.demands.proofs.Edited.{numberThen, edit-told, edit-numbers}
+
+both-ways : false ≡ true → ⊥
+both-ways e = subst (λ t. cond t ⊥ Unit) e tt
+
+-- what is returned is fixed by the table
+returned-once : {e : Entry} {b : Lent} {n line m at : ℕ} → Returned e b n line → Returned e b m at → (n ≡ m) × (line ≡ at)
+returned-once (of-the-file f) (of-the-file g) = faulty-once f g
+returned-once (of-the-file f) (of-the-rest g) = absurd (g _ _ f)
+returned-once (of-the-rest f) (of-the-file g) = absurd (f _ _ g)
+returned-once (of-the-rest f) (of-the-rest g) = (refl, refl)
+
+-- ---- refusals before 17
+
+-- a call that is refused before 17, and leaves everything
+abbrev refused : ℕ → ℕ → Lent → Back
+refused n line b = record { refusal = n; line = line; marks = b .marks; output = b .output; work = b .work }
+
+-- the number is the table's, and neither 0 nor 17
+pub record Early (e : Entry) (b : Lent) (n line : ℕ) : Type 0 where
+  pub returned : Returned e b n line
+  pub some-number : n ≢ 0
+  pub before-17 : n ≢ 17
+
+early : {e : Entry} {b : Lent} {n line : ℕ} → Early e b n line → Demand1 e b (refused n line b)
+early {e} {b} {n} {line} x =
+    record {
+      returned = x .returned;
+      no-other = λ m at r. returned-once r (x .returned);
+      marks = λ h. refl;
+      output = λ h. refl;
+      work-kept = λ h i. refl;
+      work-cleared = λ w. cleared;
+    }
+  where
+    cleared : (n ≡ 0) ⊎ (n ≡ 17) → b .work ≡ none-set
+    cleared (inl h) = absurd (x .some-number h)
+    cleared (inr h) = absurd (x .before-17 h)
+
+-- ---- no refusal before 17
+
+-- a call without a working buffer is done
+done : {e : Entry} {b : Lent} {output : List ℕ} → hasWork e ≡ false → Returned e b 0 0
+    → Demand1 e b (record { refusal = 0; line = 0; marks = b .marks; output = output; work = b .work })
+done h r =
+    record {
+      returned = r;
+      no-other = λ m at s. returned-once s r;
+      marks = λ i. refl;
+      output = λ i. absurd (i refl);
+      work-kept = λ i j. refl;
+      work-cleared = λ w. absurd (both-ways (sym h ∙ w));
+    }
+
+-- a call with one: 17, or it is done
+late : {e : Entry} {b : Lent} {n : ℕ} {marks output : List ℕ} → Returned e b n 0 → (n ≡ 0) ⊎ ((n ≡ 17) × (marks ≡ b .marks) × (output ≡ b .output))
+    → Demand1 e b (record { refusal = n; line = 0; marks = marks; output = output; work = none-set })
+late {e} {b} {n} {marks} {output} r x =
+    record {
+      returned = r;
+      no-other = λ m at s. returned-once s r;
+      marks = λ h. kept x h .0;
+      output = λ h. kept x h .1;
+      work-kept = λ h i. absurd (neither x h i);
+      work-cleared = λ w h. refl;
+    }
+  where
+    kept : (n ≡ 0) ⊎ ((n ≡ 17) × (marks ≡ b .marks) × (output ≡ b .output)) → n ≢ 0 → (marks ≡ b .marks) × (output ≡ b .output)
+    kept (inl z) h = absurd (h z)
+    kept (inr y) h = (y .1, y .2)
+
+    neither : (n ≡ 0) ⊎ ((n ≡ 17) × (marks ≡ b .marks) × (output ≡ b .output)) → n ≢ 0 → n ≢ 17 → ⊥
+    neither (inl z) h i = h z
+    neither (inr y) h i = i (y .0)
+
+-- ---- the checks, one after another
+
+-- a verdict is an early refusal, or what the rows that are left give is returned
+abbrev pub Judged : Entry → Lent → List Row → Verdict → Type 0
+Judged e b left Accepted = Returned e b (firstMet left) 0
+Judged e b left (Refused n line) = Early e b n line
+
+file-judged : (e : Entry) (b : Lent) → Judged e b (rows e b) (readFile (b .file) .verdict)
+file-judged e b = go (readFile (b .file) .verdict) refl (file-told (b .file))
+  where
+    go : (v : Verdict) → readFile (b .file) .verdict ≡ v → SaysFile (b .file) v → Judged e b (rows e b) v
+    go Accepted h t = of-the-rest t
+    go (Refused n line) h t =
+        let x = few-lines (b .file) n line h .0 in
+        record { returned = of-the-file t; some-number = faulty-number t; before-17 = λ z. absurd (omega arith) }
+
+-- a row that is checked next: it is met, or the check goes on
+row-judged : (e : Entry) (b : Lent) (n : ℕ) (met : Bool) (left final : List Row) (rest : Verdict) → n ≢ 0 → n ≢ 17
+    → (Returned e b (firstMet left) 0 → Judged e b final rest)
+    → Returned e b (firstMet (record { number = n; met = met } ∷ left)) 0 → Judged e b final (cond met (Refused n 0) rest)
+unfolding firstMet
+row-judged e b n true left final rest z y k r = record { returned = r; some-number = z; before-17 = y }
+row-judged e b n false left final rest z y k r = k r
+
+-- so for a row whose test says that it is not met
+length-judged : (e : Entry) (b : Lent) (n : ℕ) (fits : Bool) (left final : List Row) (rest : Verdict) → n ≢ 0 → n ≢ 17
+    → (Returned e b (firstMet left) 0 → Judged e b final rest)
+    → Returned e b (firstMet (record { number = n; met = not fits } ∷ left)) 0 → Judged e b final (cond fits rest (Refused n 0))
+unfolding firstMet
+length-judged e b n true left final rest z y k r = k r
+length-judged e b n false left final rest z y k r = record { returned = r; some-number = z; before-17 = y }
+
+not-equal : {n m : ℕ} → eqb n m ≡ false → n ≢ m
+not-equal {n} {m} e = eqb-false n m e
+
+-- ---- read and write
+
+read-good : (b : Lent) → Demand1 reads b (readBack b (readFile (b .file) .verdict))
+unfolding firstMet
+read-good b = go (readFile (b .file) .verdict) (file-judged reads b)
+  where
+    go : (v : Verdict) → Judged reads b [] v → Demand1 reads b (readBack b v)
+    go Accepted r = done refl r
+    go (Refused n line) x = early x
+
+write-good : (b : Lent) → Demand1 write b (writeBack b (writeAnswer (b .file) (b .output)) (outputAfter (b .file) (b .output)))
+unfolding writeAnswer outputAfter firstMet
+write-good b = go (readFile (b .file) .verdict) (file-judged write b) (readFile (b .file) .program)
+  where
+    short : (t : Bool) (size : ℕ) (new : List ℕ) → Returned write b (cond t 10 0) 0
+        → Demand1 write b (writeBack b (cond t (answer.Refused 10 0) (answer.Written size)) (cond t (b .output) new))
+    short true size new r = early (record { returned = r; some-number = not-equal refl; before-17 = not-equal refl })
+    short false size new r = done refl r
+
+    go : (v : Verdict) → Judged write b (outputRow b ∷ []) v → (p : Program) → Demand1 write b (writeBack b (answerBy v p (length (b .output))) (outputBy v p (b .output)))
+    go Accepted r p = short (ltb (length (b .output)) 5328) (length (written p)) (written p ++ drop (length (written p)) (b .output)) r
+    go (Refused n line) x p = early x
+
+-- ---- analyze, prune and next_violation
+
+pub checked-judged : (e : Entry) (b : Lent) (final : List Row) → rows e b ≡ marksRow b ∷ workRow b ∷ final
+    → Judged e b final (checked (b .file) (length (b .marks)) (length (b .work)))
+unfolding checked
+checked-judged e b final h = go (readFile (b .file) .verdict) (file-judged e b)
+  where
+    go : (v : Verdict) → Judged e b (rows e b) v → Judged e b final (checkedBy v (length (b .marks)) (length (b .work)))
+    go Accepted r =
+        length-judged e b 9 (eqb (length (b .marks)) 16384) (workRow b ∷ final) final (cond (eqb (length (b .work)) 16384) Accepted (Refused 11 0)) (not-equal refl) (not-equal refl)
+        (length-judged e b 11 (eqb (length (b .work)) 16384) final final Accepted (not-equal refl) (not-equal refl) (λ x. x))
+        (subst (λ rs. Returned e b (firstMet rs) 0) h r)
+    go (Refused n line) x = x
+
+analyze-good : (b : Lent) → Demand1 analyze b (analyzeBack b (analyzeAnswer (b .file) (b .marks) (b .work)) (marksAfter (b .file) (b .marks) (b .work)) (workAfter (b .file) (b .marks) (b .work)))
+unfolding analyzeAnswer marksAfter workAfter firstMet
+analyze-good b = go (checked (b .file) (length (b .marks)) (length (b .work))) (checked-judged analyze b [] refl)
+  where
+    go : (v : Verdict) → Judged analyze b [] v
+        → Demand1 analyze b (analyzeBack b (analyzeBy v (readFile (b .file) .program)) (onSuccess v (freshMarks (readFile (b .file) .program)) (b .marks)) (onSuccess v none-set (b .work)))
+    go Accepted r = late r (inl refl)
+    go (Refused n line) x = early x
+
+prune-good : (b : Lent) (marks : List ℕ) → Pruned (checked (b .file) (length (b .marks)) (length (b .work))) (readFile (b .file) .program) (b .marks) marks
+    → Demand1 prune b (pruneBack b (checked (b .file) (length (b .marks)) (length (b .work))) marks (workAfter (b .file) (b .marks) (b .work)))
+unfolding workAfter firstMet
+prune-good b marks = go (checked (b .file) (length (b .marks)) (length (b .work))) (checked-judged prune b [] refl)
+  where
+    go : (v : Verdict) → Judged prune b [] v → Pruned v (readFile (b .file) .program) (b .marks) marks → Demand1 prune b (pruneBack b v marks (onSuccess v none-set (b .work)))
+    go Accepted r k = late r (inl refl)
+    go (Refused n line) x k = subst (λ m. Demand1 prune b (pruneBack b (Refused n line) m (b .work))) (sym k) (early x)
+
+next-good : (b : Lent) → Demand1 next-violation b (nextBack b (nextAnswer (b .file) (b .marks) (b .work) (b .from)) (workAfter (b .file) (b .marks) (b .work)))
+unfolding nextAnswer workAfter firstMet
+next-good b = go (checked (b .file) (length (b .marks)) (length (b .work))) (checked-judged next-violation b (foreignRow b ∷ []) refl)
+  where
+    found : (o : Option ℕ) → Returned next-violation b 0 0 → Demand1 next-violation b (nextBack b (foundOf o) none-set)
+    found none r = late r (inl refl)
+    found (some i) r = late r (inl refl)
+
+    own : (t : Bool) (o : Option ℕ) → Returned next-violation b (cond (not t) 17 0) 0 → Demand1 next-violation b (nextBack b (cond t (foundOf o) (next.Refused 17 0)) none-set)
+    own true o r = found o r
+    own false o r = late r (inr (refl, refl, refl))
+
+    go : (v : Verdict) → Judged next-violation b (foreignRow b ∷ []) v
+        → Demand1 next-violation b (nextBack b (nextBy v (readFile (b .file) .program) (b .marks) (b .from)) (onSuccess v none-set (b .work)))
+    go Accepted r = own (same (b .marks) (freshMarks (readFile (b .file) .program))) (firstFrom (b .from) (violations (readFile (b .file) .program))) r
+    go (Refused n line) x = early x
+
+-- ---- the repairs
+
+measured-judged : (e : Entry) (b : Lent) (final : List Row) → rows e b ≡ marksRow b ∷ outputRow b ∷ workRow b ∷ final
+    → Judged e b final (measured (b .file) (length (b .marks)) (length (b .output)) (length (b .work)))
+unfolding measured
+measured-judged e b final h = go (readFile (b .file) .verdict) (file-judged e b)
+  where
+    go : (v : Verdict) → Judged e b (rows e b) v → Judged e b final (measuredBy v (length (b .marks)) (length (b .output)) (length (b .work)))
+    go Accepted r =
+        length-judged e b 9 (eqb (length (b .marks)) 16384) (outputRow b ∷ workRow b ∷ final) final
+        (cond (ltb (length (b .output)) 5328) (Refused 10 0) (cond (eqb (length (b .work)) 16384) Accepted (Refused 11 0))) (not-equal refl) (not-equal refl)
+        (row-judged e b 10 (ltb (length (b .output)) 5328) (workRow b ∷ final) final (cond (eqb (length (b .work)) 16384) Accepted (Refused 11 0)) (not-equal refl) (not-equal refl)
+        (length-judged e b 11 (eqb (length (b .work)) 16384) final final Accepted (not-equal refl) (not-equal refl) (λ x. x)))
+        (subst (λ rs. Returned e b (firstMet rs) 0) h r)
+    go (Refused n line) x = x
+
+repair-good : (e : Entry) (b : Lent) → rows e b ≡ repairRows b → Demand1 e b (repairBack (repaired (b .file) (b .marks) (b .edit) (b .output) (b .work)))
+unfolding repaired firstMet
+repair-good e b h =
+    go (measured (b .file) (length (b .marks)) (length (b .output)) (length (b .work)))
+    (measured-judged e b (editRows (readFile (b .file) .program) (onlyLine (b .edit)) ++ foreignRow b ∷ []) h)
+  where
+    edited : (d : Edit) (t : Bool) → Returned e b (cond (not t) 17 0) 0
+        → Demand1 e b (repairBack (cond t (repairedTo (editedProgram d (readFile (b .file) .program)) (b .output)) (foreign (b .marks) (b .output))))
+    edited d true r = late r (inl refl)
+    edited d false r = late r (inr (refl, refl, refl))
+
+    wanted : (w : EditRead) → wantedEdit (readFile (b .file) .program) (b .edit) ≡ w → Returned e b (numberThen w (firstMet (foreignRow b ∷ []))) 0
+        → Demand1 e b (repairBack (wantedBy w (readFile (b .file) .program) (b .marks) (b .output) (b .work)))
+    wanted (read.Read d) k r = edited d (same (b .marks) (freshMarks (readFile (b .file) .program))) r
+    wanted (read.Refused n) k r = let x = edit-numbers (readFile (b .file) .program) (b .edit) n k in early (record { returned = r; some-number = x .0; before-17 = x .1 })
+
+    go : (v : Verdict) → Judged e b (editRows (readFile (b .file) .program) (onlyLine (b .edit)) ++ foreignRow b ∷ []) v
+        → Demand1 e b (repairBack (repairedBy v (readFile (b .file) .program) (b .marks) (b .edit) (b .output) (b .work)))
+    go Accepted r =
+        wanted (wantedEdit (readFile (b .file) .program) (b .edit)) refl
+        (subst (λ n. Returned e b n 0) (edit-told (readFile (b .file) .program) (b .edit) (foreignRow b)) r)
+    go (Refused n line) x = early x
+
+-- ---- every function
+
+pub gives-demanded : (e : Entry) (b : Lent) (a : Back) → Gives e b a → Demand1 e b a
+gives-demanded reads b a g = subst (Demand1 reads b) (sym g) (read-good b)
+gives-demanded write b a g = subst (Demand1 write b) (sym g) (write-good b)
+gives-demanded analyze b a g = subst (Demand1 analyze b) (sym g) (analyze-good b)
+gives-demanded next-violation b a g = subst (Demand1 next-violation b) (sym g) (next-good b)
+gives-demanded prune b a g = subst (Demand1 prune b) (sym (g .0)) (prune-good b (a .marks) (g .1))
+gives-demanded repair-forward b a g = subst (Demand1 repair-forward b) (sym g) (repair-good repair-forward b refl)
+gives-demanded repair-inside-out b a g = subst (Demand1 repair-inside-out b) (sym g) (repair-good repair-inside-out b refl)

@@ -1,0 +1,182 @@
+-- The paper's cases P1 to P10, each from the bytes of its file, and of its edit line where it has one: one table.
+use mathlib.Core.Path.{_≡_}
+use mathlib.Core.Option.{Option, none, some}
+use mathlib.Core.List.{List, [], _∷_, _++_}
+use Prim.Native.Nat.{ℕ}
+use Prim.Native.String.{String}
+use lib.Dec.{eqb}
+use lib.ListN.{length, drop, set, replicate}
+use Rattle.program.specs.Program.{Program}
+use Rattle.program.specs.Reading.{readFile}
+use Rattle.program.specs.declared.Verdict.the-variants.{Accepted}
+use Rattle.program.proofs.Samples.{bytes, lineBytes, header, edges, transitions}
+use Rattle.writer.specs.Answers.{outputSize, refusal, writtenLength}
+use Rattle.reach.specs.Configurations.{none-set}
+use Rattle.reach.specs.Worklist.{analysis}
+use Rattle.reach.specs.Marks.{freshMarks, violations}
+use Rattle.edit.specs.Editing.{wantedEdit}
+use Rattle.repair.specs.Repairs.{After, repaired}
+use Rattle.repair.specs.Calls.{insideOutNumber}
+
+-- ---- what a row says
+
+-- a file, by its lines, that is analyzed in full, and what is expected: these configurations and no others are marked, these are the violations, and so
+-- many iterations are made; none where the row says nothing of it
+pub record Fresh : Type 0 where
+  pub file : List String
+  pub configurations : Option (List ℕ)
+  pub violating : Option (List ℕ)
+  pub iterations : Option ℕ
+
+-- a file, by its lines, the configurations of its own marks, and an edit line; and what is expected: the refusal's number, 0 for none, the configurations
+-- that are marked afterwards, the lines that are written, and the reanalyzed routines, a bit each; none where the row says nothing of them
+pub record Edited : Type 0 where
+  pub file : List String
+  pub before : List ℕ
+  pub line : String
+  pub refused : ℕ
+  pub after : List ℕ
+  pub wrote : List String
+  pub reopened : Option ℕ
+
+pub data Case : Type 0 where
+  fresh : Fresh → Case
+  edited : Edited → Case
+
+-- ---- what it means
+
+-- the marks with a 1 at these numbers and 0 elsewhere
+abbrev pub marksAt : List ℕ → List ℕ
+marksAt [] = none-set
+marksAt (i ∷ is) = set (marksAt is) i 1
+
+-- what is expected holds; nothing is asked where nothing is expected
+abbrev pub Said : {A : Type 0} → (A → Type 0) → Option A → Type 0
+Said P none = Unit {0}
+Said P (some x) = P x
+
+abbrev pub programIn : List String → Program
+programIn file = readFile (bytes file) .program
+
+-- the file is accepted, and the full analysis of its program gives what is expected
+pub record Analyzed (c : Fresh) : Type 0 where
+  pub accepted : readFile (bytes (c .file)) .verdict ≡ Accepted
+  pub marks : Said (λ is. freshMarks (programIn (c .file)) ≡ marksAt is) (c .configurations)
+  pub violating : Said (λ is. violations (programIn (c .file)) ≡ is) (c .violating)
+  pub iterations : Said (λ n. analysis (programIn (c .file)) .iterations ≡ n) (c .iterations)
+
+-- the output before the call
+abbrev pub blank : List ℕ
+blank = replicate outputSize 0
+
+-- the answer of either repair, and the lent bytes afterwards, as both promise them
+abbrev pub repairOf : Edited → After
+repairOf c = repaired (bytes (c .file)) (marksAt (c .before)) (lineBytes (c .line)) blank none-set
+
+-- what the inside-out repair promises, besides, of the number for the reanalyzed routines
+abbrev pub Reopens : Edited → ℕ → Type 0
+Reopens c n = insideOutNumber (eqb (refusal (repairOf c .answer)) 0) (wantedEdit (programIn (c .file)) (lineBytes (c .line))) (programIn (c .file)) n
+
+-- the refusal and the marks are as expected; the lines that are written stand at the start of the output, whose other bytes stay
+pub record Repaired (c : Edited) : Type 0 where
+  pub refused : refusal (repairOf c .answer) ≡ c .refused
+  pub marks : repairOf c .marks ≡ marksAt (c .after)
+  pub size : writtenLength (repairOf c .answer) ≡ length (bytes (c .wrote))
+  pub output : repairOf c .output ≡ bytes (c .wrote) ++ drop (length (bytes (c .wrote))) blank
+  pub reopened : Said (Reopens c) (c .reopened)
+
+abbrev pub Holds : Case → Type 0
+Holds (fresh c) = Analyzed c
+Holds (edited c) = Repaired c
+
+-- ---- the rows
+
+-- F, by its lines
+abbrev pub F : List String
+F = header ++ edges ++ transitions ++ "4900" ∷ "4602" ∷ "45000C" ∷ []
+
+-- F with these steps, and with these lines after its transitions
+abbrev with : List String → List String → List String
+with steps rest = header ++ steps ++ transitions ++ rest
+
+-- the configurations of F
+abbrev pub ofF : List ℕ
+ofF = 0 ∷ 65 ∷ 129 ∷ 1024 ∷ 1089 ∷ []
+
+-- P1: F has configurations 0, 65, 129, 1024, 1089
+abbrev pub P1 : Fresh
+P1 = record { file = F; configurations = some ofF; violating = some []; iterations = none }
+
+-- P2: it takes 6 iterations
+abbrev pub P2 : Fresh
+P2 = record { file = F; configurations = none; violating = none; iterations = some 6 }
+
+-- P3: F with no initial state: no mark, 0 iterations
+abbrev pub P3 : Fresh
+P3 = record { file = with edges ("4602" ∷ "45000B" ∷ []); configurations = some []; violating = some []; iterations = some 0 }
+
+-- P4: F with state 0 rejecting too: the violations are 0 and 1024 only
+abbrev pub P4 : Fresh
+P4 =
+    record {
+      file = with edges ("4900" ∷ "4600" ∷ "4602" ∷ "45000D" ∷ []);
+      configurations = some ofF;
+      violating = some (0 ∷ 1024 ∷ []);
+      iterations = some 6;
+    }
+
+-- P5: dropping 01 00 00 01 from F leaves 0 and 1024; reopened are 0 and 1
+abbrev pub P5 : Edited
+P5 =
+    record {
+      file = F;
+      before = ofF;
+      line = "2D01000001";
+      refused = 0;
+      after = 0 ∷ 1024 ∷ [];
+      wrote = with ("5300004102" ∷ "5300020101" ∷ []) ("4900" ∷ "4602" ∷ "45000B" ∷ []);
+      reopened = some 3;
+    }
+
+-- P6: dropping 00 00 41 02 from F leaves 0; reopened is 0 only
+abbrev pub P6 : Edited
+P6 =
+    record {
+      file = F;
+      before = ofF;
+      line = "2D00004102";
+      refused = 0;
+      after = 0 ∷ [];
+      wrote = with ("5300020101" ∷ "5301000001" ∷ []) ("4900" ∷ "4602" ∷ "45000B" ∷ []);
+      reopened = some 1;
+    }
+
+-- P7: F with the single step 00 00 40 01, main calling itself: configuration 0 alone
+abbrev pub P7 : Fresh
+P7 = record { file = with ("5300004001" ∷ []) ("4900" ∷ "4602" ∷ "45000A" ∷ []); configurations = some (0 ∷ []); violating = some []; iterations = some 1 }
+
+-- P8: adding 01 00 01 01 to what P6 leaves changes no mark
+abbrev pub P8 : Edited
+P8 =
+    record {
+      file = P6 .wrote;
+      before = P6 .after;
+      line = "2B01000101";
+      refused = 0;
+      after = P6 .after;
+      wrote = with ("5300020101" ∷ "5301000001" ∷ "5301000101" ∷ []) ("4900" ∷ "4602" ∷ "45000C" ∷ []);
+      reopened = none;
+    }
+
+-- P9: replacing a label by itself is 15
+abbrev pub P9 : Edited
+P9 = record { file = F; before = ofF; line = "3D0000410241"; refused = 15; after = ofF; wrote = []; reopened = none }
+
+-- P10: the drop of an absent step is 14
+abbrev pub P10 : Edited
+P10 = record { file = F; before = ofF; line = "2D00000102"; refused = 14; after = ofF; wrote = []; reopened = none }
+
+-- ---- the table
+
+abbrev pub table : List Case
+table = fresh P1 ∷ fresh P2 ∷ fresh P3 ∷ fresh P4 ∷ edited P5 ∷ edited P6 ∷ fresh P7 ∷ edited P8 ∷ edited P9 ∷ edited P10 ∷ []

@@ -1,0 +1,4 @@
+pub mod Entries
+pub mod Refusals
+pub mod Demands
+pub mod Cases
