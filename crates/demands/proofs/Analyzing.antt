@@ -14,7 +14,7 @@ use Rattle.reach.proofs.Shown.{every-byte, fresh-shows, occurs-in-range}
 use Rattle.reach.proofs.Violations.{listed-iff, next-violation, violations-ascend}
 use Rattle.analysis.specs.Answers.{checked, analyzeBy, analyzeAnswer, analyzeRefusal, onSuccess, marksAfter}
 use Rattle.analysis.proofs.Answered.{passed}
-use Rattle.demands.specs.Entries.{analyze, Lent, Back, Gives}
+use Rattle.desk.specs.Entries.{analyze, Lent, Back, Gives}
 use Rattle.demands.specs.Demands.{Demand2}
 use Rattle.demands.proofs.Returning.{Judged, checked-judged}
 

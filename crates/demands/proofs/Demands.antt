@@ -9,7 +9,7 @@ use Rattle.program.specs.declared.Verdict.the-variants.{Accepted}
 use Rattle.repair.specs.Calls.{Call, started}
 use Rattle.repair.proofs.Listed.{agreed, never-drifts, numbers-right, leaves-others}
 use Rattle.report.specs.Report.{tooLong, benchText}
-use Rattle.demands.specs.Entries.{Entry, analyze, Lent, Back, Gives}
+use Rattle.desk.specs.Entries.{Entry, analyze, Lent, Back, Gives}
 use Rattle.demands.specs.Demands.{Demand1, Demand2, Demand3}
 use Rattle.demands.specs.Cases.{Case, Holds, table}
 use Rattle.demands.proofs.Returning.{gives-demanded}

@@ -28,7 +28,7 @@ use Rattle.edit.specs.declared.Edit.{Edit}
 use Rattle.edit.specs.declared.EditRead.{EditRead}
 use Rattle.edit.specs.declared.EditRead.the-variants as read
 use Rattle.repair.specs.Repairs.{After, measuredBy, foreign, repairedTo, wantedBy, repairedBy, measured, repaired}
-use Rattle.demands.specs.Entries.{Entry, read as reads, write, analyze, next-violation, prune, repair-forward, repair-inside-out, Lent, Back, hasWork, readBack, writeBack, analyzeBack, nextBack, pruneBack, repairBack, Gives}
+use Rattle.desk.specs.Entries.{Entry, read as reads, write, analyze, next-violation, prune, repair-forward, repair-inside-out, Lent, Back, hasWork, readBack, writeBack, analyzeBack, nextBack, pruneBack, repairBack, Gives}
 use Rattle.demands.specs.Demands.{Demand1}
 use Rattle.demands.specs.Refusals.{Row, firstMet, FaultyFile, editRows, marksRow, outputRow, workRow, foreignRow, repairRows, rows, Returned, of-the-file, of-the-rest}
 use Rattle.demands.proofs.Filed.{SaysFile, file-told, faulty-number, faulty-once}

@@ -12,7 +12,7 @@ use Rattle.reach.specs.Runs.{Occurs}
 use Rattle.reach.specs.Marks.{violations, firstFrom}
 use Rattle.reach.specs.Violations.{Violation, Ascends, First}
 use Rattle.repair.specs.Calls.{Call, started, played, bookPlayed, Numbers, BookNumbers, BookLeaves}
-use Rattle.demands.specs.Entries.{Entry, Lent, Back, hasWork}
+use Rattle.desk.specs.Entries.{Entry, Lent, Back, hasWork}
 use Rattle.demands.specs.Refusals.{Returned}
 
 -- ---- demand 1: every file, edit line and lent buffer gets a result or one numbered refusal; a refusal changes nothing

@@ -1,4 +1,3 @@
-pub mod Entries
 pub mod Refusals
 pub mod Demands
 pub mod Cases

@@ -18,7 +18,7 @@ use Rattle.edit.specs.EditLines.{onlyLine, badLine, outOfRange, editIn}
 use Rattle.edit.specs.Editing.{hasEdge}
 use Rattle.edit.specs.declared.Edit.{Edit}
 use Rattle.edit.specs.declared.Edit.the-variants.{Add, Drop, Replace}
-use Rattle.demands.specs.Entries.{Entry, read, write, analyze, next-violation, prune, repair-forward, repair-inside-out, Lent}
+use Rattle.desk.specs.Entries.{Entry, read, write, analyze, next-violation, prune, repair-forward, repair-inside-out, Lent}
 
 -- a row of the table: its number, and whether its case is met
 pub record Row : Type 0 where

@@ -5,16 +5,16 @@ use program::Verdict;
 use repair::RepairAnswer;
 use writer::WriteAnswer;
 ghost use mathlib.Core.Path.{_≡_};
+ghost use mathlib.Core.List.{[]};
 ghost use Prim.Native.Nat.{_<_, _^_};
-ghost use lib.ListN.{length};
+ghost use lib.Dec.{eqb};
 ghost use Rattle.program.specs.Reading.{refusal, refusalLine, readFile};
-ghost use Rattle.writer.specs.Answers.{writeAnswer, outputAfter, refusal as writeRefusal, refusalLine as writeLine, writtenLength};
-ghost use Rattle.prune.specs.Keeping.{Pruned};
+ghost use Rattle.writer.specs.Answers.{writeAnswer, refusal as writeRefusal, refusalLine as writeLine, writtenLength};
+ghost use Rattle.analysis.specs.Answers.{analyzeAnswer, analyzeRefusal, analyzeLine, configurationCount, violationCount, iterationCount, nextAnswer, nextRefusal, nextLine, nextFound};
+ghost use Rattle.edit.specs.Editing.{wantedEdit};
 ghost use Rattle.repair.specs.Repairs.{repaired, plain, reanalyzed as reanalyzedNumber};
 ghost use Rattle.repair.specs.Calls.{insideOutNumber};
-ghost use Rattle.edit.specs.Editing.{wantedEdit};
-ghost use lib.Dec.{eqb};
-ghost use Rattle.analysis.specs.Answers.{checked, analyzeAnswer, marksAfter, workAfter, analyzeRefusal, analyzeLine, configurationCount, violationCount, iterationCount, nextAnswer, nextRefusal, nextLine, nextFound};
+ghost use Rattle.desk.specs.Entries.{Gives, read, write, analyze, next-violation, prune, repair-forward, repair-inside-out};
 
 fn refusal_of(v: Verdict) -> u32
     ensures { λ r. ⌜ r ≡ refusal v ⌝ }
@@ -39,7 +39,8 @@ fn line_of(v: Verdict) -> u32
 // Is this file accepted? The line of its refusal is set.
 #[no_mangle]
 pub extern "C" fn palthrenni_read(file: &[u8], line: &mut u32) -> u32
-    ensures { λ r. ⌜ (r ≡ refusal (readFile (now (file .entry)) .verdict)) × (now (line .exit) ≡ refusalLine (readFile (now (file .entry)) .verdict)) ⌝ }
+    ensures { λ r. ⌜ Gives read (record { file = now (file .entry); marks = []; edit = []; output = []; work = []; from = 0 })
+        (record { refusal = r; line = now (line .exit); marks = []; output = []; work = [] }) ⌝ }
 {
     let r = reader::read(file);
     let v = r.verdict;
@@ -85,10 +86,9 @@ pub extern "C" fn palthrenni_write(
     line: &mut u32,
     written: &mut u32,
 ) -> u32
-    ensures numbers { λ r. ⌜ (r ≡ writeRefusal (writeAnswer (now (file .entry)) (now (output .entry))))
-        × (now (line .exit) ≡ writeLine (writeAnswer (now (file .entry)) (now (output .entry))))
-        × (now (written .exit) ≡ writtenLength (writeAnswer (now (file .entry)) (now (output .entry)))) ⌝ }
-    ensures bytes { λ r. ⌜ now (output .exit) ≡ outputAfter (now (file .entry)) (now (output .entry)) ⌝ }
+    ensures back { λ r. ⌜ Gives write (record { file = now (file .entry); marks = []; edit = []; output = now (output .entry); work = []; from = 0 })
+        (record { refusal = r; line = now (line .exit); marks = []; output = now (output .exit); work = [] }) ⌝ }
+    ensures length { λ _. ⌜ now (written .exit) ≡ writtenLength (writeAnswer (now (file .entry)) (now (output .entry))) ⌝ }
 {
     let a = writer::write(file, output);
     *line = write_line_of(a);
@@ -157,13 +157,11 @@ pub extern "C" fn palthrenni_analyze(
     violations: &mut u32,
     iterations: &mut u32,
 ) -> u32
-    ensures numbers { λ r. ⌜ (r ≡ analyzeRefusal (analyzeAnswer (now (file .entry)) (now (marks .entry)) (now (work .entry))))
-        × (now (line .exit) ≡ analyzeLine (analyzeAnswer (now (file .entry)) (now (marks .entry)) (now (work .entry))))
-        × (now (configurations .exit) ≡ configurationCount (analyzeAnswer (now (file .entry)) (now (marks .entry)) (now (work .entry))))
+    ensures back { λ r. ⌜ Gives analyze (record { file = now (file .entry); marks = now (marks .entry); edit = []; output = []; work = now (work .entry); from = 0 })
+        (record { refusal = r; line = now (line .exit); marks = now (marks .exit); output = []; work = now (work .exit) }) ⌝ }
+    ensures counts { λ _. ⌜ (now (configurations .exit) ≡ configurationCount (analyzeAnswer (now (file .entry)) (now (marks .entry)) (now (work .entry))))
         × (now (violations .exit) ≡ violationCount (analyzeAnswer (now (file .entry)) (now (marks .entry)) (now (work .entry))))
         × (now (iterations .exit) ≡ iterationCount (analyzeAnswer (now (file .entry)) (now (marks .entry)) (now (work .entry)))) ⌝ }
-    ensures bytes { λ r. ⌜ (now (marks .exit) ≡ marksAfter (now (file .entry)) (now (marks .entry)) (now (work .entry)))
-        × (now (work .exit) ≡ workAfter (now (file .entry)) (now (marks .entry)) (now (work .entry))) ⌝ }
 {
     let a = analysis::analyze(file, marks, work);
     *line = analyze_line_of(a);
@@ -215,10 +213,9 @@ pub extern "C" fn palthrenni_next_violation(
     line: &mut u32,
     found: &mut u32,
 ) -> u32
-    ensures numbers { λ r. ⌜ (r ≡ nextRefusal (nextAnswer (now (file .entry)) (now (marks .entry)) (now (work .entry)) from))
-        × (now (line .exit) ≡ nextLine (nextAnswer (now (file .entry)) (now (marks .entry)) (now (work .entry)) from))
-        × (now (found .exit) ≡ nextFound (nextAnswer (now (file .entry)) (now (marks .entry)) (now (work .entry)) from)) ⌝ }
-    ensures bytes { λ r. ⌜ now (work .exit) ≡ workAfter (now (file .entry)) (now (marks .entry)) (now (work .entry)) ⌝ }
+    ensures back { λ r. ⌜ Gives next-violation (record { file = now (file .entry); marks = now (marks .entry); edit = []; output = []; work = now (work .entry); from = from })
+        (record { refusal = r; line = now (line .exit); marks = now (marks .entry); output = []; work = now (work .exit) }) ⌝ }
+    ensures number { λ _. ⌜ now (found .exit) ≡ nextFound (nextAnswer (now (file .entry)) (now (marks .entry)) (now (work .entry)) from) ⌝ }
 {
     let a = analysis::next_violation(file, marks, work, from as usize);
     *line = next_line_of(a);
@@ -234,11 +231,8 @@ pub extern "C" fn palthrenni_prune(
     work: &mut [u8],
     line: &mut u32,
 ) -> u32
-    ensures numbers { λ r. ⌜ (r ≡ refusal (checked (now (file .entry)) (length (now (marks .entry))) (length (now (work .entry)))))
-        × (now (line .exit) ≡ refusalLine (checked (now (file .entry)) (length (now (marks .entry))) (length (now (work .entry))))) ⌝ }
-    ensures bytes { λ r. ⌜ Pruned (checked (now (file .entry)) (length (now (marks .entry))) (length (now (work .entry)))) (readFile (now (file .entry)) .program)
-        (now (marks .entry)) (now (marks .exit))
-        × (now (work .exit) ≡ workAfter (now (file .entry)) (now (marks .entry)) (now (work .entry))) ⌝ }
+    ensures { λ r. ⌜ Gives prune (record { file = now (file .entry); marks = now (marks .entry); edit = []; output = []; work = now (work .entry); from = 0 })
+        (record { refusal = r; line = now (line .exit); marks = now (marks .exit); output = []; work = now (work .exit) }) ⌝ }
 {
     let v = prune::prune(file, marks, work);
     *line = line_of(v);
@@ -257,12 +251,9 @@ pub extern "C" fn palthrenni_repair_forward(
     line: &mut u32,
     written: &mut u32,
 ) -> u32
-    ensures numbers { λ r. ⌜ (r ≡ writeRefusal (repaired (now (file .entry)) (now (marks .entry)) (now (edit .entry)) (now (output .entry)) (now (work .entry)) .answer))
-        × (now (line .exit) ≡ writeLine (repaired (now (file .entry)) (now (marks .entry)) (now (edit .entry)) (now (output .entry)) (now (work .entry)) .answer))
-        × (now (written .exit) ≡ writtenLength (repaired (now (file .entry)) (now (marks .entry)) (now (edit .entry)) (now (output .entry)) (now (work .entry)) .answer)) ⌝ }
-    ensures bytes { λ r. ⌜ (now (marks .exit) ≡ repaired (now (file .entry)) (now (marks .entry)) (now (edit .entry)) (now (output .entry)) (now (work .entry)) .marks)
-        × (now (output .exit) ≡ repaired (now (file .entry)) (now (marks .entry)) (now (edit .entry)) (now (output .entry)) (now (work .entry)) .output)
-        × (now (work .exit) ≡ repaired (now (file .entry)) (now (marks .entry)) (now (edit .entry)) (now (output .entry)) (now (work .entry)) .work) ⌝ }
+    ensures back { λ r. ⌜ Gives repair-forward (record { file = now (file .entry); marks = now (marks .entry); edit = now (edit .entry); output = now (output .entry); work = now (work .entry); from = 0 })
+        (record { refusal = r; line = now (line .exit); marks = now (marks .exit); output = now (output .exit); work = now (work .exit) }) ⌝ }
+    ensures length { λ _. ⌜ now (written .exit) ≡ writtenLength (repaired (now (file .entry)) (now (marks .entry)) (now (edit .entry)) (now (output .entry)) (now (work .entry)) .answer) ⌝ }
 {
     let a = repair::repair_forward(file, marks, edit, output, work);
     *line = write_line_of(a);
@@ -320,13 +311,10 @@ pub extern "C" fn palthrenni_repair_inside_out(
     written: &mut u32,
     reanalyzed: &mut u32,
 ) -> u32
-    ensures numbers { λ r. ⌜ (r ≡ writeRefusal (repaired (now (file .entry)) (now (marks .entry)) (now (edit .entry)) (now (output .entry)) (now (work .entry)) .answer))
-        × (now (line .exit) ≡ writeLine (repaired (now (file .entry)) (now (marks .entry)) (now (edit .entry)) (now (output .entry)) (now (work .entry)) .answer))
-        × (now (written .exit) ≡ writtenLength (repaired (now (file .entry)) (now (marks .entry)) (now (edit .entry)) (now (output .entry)) (now (work .entry)) .answer)) ⌝ }
+    ensures back { λ r. ⌜ Gives repair-inside-out (record { file = now (file .entry); marks = now (marks .entry); edit = now (edit .entry); output = now (output .entry); work = now (work .entry); from = 0 })
+        (record { refusal = r; line = now (line .exit); marks = now (marks .exit); output = now (output .exit); work = now (work .exit) }) ⌝ }
+    ensures length { λ _. ⌜ now (written .exit) ≡ writtenLength (repaired (now (file .entry)) (now (marks .entry)) (now (edit .entry)) (now (output .entry)) (now (work .entry)) .answer) ⌝ }
     ensures routines { λ r. ⌜ insideOutNumber (eqb r 0) (wantedEdit (readFile (now (file .entry)) .program) (now (edit .entry))) (readFile (now (file .entry)) .program) (now (reanalyzed .exit)) ⌝ }
-    ensures bytes { λ r. ⌜ (now (marks .exit) ≡ repaired (now (file .entry)) (now (marks .entry)) (now (edit .entry)) (now (output .entry)) (now (work .entry)) .marks)
-        × (now (output .exit) ≡ repaired (now (file .entry)) (now (marks .entry)) (now (edit .entry)) (now (output .entry)) (now (work .entry)) .output)
-        × (now (work .exit) ≡ repaired (now (file .entry)) (now (marks .entry)) (now (edit .entry)) (now (output .entry)) (now (work .entry)) .work) ⌝ }
 {
     let a = repair::repair_inside_out(file, marks, edit, output, work);
     *line = repair_line_of(a);

@@ -1,7 +1,8 @@
+use Rattle.desk.proofs.Backs.{same-back}
 use Rattle.desk.proofs.Small.{analyze-small}
 use Rattle.analysis.specs.Answers.{analyzeRefusal, analyzeLine, configurationCount, violationCount, iterationCount}
 use native.Mathlib.Omega.{arith}
-use mathlib.Core.Path.{ap, _∙_}
+use mathlib.Core.Path.{refl, ap, _∙_}
 use borrow.Author.Needs.{needs}
 use Rattle.desk.proofs.palthrenni_analyze.Statement.{statement}
 use Rattle.desk.proofs.palthrenni_analyze.Tie as tie
@@ -46,14 +47,12 @@ returns : tie.Need-returns
 returns c =
     let e = c .before .before .before .before .before .before .before .before .before .analyze .ensures in
     let a = e .0 in (
+      same-back (c .analyze-refusal-of .ensures ∙ ap analyzeRefusal a) (c .before .before .before .before .analyze-line-of .ensures ∙ ap analyzeLine a) (e .1) refl (e .2),
       (
-        c .analyze-refusal-of .ensures ∙ ap analyzeRefusal a,
-        c .before .before .before .before .analyze-line-of .ensures ∙ ap analyzeLine a,
         c .before .before .before .configurations-of .ensures ∙ ap configurationCount a,
         c .before .before .violations-of .ensures ∙ ap violationCount a,
         c .before .iterations-of .ensures ∙ ap iterationCount a,
       ),
-      (e .1, e .2),
     )
 
 pub palthrenni-analyze-spec : {M : Type 1} → statement M

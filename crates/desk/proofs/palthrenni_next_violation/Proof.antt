@@ -1,7 +1,8 @@
+use Rattle.desk.proofs.Backs.{same-back}
 use Rattle.desk.proofs.Small.{next-small}
 use Rattle.analysis.specs.Answers.{nextRefusal, nextLine, nextFound}
 use native.Mathlib.Omega.{arith}
-use mathlib.Core.Path.{ap, _∙_}
+use mathlib.Core.Path.{refl, ap, _∙_}
 use borrow.Author.Needs.{needs}
 use Rattle.desk.proofs.palthrenni_next_violation.Statement.{statement}
 use Rattle.desk.proofs.palthrenni_next_violation.Tie as tie
@@ -30,8 +31,10 @@ same-length c = search needs
 returns : tie.Need-returns
 returns c =
     let e = c .before .before .before .before .before .next-violation .ensures in
-    let a = e .0 in
-    ((c .next-refusal-of .ensures ∙ ap nextRefusal a, c .before .before .next-line-of .ensures ∙ ap nextLine a, c .before .found-of .ensures ∙ ap nextFound a), e .1)
+    let a = e .0 in (
+      same-back (c .next-refusal-of .ensures ∙ ap nextRefusal a) (c .before .before .next-line-of .ensures ∙ ap nextLine a) refl refl (e .1),
+      c .before .found-of .ensures ∙ ap nextFound a,
+    )
 
 pub palthrenni-next-violation-spec : {M : Type 1} → statement M
 palthrenni-next-violation-spec =

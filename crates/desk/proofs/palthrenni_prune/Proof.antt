@@ -1,7 +1,8 @@
+use Rattle.desk.proofs.Backs.{same-back}
 use Rattle.desk.proofs.Small.{checked-line}
 use Rattle.program.specs.Reading.{refusal, refusalLine}
 use native.Mathlib.Omega.{arith}
-use mathlib.Core.Path.{ap, _∙_}
+use mathlib.Core.Path.{refl, ap, _∙_}
 use borrow.Author.Needs.{needs}
 use Rattle.desk.proofs.palthrenni_prune.Statement.{statement}
 use Rattle.desk.proofs.palthrenni_prune.Tie as tie
@@ -27,7 +28,7 @@ same-length-2 c = search needs
 returns : tie.Need-returns
 returns c =
     let e = c .before .before .before .before .before .before .prune .ensures in
-    ((c .refusal-of .ensures ∙ ap refusal (e .0), c .before .line-of .ensures ∙ ap refusalLine (e .0)), (e .1, e .2))
+    (same-back (c .refusal-of .ensures ∙ ap refusal (e .0)) (c .before .line-of .ensures ∙ ap refusalLine (e .0)) refl refl (e .2), e .1)
 
 pub palthrenni-prune-spec : {M : Type 1} → statement M
 palthrenni-prune-spec =

@@ -1,7 +1,8 @@
+use Rattle.desk.proofs.Backs.{same-back}
 use Rattle.desk.proofs.Small.{line-small}
 use Rattle.program.specs.Reading.{Outcome, refusal, refusalLine}
 use native.Mathlib.Omega.{arith}
-use mathlib.Core.Path.{ap, _∙_}
+use mathlib.Core.Path.{refl, ap, _∙_}
 use borrow.Author.Needs.{needs}
 use Rattle.desk.proofs.palthrenni_read.Statement.{statement}
 use Rattle.desk.proofs.palthrenni_read.Tie as tie
@@ -20,7 +21,7 @@ refusal-of-requires c κs = search needs
 returns : tie.Need-returns
 returns c =
     let e = c .before .before .read .ensures in
-    (c .refusal-of .ensures ∙ ap (λ (o : Outcome). refusal (o .verdict)) e, c .before .line-of .ensures ∙ ap (λ (o : Outcome). refusalLine (o .verdict)) e)
+    same-back (c .refusal-of .ensures ∙ ap (λ (o : Outcome). refusal (o .verdict)) e) (c .before .line-of .ensures ∙ ap (λ (o : Outcome). refusalLine (o .verdict)) e) refl refl refl
 
 pub palthrenni-read-spec : {M : Type 1} → statement M
 palthrenni-read-spec =

@@ -1,7 +1,8 @@
+use Rattle.desk.proofs.Backs.{same-back}
 use Rattle.desk.proofs.Small.{answer-small}
 use Rattle.writer.specs.Answers.{refusal, refusalLine, writtenLength}
 use native.Mathlib.Omega.{arith}
-use mathlib.Core.Path.{ap, _∙_}
+use mathlib.Core.Path.{refl, ap, _∙_}
 use borrow.Author.Needs.{needs}
 use Rattle.desk.proofs.palthrenni_write.Statement.{statement}
 use Rattle.desk.proofs.palthrenni_write.Tie as tie
@@ -29,8 +30,10 @@ same-length c = search needs
 
 returns : tie.Need-returns
 returns c =
-    let e = c .before .before .before .before .before .write .ensures in
-    ((c .write-refusal-of .ensures ∙ ap refusal (e .0), c .before .before .write-line-of .ensures ∙ ap refusalLine (e .0), c .before .written-of .ensures ∙ ap writtenLength (e .0)), e .1)
+    let e = c .before .before .before .before .before .write .ensures in (
+      same-back (c .write-refusal-of .ensures ∙ ap refusal (e .0)) (c .before .before .write-line-of .ensures ∙ ap refusalLine (e .0)) refl (e .1) refl,
+      c .before .written-of .ensures ∙ ap writtenLength (e .0),
+    )
 
 pub palthrenni-write-spec : {M : Type 1} → statement M
 palthrenni-write-spec =

@@ -50,7 +50,7 @@ hasWork prune = true
 hasWork repair-forward = true
 hasWork repair-inside-out = true
 
--- ---- what each function promises of these (its `ensures`, in the crate desk); a buffer that it does not have is not changed
+-- ---- what each function promises of these; a buffer that it does not have is not changed
 
 abbrev pub readBack : Lent → Verdict → Back
 readBack b v = record { refusal = refusal v; line = refusalLine v; marks = b .marks; output = b .output; work = b .work }
