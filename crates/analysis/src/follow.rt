@@ -98,7 +98,8 @@ fn follow_edge(
     low
 }
 
-// Every edge from node n of routine f.
+// Every edge from node n of routine f. The tables have the sizes of `analyze_program`, and a state is below 8: hence the
+// `requires`.
 pub fn follow_edges(
     keys: &[u32],
     count: usize,
@@ -141,7 +142,8 @@ fn wake_caller(marks: &[u8], pending: &mut [u8], key: u32, f: u8, r: u8, low: us
     low
 }
 
-// Every configuration in state r from which an edge calls routine f.
+// Every configuration in state r from which an edge calls routine f. Routines are below 16, and the buffers have been measured:
+// hence the `requires`.
 pub fn wake_callers(
     keys: &[u32],
     count: usize,

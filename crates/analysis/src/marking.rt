@@ -1,5 +1,6 @@
 // Marking configurations, and setting marked ones pending again. Each function returns a number below which nothing is
-// pending, if there was nothing below the one it was given.
+// pending, if there was nothing below the one it was given. Whoever follows has measured both buffers (refusals 9 and 11), and a
+// base is a configuration's number: hence each `requires`.
 ghost use mathlib.Core.Path.{_≡_};
 ghost use Prim.Native.Nat.{_<_, _≤_, _+_, _*_};
 ghost use lib.ListN.{length};

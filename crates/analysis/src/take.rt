@@ -9,7 +9,8 @@ ghost use Rattle.reach.specs.Worklist.{takeAt};
 ghost use Rattle.analysis.specs.Parts.{worklist, NoneBelow, Tables};
 
 // At an exit its summary is known and its callers become pending; elsewhere its edges are followed. Returns a number below
-// which nothing is pending, if the one that is taken was the lowest.
+// which nothing is pending, if the one that is taken was the lowest. The tables and buffers have the sizes of
+// `analyze_program`: hence the `requires`.
 pub fn take(
     keys: &[u32],
     count: usize,

@@ -68,7 +68,7 @@ fn edit_unless(e: Edit, n: u8) -> EditRead
     EditRead::Refused(n)
 }
 
-// An edit that was read, judged by a table of edges; a refusal stays.
+// An edit that was read, judged by a table of edges; a refusal stays. What was read has keys: hence the `requires`.
 pub fn wanted_by(r: EditRead, t: Table) -> EditRead
     requires { ⌜ KeyedRead r ⌝ }
     ensures { λ w. ⌜ w ≡ wantedBy r (map edgeOf (keysOf t)) ⌝ }

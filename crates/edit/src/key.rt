@@ -1,4 +1,4 @@
-// The keys of an edit's edges.
+// The keys of an edit's edges. Only an edge of bytes has a key, and each number of an edit line is a byte: hence each `requires`.
 use crate::Edit;
 use crate::Label;
 use crate::Step;

@@ -56,7 +56,7 @@ fn put_last(made: Table, n: usize, key: u32) -> Table
     made
 }
 
-// The table with one key more.
+// The table with one key more. A full table is refused (16) before: hence the `requires`.
 pub fn insert_key(t: Table, key: u32) -> Table
     requires { ⌜ length (keysOf t) < 256 ⌝ }
     ensures { λ r. ⌜ (keysOf r ≡ insertedKey key (keysOf t)) × (r .count ≡ length (keysOf r)) ⌝ }

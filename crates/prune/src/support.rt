@@ -113,7 +113,8 @@ fn lines_to_try(key: u32, f: u8, n: u8, count: usize) -> usize
     0
 }
 
-// The search ends at the first support found.
+// The search ends at the first support found. The counts are those of the two tables, and routines are below 16: hence the
+// `requires`.
 pub fn supported(
     keys: &[u32],
     m: usize,

@@ -114,6 +114,7 @@ fn program_after(p: DecodedProgram, k: u8, l: Line) -> DecodedProgram
     }
 }
 
+// A frame without a fault always finds room, and no file has 2^63 frames: hence the `requires`.
 pub fn after_frame(s: Reader, l: Line) -> Reader
     requires { ⌜ Room (programOf (s .program)) (kind l) × (s .frames < 2 ^ 63) ⌝ }
     ensures { λ r. ⌜ progressOf r ≡ after (progressOf s) l ⌝ }
