@@ -2,6 +2,7 @@
 // is the drop and then the add. The routines that are reanalyzed are told. The edits that come here were not refused and the
 // marks are the program's own (refusals 12 to 17): hence each `requires`.
 use crate::forward::add_step;
+use crate::forward::repair_marks;
 use components::decide::join;
 use components::drop::drop_inside_out;
 use components::graph::Routines;
@@ -12,6 +13,7 @@ use edit::apply::relabelled;
 use edit::apply::without_step;
 use program::DecodedProgram;
 ghost use mathlib.Core.Path.{_≡_};
+ghost use mathlib.Core.Bool.{true};
 ghost use lib.ListN.{length};
 ghost use Rattle.program.specs.WellFormed.{WellFormed};
 ghost use Rattle.program.specs.Decoded.{programOf};
@@ -100,7 +102,7 @@ fn replace_step_inside_out(
     Reworked { program, routines }
 }
 
-pub fn rework_marks(p: DecodedProgram, e: Edit, marks: &mut [u8], work: &mut [u8]) -> Reworked
+fn rework_marks(p: DecodedProgram, e: Edit, marks: &mut [u8], work: &mut [u8]) -> Reworked
     requires { ⌜ WellFormed (programOf p) × Applies e (programOf p) ⌝ }
     requires { ⌜ (now marks ≡ freshMarks (programOf p)) × (length (now work) ≡ 16384) ⌝ }
     ensures { λ r. ⌜ Repaired e (programOf p) (programOf (r .program)) (now (marks .exit)) (now (work .exit))
@@ -111,4 +113,19 @@ pub fn rework_marks(p: DecodedProgram, e: Edit, marks: &mut [u8], work: &mut [u8
         Edit::Drop(s) => drop_step_inside_out(p, s, marks, work),
         Edit::Replace(s, l) => replace_step_inside_out(p, s, l, marks, work),
     }
+}
+
+// The marks are repaired in the way that is asked for. The forward repair tells no routine.
+pub fn mend(inward: bool, p: DecodedProgram, e: Edit, marks: &mut [u8], work: &mut [u8]) -> Reworked
+    requires { ⌜ WellFormed (programOf p) × Applies e (programOf p) ⌝ }
+    requires { ⌜ (now marks ≡ freshMarks (programOf p)) × (length (now work) ≡ 16384) ⌝ }
+    ensures { λ r. ⌜ Repaired e (programOf p) (programOf (r .program)) (now (marks .exit)) (now (work .exit))
+        × (inward ≡ true → FlagsOf (ReanalyzedBy e (programOf p)) (r .routines .flags)) ⌝ }
+{
+    if inward {
+        return rework_marks(p, e, marks, work);
+    }
+    let program = repair_marks(p, e, marks, work);
+    let routines = Routines { flags: [0u8; 16] };
+    Reworked { program, routines }
 }

@@ -7,13 +7,13 @@ use components::bits::bits_of;
 use edit::Edit;
 use edit::EditRead;
 use edit::wanted_edit;
-use forward::repair_marks;
-use inside_out::rework_marks;
+use inside_out::mend;
 use program::DecodedProgram;
 use program::Verdict;
 use writer::WriteAnswer;
 use writer::put::write_program;
 ghost use mathlib.Core.Path.{_≡_};
+ghost use mathlib.Core.Bool.{true};
 ghost use lib.Dec.{eqb};
 ghost use Prim.Native.Nat.{_≤_};
 ghost use lib.ListN.{length};
@@ -54,46 +54,90 @@ fn measure(v: Verdict, marks: usize, output: usize, work: usize) -> Verdict
     }
 }
 
-// Marks that differ from the program's own are refused (17). Else they are repaired, and the edited program is written.
+// Marks that differ from the program's own are refused (17). Else they are repaired, and the edited program is written. Only
+// the inside-out repair promises something of the routines.
 fn repair_own(
+    inward: bool,
     p: DecodedProgram,
     e: Edit,
     marks: &mut [u8],
     output: &mut [u8],
     work: &mut [u8],
-) -> WriteAnswer
+) -> RepairAnswer
     requires { ⌜ WellFormed (programOf p) × Applies e (programOf p) ⌝ }
     requires { ⌜ (length (now marks) ≡ 16384) × (5328 ≤ length (now output)) × (length (now work) ≡ 16384) ⌝ }
-    ensures { λ r. ⌜ _≡_ {A = After} (record { answer = r; marks = now (marks .exit); output = now (output .exit); work = now (work .exit) })
-        (editedBy e (programOf p) (now (marks .entry)) (now (output .entry))) ⌝ }
+    ensures { λ r. ⌜ _≡_ {A = After} (record { answer = plain r; marks = now (marks .exit); output = now (output .exit); work = now (work .exit) })
+        (editedBy e (programOf p) (now (marks .entry)) (now (output .entry)))
+        × (inward ≡ true → insideOutNumber (eqb (refusal (plain r)) 0) (Read e) (programOf p) (reanalyzed r)) ⌝ }
 {
     let mut own = [0u8; 16384];
     let _iterations = analyze_program(p, &mut own, work);
     if check::same(marks, &own) {
-        let edited = repair_marks(p, e, marks, work);
+        let mended = mend(inward, p, e, marks, work);
+        let edited = mended.program;
+        let routines = mended.routines;
+        let flags = routines.flags;
+        let bits = bits_of(&flags);
         let size = write_program(output, edited);
-        return WriteAnswer::Written(size);
+        return RepairAnswer::Repaired(size, bits);
     }
-    WriteAnswer::Refused(17, 0)
+    RepairAnswer::Refused(17, 0)
 }
 
 // The refusals of the edit line (12 to 16); else 17 is left to check.
 fn repair_wanted(
+    inward: bool,
     p: DecodedProgram,
     marks: &mut [u8],
     line: &[u8],
     output: &mut [u8],
     work: &mut [u8],
-) -> WriteAnswer
+) -> RepairAnswer
     requires { ⌜ WellFormed (programOf p) ⌝ }
     requires { ⌜ (length (now marks) ≡ 16384) × (5328 ≤ length (now output)) × (length (now work) ≡ 16384) ⌝ }
-    ensures { λ r. ⌜ _≡_ {A = After} (record { answer = r; marks = now (marks .exit); output = now (output .exit); work = now (work .exit) })
-        (wantedBy (wantedEdit (programOf p) (now (line .entry))) (programOf p) (now (marks .entry)) (now (output .entry)) (now (work .entry))) ⌝ }
+    ensures { λ r. ⌜ _≡_ {A = After} (record { answer = plain r; marks = now (marks .exit); output = now (output .exit); work = now (work .exit) })
+        (wantedBy (wantedEdit (programOf p) (now (line .entry))) (programOf p) (now (marks .entry)) (now (output .entry)) (now (work .entry)))
+        × (inward ≡ true → insideOutNumber (eqb (refusal (plain r)) 0) (wantedEdit (programOf p) (now (line .entry))) (programOf p) (reanalyzed r)) ⌝ }
 {
     let wanted = wanted_edit(p, line);
     match wanted {
-        EditRead::Refused(n) => WriteAnswer::Refused(n, 0),
-        EditRead::Read(e) => repair_own(p, e, marks, output, work),
+        EditRead::Refused(n) => RepairAnswer::Refused(n, 0),
+        EditRead::Read(e) => repair_own(inward, p, e, marks, output, work),
+    }
+}
+
+// Either repair, from the file on.
+fn repair_file(
+    inward: bool,
+    file: &[u8],
+    marks: &mut [u8],
+    line: &[u8],
+    output: &mut [u8],
+    work: &mut [u8],
+) -> RepairAnswer
+    ensures { λ r. ⌜ _≡_ {A = After} (record { answer = plain r; marks = now (marks .exit); output = now (output .exit); work = now (work .exit) })
+        (repaired (now (file .entry)) (now (marks .entry)) (now (line .entry)) (now (output .entry)) (now (work .entry)))
+        × (inward ≡ true → insideOutNumber (eqb (refusal (plain r)) 0) (wantedEdit (readFile (now (file .entry)) .program) (now (line .entry))) (readFile (now (file .entry)) .program) (reanalyzed r)) ⌝ }
+{
+    let r = reader::read(file);
+    let v = r.verdict;
+    let measured = measure(v, marks.len(), output.len(), work.len());
+    match measured {
+        Verdict::Refused(n, at) => RepairAnswer::Refused(n, at),
+        Verdict::Accepted => {
+            let p = r.program;
+            repair_wanted(inward, p, marks, line, output, work)
+        }
+    }
+}
+
+// The answer without the routines.
+fn without_routines(a: RepairAnswer) -> WriteAnswer
+    ensures { λ r. ⌜ r ≡ plain a ⌝ }
+{
+    match a {
+        RepairAnswer::Repaired(size, _) => WriteAnswer::Written(size),
+        RepairAnswer::Refused(n, at) => WriteAnswer::Refused(n, at),
     }
 }
 
@@ -109,65 +153,8 @@ pub fn repair_forward(
     ensures { λ r. ⌜ _≡_ {A = After} (record { answer = r; marks = now (marks .exit); output = now (output .exit); work = now (work .exit) })
         (repaired (now (file .entry)) (now (marks .entry)) (now (line .entry)) (now (output .entry)) (now (work .entry))) ⌝ }
 {
-    let r = reader::read(file);
-    let v = r.verdict;
-    let measured = measure(v, marks.len(), output.len(), work.len());
-    match measured {
-        Verdict::Refused(n, at) => WriteAnswer::Refused(n, at),
-        Verdict::Accepted => {
-            let p = r.program;
-            repair_wanted(p, marks, line, output, work)
-        }
-    }
-}
-
-// As `repair_own`, inside-out.
-fn rework_own(
-    p: DecodedProgram,
-    e: Edit,
-    marks: &mut [u8],
-    output: &mut [u8],
-    work: &mut [u8],
-) -> RepairAnswer
-    requires { ⌜ WellFormed (programOf p) × Applies e (programOf p) ⌝ }
-    requires { ⌜ (length (now marks) ≡ 16384) × (5328 ≤ length (now output)) × (length (now work) ≡ 16384) ⌝ }
-    ensures { λ r. ⌜ _≡_ {A = After} (record { answer = plain r; marks = now (marks .exit); output = now (output .exit); work = now (work .exit) })
-        (editedBy e (programOf p) (now (marks .entry)) (now (output .entry)))
-        × insideOutNumber (eqb (refusal (plain r)) 0) (Read e) (programOf p) (reanalyzed r) ⌝ }
-{
-    let mut own = [0u8; 16384];
-    let _iterations = analyze_program(p, &mut own, work);
-    if check::same(marks, &own) {
-        let reworked = rework_marks(p, e, marks, work);
-        let edited = reworked.program;
-        let routines = reworked.routines;
-        let flags = routines.flags;
-        let bits = bits_of(&flags);
-        let size = write_program(output, edited);
-        return RepairAnswer::Repaired(size, bits);
-    }
-    RepairAnswer::Refused(17, 0)
-}
-
-// As `repair_wanted`, inside-out.
-fn rework_wanted(
-    p: DecodedProgram,
-    marks: &mut [u8],
-    line: &[u8],
-    output: &mut [u8],
-    work: &mut [u8],
-) -> RepairAnswer
-    requires { ⌜ WellFormed (programOf p) ⌝ }
-    requires { ⌜ (length (now marks) ≡ 16384) × (5328 ≤ length (now output)) × (length (now work) ≡ 16384) ⌝ }
-    ensures { λ r. ⌜ _≡_ {A = After} (record { answer = plain r; marks = now (marks .exit); output = now (output .exit); work = now (work .exit) })
-        (wantedBy (wantedEdit (programOf p) (now (line .entry))) (programOf p) (now (marks .entry)) (now (output .entry)) (now (work .entry)))
-        × insideOutNumber (eqb (refusal (plain r)) 0) (wantedEdit (programOf p) (now (line .entry))) (programOf p) (reanalyzed r) ⌝ }
-{
-    let wanted = wanted_edit(p, line);
-    match wanted {
-        EditRead::Refused(n) => RepairAnswer::Refused(n, 0),
-        EditRead::Read(e) => rework_own(p, e, marks, output, work),
-    }
+    let a = repair_file(false, file, marks, line, output, work);
+    without_routines(a)
 }
 
 // The inside-out repair: as the forward one, and the answer says which routines were reanalyzed.
@@ -182,14 +169,5 @@ pub fn repair_inside_out(
         (repaired (now (file .entry)) (now (marks .entry)) (now (line .entry)) (now (output .entry)) (now (work .entry)))
         × insideOutNumber (eqb (refusal (plain r)) 0) (wantedEdit (readFile (now (file .entry)) .program) (now (line .entry))) (readFile (now (file .entry)) .program) (reanalyzed r) ⌝ }
 {
-    let r = reader::read(file);
-    let v = r.verdict;
-    let measured = measure(v, marks.len(), output.len(), work.len());
-    match measured {
-        Verdict::Refused(n, at) => RepairAnswer::Refused(n, at),
-        Verdict::Accepted => {
-            let p = r.program;
-            rework_wanted(p, marks, line, output, work)
-        }
-    }
+    repair_file(true, file, marks, line, output, work)
 }

@@ -1,59 +1,47 @@
-use Rattle.repair.proofs.Answered.{refused-answer, measured-parts, well-formed, accepted-answer}
+use native.Mathlib.Omega.{arith}
+use Prim.Native.Nat.{ℕ, _≤_, _<_, _+_, _-_, _*_}
+use mathlib.Core.Path.{_≡_, refl, sym, ap, _∙_}
+use lib.ListN.{length, getD, set, length-set}
 use borrow.Author.Needs.{needs}
 use Rattle.repair.proofs.repair_forward.Statement.{statement}
 use Rattle.repair.proofs.repair_forward.Tie as tie
+use Rattle.repair.proofs.repair_forward.Reads as reads
+use Rattle.repair.proofs.repair_forward.Lts as lts
+use Rattle.repair.proofs.repair_file.Reads as repair-file-reads
+use Rattle.repair.proofs.without_routines.Reads as without-routines-reads
 
-read-requires : tie.Need-read-requires
-read-requires c κs = search needs
+-- src/lib.rt:156:9
+repair-file-requires : tie.Need-repair-file-requires
+repair-file-requires c κs = search needs
 
-measure-requires : tie.Need-measure-requires
-measure-requires c κs = search needs
+-- src/lib.rt:157:5
+without-routines-requires : tie.Need-without-routines-requires
+without-routines-requires c κs = search needs
 
-enum-known-measured : tie.Need-enum-known-measured
-enum-known-measured c = search needs
-
-enum-told : tie.Need-enum-told
-enum-told c = search needs
-
-repair-wanted-requires : tie.Need-repair-wanted-requires
-repair-wanted-requires c κs =
-    let z = c .before .before .before .before .before .before .before .before .before .before .before .before .before in
-    let e = c .before .before .before .before .before .before .before .read .ensures in
-    let k = c .before .before .before .before .before .before .measure .ensures in
-    let h = c .before .before .before .before .enum-told .given .1 in
-    let x = measured-parts (z .args .file .now) (z .args .marks .now) (z .args .line .now) (z .args .output .now) (z .args .work .now) _ e _ k h in
-    (well-formed (z .args .file .now) (z .args .marks .now) (z .args .line .now) (z .args .output .now) (z .args .work .now) _ e _ k h, (x .marks-length, x .output-length, x .work-length))
-
-returns : tie.Need-returns
-returns c =
-    let z = c .before .before .before .before .before .before .before .before .before .before in
-    refused-answer (z .args .file .now) (z .args .marks .now) (z .args .line .now) (z .args .output .now) (z .args .work .now) _ (c .before .before .before .before .read .ensures) _ (c .before .before .before .measure .ensures) _ _ (c .before .measured .given .1)
-
+-- src/lib.rt:146:1
 same-length : tie.Need-same-length
 same-length c = search needs
 
+-- src/lib.rt:146:1
 same-length-2 : tie.Need-same-length-2
 same-length-2 c = search needs
 
+-- src/lib.rt:146:1
 same-length-3 : tie.Need-same-length-3
 same-length-3 c = search needs
 
-returns-2 : tie.Need-returns-2
-returns-2 c =
-    let z = c .before .before .before .before .before .before .before .before .before .before .before .before .before .before .before .before .before .before .before .before in
-    accepted-answer (z .args .file .now) (z .args .marks .now) (z .args .line .now) (z .args .output .now) (z .args .work .now) _ (c .before .before .before .before .before .before .before .before .before .before .before .before .before .before .read .ensures) _ (c .before .before .before .before .before .before .before .before .before .before .before .before .before .measure .ensures) (c .before .before .before .before .before .before .before .before .before .before .before .enum-told .given .1) (c .before .before .before .before .before .before .repair-wanted .ensures)
+-- src/lib.rt:146:1
+returns : tie.Need-returns
+returns c =
+    rw (c .without-routines .ensures) (c .before .before .before .before .before .before .before .repair-file .ensures .0)
 
 pub repair-forward-spec : {M : Type 1} → statement M
 repair-forward-spec =
     tie.close
     (tie.spec
-    read-requires
-    measure-requires
-    enum-known-measured
-    enum-told
-    repair-wanted-requires
-    returns
+    repair-file-requires
+    without-routines-requires
     same-length
     same-length-2
     same-length-3
-    returns-2)
+    returns)

@@ -1,70 +1,37 @@
-use Rattle.writer.specs.Answers.{refusal}
-use Rattle.repair.specs.Repairs.{plain, reanalyzed}
-use lib.Dec.{eqb}
-use Rattle.repair.proofs.Answered.{refused-answer, measured-parts, well-formed, accepted-answer}
-use Rattle.repair.proofs.Numbered.{number-unmeasured, number-measured}
+use mathlib.Core.Path.{refl}
+use native.Mathlib.Omega.{arith}
+use Prim.Native.Nat.{ℕ, _≤_, _<_, _+_, _-_, _*_}
+use mathlib.Core.Path.{_≡_, refl, sym, ap, _∙_}
+use lib.ListN.{length, getD, set, length-set}
 use borrow.Author.Needs.{needs}
 use Rattle.repair.proofs.repair_inside_out.Statement.{statement}
 use Rattle.repair.proofs.repair_inside_out.Tie as tie
+use Rattle.repair.proofs.repair_inside_out.Reads as reads
+use Rattle.repair.proofs.repair_inside_out.Lts as lts
+use Rattle.repair.proofs.repair_file.Reads as repair-file-reads
 
-read-requires : tie.Need-read-requires
-read-requires c κs = search needs
+-- src/lib.rt:172:5
+repair-file-requires : tie.Need-repair-file-requires
+repair-file-requires c κs = search needs
 
-measure-requires : tie.Need-measure-requires
-measure-requires c κs = search needs
-
-enum-known-measured : tie.Need-enum-known-measured
-enum-known-measured c = search needs
-
-enum-told : tie.Need-enum-told
-enum-told c = search needs
-
-rework-wanted-requires : tie.Need-rework-wanted-requires
-rework-wanted-requires c κs =
-    let z = c .before .before .before .before .before .before .before .before .before .before .before .before .before in
-    let e = c .before .before .before .before .before .before .before .read .ensures in
-    let k = c .before .before .before .before .before .before .measure .ensures in
-    let h = c .before .before .before .before .enum-told .given .1 in
-    let x = measured-parts (z .args .file .now) (z .args .marks .now) (z .args .line .now) (z .args .output .now) (z .args .work .now) _ e _ k h in
-    (well-formed (z .args .file .now) (z .args .marks .now) (z .args .line .now) (z .args .output .now) (z .args .work .now) _ e _ k h, (x .marks-length, x .output-length, x .work-length))
-
-returns : tie.Need-returns
-returns c =
-    let z = c .before .before .before .before .before .before .before .before .before .before in
-    let e = c .before .before .before .before .read .ensures in
-    let k = c .before .before .before .measure .ensures in
-    let h = c .before .measured .given .1 in
-    (refused-answer (z .args .file .now) (z .args .marks .now) (z .args .line .now) (z .args .output .now) (z .args .work .now) _ e _ k _ _ h, number-unmeasured (z .args .file .now) (z .args .marks .now) (z .args .line .now) (z .args .output .now) (z .args .work .now) _ e _ k _ _ h)
-
+-- src/lib.rt:161:1
 same-length : tie.Need-same-length
 same-length c = search needs
 
+-- src/lib.rt:161:1
 same-length-2 : tie.Need-same-length-2
 same-length-2 c = search needs
 
+-- src/lib.rt:161:1
 same-length-3 : tie.Need-same-length-3
 same-length-3 c = search needs
 
-returns-2 : tie.Need-returns-2
-returns-2 c =
-    let z = c .before .before .before .before .before .before .before .before .before .before .before .before .before .before .before .before .before .before .before .before in
-    let e = c .before .before .before .before .before .before .before .before .before .before .before .before .before .before .read .ensures in
-    let k = c .before .before .before .before .before .before .before .before .before .before .before .before .before .measure .ensures in
-    let r = c .before .before .before .before .before .before .rework-wanted .ensures in
-    let y = c .before .before .before .before .before .before .rework-wanted .result in
-    (accepted-answer (z .args .file .now) (z .args .marks .now) (z .args .line .now) (z .args .output .now) (z .args .work .now) _ e _ k (c .before .before .before .before .before .before .before .before .before .before .before .enum-told .given .1) (r .0), number-measured (z .args .file .now) (z .args .marks .now) (z .args .line .now) (z .args .output .now) (z .args .work .now) _ e _ k (eqb (refusal (plain y)) 0) (reanalyzed y) (r .1))
+-- src/lib.rt:161:1
+returns : tie.Need-returns
+returns c =
+    let r = c .before .before .before .before .before .before .repair-file .ensures in
+    (r .0, r .1 refl)
 
 pub repair-inside-out-spec : {M : Type 1} → statement M
 repair-inside-out-spec =
-    tie.close
-    (tie.spec
-    read-requires
-    measure-requires
-    enum-known-measured
-    enum-told
-    rework-wanted-requires
-    returns
-    same-length
-    same-length-2
-    same-length-3
-    returns-2)
+    tie.close (tie.spec repair-file-requires same-length same-length-2 same-length-3 returns)

@@ -1,4 +1,8 @@
+use Rattle.writer.specs.Answers.{refusal}
+use Rattle.repair.specs.Repairs.{plain, reanalyzed}
+use lib.Dec.{eqb}
 use Rattle.repair.proofs.Answered.{wanted-refused, wanted-read}
+use Rattle.repair.proofs.Numbered.{number-unwanted, number-wanted}
 use Rattle.edit.proofs.Theorems.{wanted-applies}
 use Rattle.program.specs.Decoded.{programOf}
 use mathlib.Core.Path.{sym, _∙_}
@@ -25,7 +29,9 @@ repair-own-requires c κs =
 returns : tie.Need-returns
 returns c =
     let z = c .before .before .before .before .before .before .before .before in
-    wanted-refused (programOf (z .args .p)) (z .args .marks .now) (z .args .line .now) (z .args .output .now) (z .args .work .now) (c .before .before .before .wanted-edit .ensures) _ (c .before .wanted .given .1)
+    let e = c .before .before .before .wanted-edit .ensures in
+    let h = c .before .wanted .given .1 in
+    (wanted-refused (programOf (z .args .p)) (z .args .marks .now) (z .args .line .now) (z .args .output .now) (z .args .work .now) e _ h, λ i. number-unwanted (programOf (z .args .p)) (z .args .line .now) e _ h)
 
 same-length : tie.Need-same-length
 same-length c = search needs
@@ -39,7 +45,11 @@ same-length-3 c = search needs
 returns-2 : tie.Need-returns-2
 returns-2 c =
     let z = c .before .before .before .before .before .before .before .before .before .before .before .before .before .before .before .before .before .before in
-    c .before .before .before .before .before .before .repair-own .ensures ∙ wanted-read (programOf (z .args .p)) (z .args .marks .now) (z .args .line .now) (z .args .output .now) (z .args .work .now) (c .before .before .before .before .before .before .before .before .before .before .before .before .before .wanted-edit .ensures) _ (c .before .before .before .before .before .before .before .before .before .before .before .wanted2 .given .1)
+    let e = c .before .before .before .before .before .before .before .before .before .before .before .before .before .wanted-edit .ensures in
+    let h = c .before .before .before .before .before .before .before .before .before .before .before .wanted2 .given .1 in
+    let r = c .before .before .before .before .before .before .repair-own .ensures in
+    let y = c .before .before .before .before .before .before .repair-own .result in
+    (r .0 ∙ wanted-read (programOf (z .args .p)) (z .args .marks .now) (z .args .line .now) (z .args .output .now) (z .args .work .now) e _ h, λ i. number-wanted (programOf (z .args .p)) (z .args .line .now) e _ h (eqb (refusal (plain y)) 0) (reanalyzed y) (r .1 i))
 
 pub repair-wanted-spec : {M : Type 1} → statement M
 repair-wanted-spec =
