@@ -3,7 +3,7 @@ use mathlib.Core.Path.{_≡_, refl}
 use mathlib.Core.Bool.{Bool, true, false, cond}
 use mathlib.Core.Option.{Option, some, none}
 use mathlib.Core.List.{List}
-use Prim.Native.Nat.{ℕ, _≤_}
+use Prim.Native.Nat.{ℕ, _<_, _≤_, _^_}
 use native.Mathlib.Omega.{arith}
 use lib.Dec.{ltb, eqb}
 use lib.ListN.{length}
@@ -115,13 +115,19 @@ module _ (file marks work : List ℕ) where
       go Accepted e = own (same marks (freshMarks p)) (is-well-formed e)
       go (Refused n line) e = (line-is-small n line e, omega arith)
 
-  pub checked-line : refusalLine (checked file (length marks) (length work)) ≤ 547
-  unfolding checked v
-  checked-line = go v refl
-    where
-      go : (c : Verdict) → v ≡ c → refusalLine c ≤ 547
-      go Accepted e = omega arith
-      go (Refused n line) e = line-is-small n line e
+-- ---- the keeping
+
+checked-line : (file : List ℕ) (marks work : ℕ) → refusalLine (checked file marks work) ≤ 547
+unfolding checked
+checked-line file marks work = go (checkedBy (readFile file .verdict) marks work) refl
+  where
+    go : (c : Verdict) → checkedBy (readFile file .verdict) marks work ≡ c → refusalLine c ≤ 547
+    go Accepted e = omega arith
+    go (Refused n line) e = checked-small (readFile file .verdict) marks work n line (line-small file) e
+
+-- whatever the two lengths are
+pub checked-fits : (file : List ℕ) (marks work : ℕ) (c : Verdict) → c ≡ checked file marks work → refusalLine c < 2 ^ 32
+checked-fits file marks work c e = let h = checked-line file marks work in rw e (omega arith)
 
 -- ---- a repair
 

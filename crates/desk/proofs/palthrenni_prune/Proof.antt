@@ -1,7 +1,7 @@
+-- `desk::palthrenni_prune` meets its contract.
 use Rattle.desk.proofs.Backs.{same-back}
-use Rattle.desk.proofs.Small.{checked-line}
+use Rattle.desk.proofs.Small.{checked-fits}
 use Rattle.program.specs.Reading.{refusal, refusalLine}
-use native.Mathlib.Omega.{arith}
 use mathlib.Core.Path.{refl, ap, _∙_}
 use borrow.Author.Needs.{needs}
 use Rattle.desk.proofs.palthrenni_prune.Statement.{statement}
@@ -11,10 +11,7 @@ prune-requires : tie.Need-prune-requires
 prune-requires c κs = search needs
 
 line-of-requires : tie.Need-line-of-requires
-line-of-requires c κs =
-    let z = c .before .before .before .before .before .before .before .before .before .before .args in
-    let e = c .before .before .before .before .prune .ensures .0 in
-    rw e (omega (arith, checked-line (z .file .now) (z .marks .now) (z .work .now)))
+line-of-requires c κs = checked-fits _ _ _ _ (c .before .before .before .before .prune .ensures .0)
 
 refusal-of-requires : tie.Need-refusal-of-requires
 refusal-of-requires c κs = search needs

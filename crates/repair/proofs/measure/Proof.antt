@@ -1,3 +1,6 @@
+-- `repair::measure` meets its contract. What the test of the output's length says of 5,328 is said by itself.
+use Prim.Native.Nat.{_<_, _≤_}
+use native.Mathlib.Omega.{arith}
 use borrow.Author.Tests.{eq-eqb, ne-eqb, lt-ltb, le-ltb}
 use borrow.Author.Needs.{needs}
 use Rattle.repair.proofs.measure.Statement.{statement}
@@ -11,15 +14,21 @@ enum-told c = search needs
 
 returns : tie.Need-returns
 returns c =
-    rw (c .before .before .enum-told .given .1, eq-eqb _ _ (c .before .if1 .taken), lt-ltb _ _ (c .if2 .taken))
+    let z = c .before .before .before .before in
+    let h : z .args .output < 5328 = omega (arith, c .if2 .taken) in
+    rw (c .before .before .enum-told .given .1, eq-eqb _ _ (c .before .if1 .taken), lt-ltb _ _ h)
 
 returns-2 : tie.Need-returns-2
 returns-2 c =
-    rw (c .before .before .before .enum-told .given .1, eq-eqb _ _ (c .before .before .if1 .taken), le-ltb _ _ (c .before .if2 .left), eq-eqb _ _ (c .if3 .taken))
+    let z = c .before .before .before .before .before in
+    let h : 5328 ≤ z .args .output = omega (arith, c .before .if2 .left) in
+    rw (c .before .before .before .enum-told .given .1, eq-eqb _ _ (c .before .before .if1 .taken), le-ltb _ _ h, eq-eqb _ _ (c .if3 .taken))
 
 returns-3 : tie.Need-returns-3
 returns-3 c =
-    rw (c .before .before .before .enum-told .given .1, eq-eqb _ _ (c .before .before .if1 .taken), le-ltb _ _ (c .before .if2 .left), ne-eqb _ _ (c .if3 .left))
+    let z = c .before .before .before .before .before in
+    let h : 5328 ≤ z .args .output = omega (arith, c .before .if2 .left) in
+    rw (c .before .before .before .enum-told .given .1, eq-eqb _ _ (c .before .before .if1 .taken), le-ltb _ _ h, ne-eqb _ _ (c .if3 .left))
 
 returns-4 : tie.Need-returns-4
 returns-4 c =

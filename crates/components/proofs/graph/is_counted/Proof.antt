@@ -1,4 +1,9 @@
--- `components::graph::is_counted` meets its contract.
+-- `components::graph::is_counted` meets its contract: what the test says is said of f leading to g, and not the other way round.
+use Prim.Native.Nat.{_+_, _*_}
+use mathlib.Core.Path.{_≡_}
+use mathlib.Core.Bool.{true, false, _||_}
+use lib.Dec.{eqb}
+use Rattle.components.specs.Graphs.{isSet}
 use native.Mathlib.Omega.{arith}
 use borrow.Author.Needs.{needs}
 use Rattle.components.proofs.graph.is_counted.Statement.{statement}
@@ -14,10 +19,16 @@ shared-slice-read-if1 : tie.Need-shared-slice-read-if1
 shared-slice-read-if1 c = search needs
 
 returns : tie.Need-returns
-returns c = (rw (c .if1 .taken), omega arith)
+returns c =
+    let z = c .before .before in
+    let counted : (eqb (z .args .g) (z .args .f) || isSet (z .args .leads .now) (z .args .f * 16 + z .args .g)) ≡ true = c .if1 .taken in
+    (rw counted, omega arith)
 
 returns-2 : tie.Need-returns-2
-returns-2 c = (rw (c .if1 .left), omega arith)
+returns-2 c =
+    let z = c .before .before in
+    let passed-over : (eqb (z .args .g) (z .args .f) || isSet (z .args .leads .now) (z .args .f * 16 + z .args .g)) ≡ false = c .if1 .left in
+    (rw passed-over, omega arith)
 
 pub is-counted-spec : {M : Type 1} → statement M
 is-counted-spec = tie.close (tie.spec mul-if1 add-if1 shared-slice-read-if1 returns returns-2)

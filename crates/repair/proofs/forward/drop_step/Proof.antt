@@ -13,12 +13,14 @@ without-step-requires c κs =
     let z = c .before .before in
     drop-ready (z .args .s) (programOf (z .args .p)) (z .pre .0 .0) (z .pre .0 .1)
 
+-- the program before the edit is well-formed as well as the one after it: which of the two is pruned by is for `returns` to tell
 prune-program-requires : tie.Need-prune-program-requires
 prune-program-requires c κs =
     let z = c .before .before .before .before .before in
     let p = programOf (z .args .p) in
-    let e = c .before .before .without-step .ensures in
-    (dropped-well-formed (z .args .s) p _ (z .pre .0 .0) (z .pre .0 .1) e, (ap length (z .pre .1 .0) ∙ marks-length p, z .pre .1 .1))
+    let before = z .pre .0 .0 in
+    let after = dropped-well-formed (z .args .s) p _ before (z .pre .0 .1) (c .before .before .without-step .ensures) in
+    (search (before, after), (ap length (z .pre .1 .0) ∙ marks-length p, z .pre .1 .1))
 
 same-length : tie.Need-same-length
 same-length c = search needs
