@@ -1,50 +1,22 @@
 -- The start of following after edges were added, and its result.
 use Prim.Native.Nat.{ℕ, zero, suc, _+_, _%_, _≤_, _<_}
-use mathlib.Core.Path.{_≡_, refl, sym, ap, subst, _∙_}
-use mathlib.Core.Bool.{Bool, true, false}
+use mathlib.Core.Path.{_≡_, sym, ap, subst, _∙_}
 use mathlib.Core.Logic.{inl, inr}
 use mathlib.Core.Option.{none}
 use mathlib.Core.List.{List}
 use native.Mathlib.Omega.{arith}
-use lib.Dec.{ltb}
-use lib.ListN.{length, getD, set, length-set, List·getD-eq-default}
-use lib.Seq.{getD-set-same, getD-set-other}
-use borrow.Author.Count.{below-more}
-use borrow.Author.Tests.{ltb-true, ltb-false}
 use Rattle.program.specs.Program.{Program}
 use Rattle.program.specs.WellFormed.{WellFormed}
 use Rattle.reach.specs.Configurations.{number, routineOf, nodeOf, none-set}
-use Rattle.reach.specs.Worklist.{Worklist, lowest, summary, wake}
+use Rattle.reach.specs.Worklist.{Worklist, lowest, wake}
 use Rattle.reach.specs.Marks.{freshMarks}
-use Rattle.reach.proofs.Numbers.{summary-fits}
 use Rattle.reach.proofs.Flags.{none-on, zeros}
 use Rattle.reach.proofs.Kept.{Shape, shape-kept, blank-shape, analysis-shape}
 use Rattle.reach.proofs.Marking.{Within, within-none, within-split, within-here, within-there}
 use Rattle.reach.proofs.Waking.{Wakes, wakes-none, wakes-join, wake-one}
 use Rattle.reach.proofs.Growing.{Grown, Woken, grown-ends, grown-marks, grown-clear}
-use Rattle.analysis.specs.Parts.{worklist, Becomes, NoneBelow, each, wakeFrom, exitAt, Learnt, followed}
-
--- ---- the loop over the summaries
-
--- those below i are learnt
-pub record Learning (m : List ℕ) (i : ℕ) (k : List ℕ) : Type 0 where
-  pub known-length : length k ≡ 1024
-  pub learnt : (j : ℕ) → j < i → getD k j 0 ≡ getD m (exitAt j) 0
-
-pub learning-none : (m k : List ℕ) → length k ≡ 1024 → Learning m 0 k
-learning-none m k h = record { known-length = h; learnt = λ j l. absurd (omega arith) }
-
-pub learning-more : {m k : List ℕ} {i : ℕ} → Learning m i k → i < 1024 → Learning m (i + 1) (set k i (getD m (exitAt i) 0))
-learning-more {m} {k} {i} l h =
-    record {
-      known-length = length-set k i (getD m (exitAt i) 0) ∙ l .known-length;
-      learnt = below-more (λ j. getD (set k i (getD m (exitAt i) 0)) j 0 ≡ getD m (exitAt j) 0) i
-          (λ j a. getD-set-other k i j (getD m (exitAt i) 0) 0 (λ e. omega arith) ∙ l .learnt j a)
-          (getD-set-same k i (getD m (exitAt i) 0) 0 (omega (arith, l .known-length)));
-    }
-
-pub learning-all : {m k : List ℕ} {i : ℕ} → Learning m i k → 1024 ≤ i → Learnt m k
-learning-all l h = record { known-length = l .known-length; learnt = λ j a. l .learnt j (omega arith) }
+use Rattle.analysis.specs.Parts.{worklist, Becomes, NoneBelow, each, wakeFrom, Learnt, followed}
+use Rattle.analysis.proofs.Known.{exit-known, exit-marked, known-bits}
 
 -- ---- the numbers from base on, k of them, are woken
 
@@ -86,10 +58,6 @@ module _ (f n : ℕ) (hf : f < 16) (hn : n < 16) where
 
 -- ---- the start
 
-exit-at : (g r q : ℕ) → r < 8 → q < 8 → exitAt (summary g r q) ≡ number g 1 r q
-unfolding summary number
-exit-at g r q hr hq = omega arith
-
 pub none-before : NoneBelow none-set 16384
 unfolding none-set
 none-before = record { none-below = λ j h. zeros 16384 j }
@@ -97,26 +65,15 @@ none-before = record { none-below = λ j h. zeros 16384 j }
 -- p′ has more edges than p from node n of f; its worklist starts from the marks of p
 module _ (p p′ : Program) (wf : WellFormed p′) (f n : ℕ) (c : Grown p p′ f n) (m w k : List ℕ) (fresh : m ≡ freshMarks p)
     (b : Becomes (each (wakeFrom (number f n 0 0)) 64 0) m none-set m w) (l : Learnt m k) where
-  known-is : (g r q : ℕ) → g < 16 → r < 8 → q < 8 → getD k (summary g r q) 0 ≡ getD m (number g 1 r q) 0
-  known-is g r q hg hr hq =
-      l .learnt (summary g r q) (summary-fits g r q hg hr hq) ∙ ap (λ (i : ℕ). getD m i 0) (exit-at g r q hr hq)
-
-  known-bits : (i : ℕ) → getD k i 0 ≤ 1
-  known-bits i = go (ltb i 1024) refl
-    where
-      go : (t : Bool) → ltb i 1024 ≡ t → getD k i 0 ≤ 1
-      go true t = rw (l .learnt i (ltb-true i 1024 t), fresh) (analysis-shape p .marks-bits (exitAt i))
-      go false t = let size = l .known-length in let h = ltb-false i 1024 t in let e : getD k i 0 ≡ 0 = List·getD-eq-default k 0 (omega arith) in omega arith
-
   unwoken : Shape (worklist m none-set k 0)
   unwoken =
       record {
         marks-length = rw fresh (analysis-shape p .marks-length);
         pending-length = blank-shape .pending-length;
-        known-length = l .known-length;
+        known-length = l .len;
         marks-bits = λ i. rw fresh (analysis-shape p .marks-bits i);
         pending-bits = blank-shape .pending-bits;
-        known-bits = known-bits;
+        known-bits = known-bits m l (λ i. rw fresh (analysis-shape p .marks-bits i));
       }
 
   woken : Woken f n (worklist m w k 0)
@@ -126,8 +83,8 @@ module _ (p p′ : Program) (wf : WellFormed p′) (f n : ℕ) (c : Grown p p′
         shape = subst Shape (sym start-is) (from-shape (number f n 0 0) 64 0 (worklist m none-set k 0) unwoken);
         woken = λ {j} o x y. v .woken (at-node f n (c .routine) (c .source) j x y) o;
         waits = λ {j} o. elim (v .waits o) [ inl x ↦ none-on 16384 x | inr x ↦ (x .1, node-is j (x .0) .0, node-is j (x .0) .1) ];
-        learnt = λ g r q hg hr hq o. record { on = λ e. o .on (sym (known-is g r q hg hr hq) ∙ e) };
-        known = λ g r q hg hr hq o. record { on = λ e. o .on (known-is g r q hg hr hq ∙ e) };
+        learnt = exit-known m l;
+        known = exit-marked m l;
       }
     where
       start-is : worklist m w k 0 ≡ each (wakeFrom (number f n 0 0)) 64 0 (worklist m none-set k 0)

@@ -7,5 +7,7 @@ pub mod Counts
 pub mod Lowest
 pub mod Following
 pub mod Begun
+pub mod Filling
+pub mod Known
 pub mod Grown
 pub mod Answered

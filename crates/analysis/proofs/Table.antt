@@ -27,24 +27,24 @@ set-sets flags j at h = go (eqb j at) refl
     go false e = rw (getD-set-other flags j at 1 0 (λ d. eqb-false j at e (sym d)), or-false (isSet flags at))
 
 -- f asks whether some entry meets a test, and the flag at this place is to tell: at i, it and the entries from i on decide
-pub record Filled (f : List ℕ → Bool) (xs : List ℕ) (n i : ℕ) (flags : List ℕ) (at : ℕ) : Type 0 where
+pub record Deciding (f : List ℕ → Bool) (xs : List ℕ) (n i : ℕ) (flags : List ℕ) (at : ℕ) : Type 0 where
   pub decide : isSet flags at || f (drop i (take n xs)) ≡ f (take n xs)
 
-pub filled-none : (f : List ℕ → Bool) (xs : List ℕ) (n size at : ℕ) → at < size → Filled f xs n 0 (replicate size 0) at
-filled-none f xs n size at h = record { decide = rw (getD-replicate {A = ℕ} size at 0 0 h) }
+pub deciding-none : (f : List ℕ → Bool) (xs : List ℕ) (n size at : ℕ) → at < size → Deciding f xs n 0 (replicate size 0) at
+deciding-none f xs n size at h = record { decide = rw (getD-replicate {A = ℕ} size at 0 0 h) }
 
-module _ {f : List ℕ → Bool} {p : ℕ → Bool} {xs : List ℕ} {n i : ℕ} {flags : List ℕ} {at : ℕ} (asks : Asks f p) (filled : Filled f xs n i flags at) where
-  pub filled-more : (j : ℕ) → i < n → i < length xs → at < length flags → eqb j at ≡ p (getD xs i 0) → Filled f xs n (i + 1) (set flags j 1) at
-  filled-more j h k l e =
+module _ {f : List ℕ → Bool} {p : ℕ → Bool} {xs : List ℕ} {n i : ℕ} {flags : List ℕ} {at : ℕ} (asks : Asks f p) (deciding : Deciding f xs n i flags at) where
+  pub deciding-more : (j : ℕ) → i < n → i < length xs → at < length flags → eqb j at ≡ p (getD xs i 0) → Deciding f xs n (i + 1) (set flags j 1) at
+  deciding-more j h k l e =
       let m : i < length (take n xs) = simp length-take (omega arith) in
       record {
-        decide = rw (set-sets flags j at l, e, or-assoc, add-one, ← (asks .first (getD xs i 0) (drop (suc i) (take n xs))), ← (getD-take n xs i 0 h), ← (drop-cons (take n xs) i 0 m)) (filled .decide);
+        decide = rw (set-sets flags j at l, e, or-assoc, add-one, ← (asks .first (getD xs i 0) (drop (suc i) (take n xs))), ← (getD-take n xs i 0 h), ← (drop-cons (take n xs) i 0 m)) (deciding .decide);
       }
 
-  pub filled-all : min n (length xs) ≤ i → isSet flags at ≡ f (take n xs)
-  filled-all h =
+  pub deciding-all : min n (length xs) ≤ i → isSet flags at ≡ f (take n xs)
+  deciding-all h =
       let l : length (take n xs) ≤ i = simp length-take h in
-      sym (or-false (isSet flags at)) ∙ rw (drop-of-length-le (take n xs) l, asks .empty) at (filled .decide)
+      sym (or-false (isSet flags at)) ∙ rw (drop-of-length-le (take n xs) l, asks .empty) at (deciding .decide)
 
 -- ---- the place of a transition's flag
 
@@ -92,13 +92,13 @@ module _ (key : ℕ) where
 
 pub record Transitions (keys : List ℕ) (n i : ℕ) (flags : List ℕ) : Type 0 where
   pub size : length flags ≡ 2048
-  pub flag : (q a s : ℕ) → q < 8 → a < 32 → s < 8 → Filled (λ ks. listed q a s (map transitionOf ks)) keys n i flags (nextPlace q a s)
+  pub flag : (q a s : ℕ) → q < 8 → a < 32 → s < 8 → Deciding (λ ks. listed q a s (map transitionOf ks)) keys n i flags (nextPlace q a s)
 
 pub transitions-none : (keys : List ℕ) (n : ℕ) → Transitions keys n 0 (replicate 2048 0)
 transitions-none keys n =
     record {
       size = length-replicate {A = ℕ} 2048 0;
-      flag = λ q a s hq ha hs. filled-none (λ ks. listed q a s (map transitionOf ks)) keys n 2048 (nextPlace q a s) (omega arith);
+      flag = λ q a s hq ha hs. deciding-none (λ ks. listed q a s (map transitionOf ks)) keys n 2048 (nextPlace q a s) (omega arith);
     }
 
 module _ {keys : List ℕ} {n i : ℕ} {flags : List ℕ} (t : Transitions keys n i flags) where
@@ -106,30 +106,30 @@ module _ {keys : List ℕ} {n i : ℕ} {flags : List ℕ} (t : Transitions keys 
   transitions-more j h k place =
       record {
         size = simp length-set (t .size);
-        flag = λ q a s hq ha hs. filled-more (asks-listed q a s) (t .flag q a s hq ha hs) j h k (omega (arith, t .size)) (place .placed q a s hq ha hs);
+        flag = λ q a s hq ha hs. deciding-more (asks-listed q a s) (t .flag q a s hq ha hs) j h k (omega (arith, t .size)) (place .placed q a s hq ha hs);
       }
 
   pub transitions-all : (r : Automaton) → min n (length keys) ≤ i → r .transitions ≡ map transitionOf (take n keys) → Answers r flags
   unfolding moves
   transitions-all r h e =
-      record { answers = λ q a s hq ha hs. rw e (filled-all (asks-listed q a s) (t .flag q a s hq ha hs) h) }
+      record { answers = λ q a s hq ha hs. rw e (deciding-all (asks-listed q a s) (t .flag q a s hq ha hs) h) }
 
 -- ---- the flags of a list's states, the first i of them taken
 
 pub record Members (list : List ℕ) (n i : ℕ) (flags : List ℕ) : Type 0 where
   pub size : length flags ≡ 8
-  pub flag : (q : ℕ) → q < 8 → Filled (member q) list n i flags q
+  pub flag : (q : ℕ) → q < 8 → Deciding (member q) list n i flags q
 
 pub members-none : (list : List ℕ) (n : ℕ) → Members list n 0 (replicate 8 0)
-members-none list n = record { size = refl; flag = λ q h. filled-none (member q) list n 8 q h }
+members-none list n = record { size = refl; flag = λ q h. deciding-none (member q) list n 8 q h }
 
 module _ {list : List ℕ} {n i : ℕ} {flags : List ℕ} (m : Members list n i flags) where
   pub members-more : i < n → i < length list → Members list n (i + 1) (set flags (getD list i 0) 1)
   members-more h k =
       record {
         size = simp length-set (m .size);
-        flag = λ q l. filled-more (asks-member q) (m .flag q l) (getD list i 0) h k (omega (arith, m .size)) refl;
+        flag = λ q l. deciding-more (asks-member q) (m .flag q l) (getD list i 0) h k (omega (arith, m .size)) refl;
       }
 
   pub members-all : (r : Automaton) → min n (length list) ≤ i → r .rejecting ≡ take n list → Rejects r flags
-  members-all r h e = record { rejects = λ q l. rw e (filled-all (asks-member q) (m .flag q l) h) }
+  members-all r h e = record { rejects = λ q l. rw e (deciding-all (asks-member q) (m .flag q l) h) }

@@ -1,7 +1,7 @@
 -- What the private functions of the analysis promise of each other; nothing here has to be believed.
-use Prim.Native.Nat.{ℕ, zero, suc, _≤_, _<_, _+_, _-_, _*_, _/_, _%_}
+use Prim.Native.Nat.{ℕ, zero, suc, _<_, _+_, _-_, _*_, _/_, _%_}
 use mathlib.Core.Path.{_≡_}
-use mathlib.Core.Bool.{Bool, cond, _&&_, not}
+use mathlib.Core.Bool.{cond, _&&_, not}
 use mathlib.Core.Option.{Option, some, none}
 use mathlib.Core.List.{List, map}
 use lib.Dec.{eqb, ltb}
@@ -50,14 +50,18 @@ wakeAt base x s = wake (base + 8 * x) s
 abbrev pub wakeFrom : ℕ → ℕ → Worklist → Worklist
 wakeFrom base x s = wake (base + x) s
 
+-- every byte of a list is what a rule gives for its number
+pub record Filled (rule : ℕ → ℕ) (size : ℕ) (l : List ℕ) : Type 0 where
+  pub len : length l ≡ size
+  pub byte : (i : ℕ) → i < size → getD l i 0 ≡ rule i
+
 -- the number of the exit that has its summary at this place
 abbrev pub exitAt : ℕ → ℕ
 exitAt i = i / 64 * 1024 + 64 + i % 64
 
 -- the known summaries are those of the marked exits
-pub record Learnt (marks known : List ℕ) : Type 0 where
-  pub known-length : length known ≡ 1024
-  pub learnt : (i : ℕ) → i < 1024 → getD known i 0 ≡ getD marks (exitAt i) 0
+abbrev pub Learnt : List ℕ → List ℕ → Type 0
+Learnt marks known = Filled (λ i. getD marks (exitAt i) 0) 1024 known
 
 -- the place of the answer to: may the automaton go from q to s on a?
 abbrev pub nextPlace : ℕ → ℕ → ℕ → ℕ

@@ -1,5 +1,6 @@
 // After edges were added to a program, its marks are completed to those of the program that it has become.
 use crate::count::clear;
+use crate::exits::summaries_of;
 use crate::marking::wake;
 use crate::number::number_of;
 use crate::run::follow_program;
@@ -12,19 +13,7 @@ ghost use Rattle.program.specs.Decoded.{programOf};
 ghost use Rattle.reach.specs.Configurations.{number, none-set};
 ghost use Rattle.reach.specs.Marks.{freshMarks};
 ghost use Rattle.reach.proofs.Growing.{Grown};
-ghost use Rattle.analysis.specs.Parts.{Becomes, Lowers, each, wakeFrom, Learnt};
-
-// The known summaries are those of the marked exits: a summary has one place, and its exit one number.
-fn learn_exits(marks: &[u8], known: &mut [u8])
-    requires { ⌜ (length (now marks) ≡ 16384) × (length (now known) ≡ 1024) ⌝ }
-    ensures { λ _. ⌜ Learnt (now (marks .entry)) (now (known .exit)) ⌝ }
-{
-    let mut i: usize = 0;
-    while i < 1024 {
-        known[i] = marks[i / 64 * 1024 + 64 + i % 64];
-        i = i + 1;
-    }
-}
+ghost use Rattle.analysis.specs.Parts.{Becomes, Lowers, each, wakeFrom};
 
 // The marked configurations at node n of routine f become pending; their 64 numbers follow one another. Returns a number
 // below which nothing is pending, if nothing was before.
@@ -52,9 +41,9 @@ pub fn follow_added(p: DecodedProgram, f: u8, n: u8, marks: &mut [u8], pending: 
     requires { ⌜ ((old : Program) × Grown old (programOf p) f n × (now marks ≡ freshMarks old)) ⌝ }
     ensures { λ _. ⌜ (now (marks .exit) ≡ freshMarks (programOf p)) × (now (pending .exit) ≡ none-set) ⌝ }
 {
-    let mut known = [0u8; 1024];
+    let exits = summaries_of(marks);
+    let mut known = exits.flags;
     clear(pending);
-    learn_exits(marks, &mut known);
     let low = wake_node(marks, pending, f, n);
     let _iterations = follow_program(p, marks, pending, &mut known, low);
 }

@@ -1,5 +1,6 @@
 // The full analysis of a file's program, and the list of its violations.
 pub mod count;
+pub mod exits;
 mod follow;
 pub mod grow;
 mod marking;

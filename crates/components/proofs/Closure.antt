@@ -5,11 +5,11 @@ use mathlib.Core.Logic.{inl, inr, _≢_}
 use mathlib.Core.Bool.{Bool, true, false, cond, _&&_, not}
 use mathlib.Core.Option.{none}
 use mathlib.Core.List.{List, map}
-use Prim.Native.Nat.{ℕ, suc, _-_, _/_, _%_, _≤_, _<_}
+use Prim.Native.Nat.{ℕ, _/_, _%_, _≤_, _<_}
 use native.Mathlib.Omega.{arith}
 use native.Mathlib.Decide.{ℕ-discrete}
 use lib.Dec.{eqb}
-use lib.ListN.{length, getD, List·getD-eq-default}
+use lib.ListN.{length, getD}
 use lib.Seq.{take-length}
 use borrow.Author.Tests.{eqb-true, eqb-false, eq-eqb, ne-eqb, not-true}
 use Rattle.automaton.specs.declared.Event.{Event}
@@ -22,7 +22,7 @@ use Rattle.reach.specs.Runs.{HasStep}
 use Rattle.reach.specs.Reachable.{seeded}
 use Rattle.reach.specs.Worklist.{Worklist, lowest, summary, work}
 use Rattle.reach.specs.Marks.{Marked, Shows}
-use Rattle.reach.proofs.Numbers.{number-of, node-of, parts-in-range, At, summary-fits}
+use Rattle.reach.proofs.Numbers.{number-of, node-of, parts-in-range, At}
 use Rattle.reach.proofs.Sizes.{sizes, Proper}
 use Rattle.reach.proofs.Flags.{On, on-lt}
 use Rattle.reach.proofs.Kept.{Shape, work-shape}
@@ -31,9 +31,11 @@ use Rattle.reach.proofs.Settled.{Settled}
 use Rattle.reach.proofs.Bound.{follow-ends}
 use Rattle.reach.proofs.Exact.{follow-exact-ended}
 use Rattle.reach.proofs.Shown.{shows-marked}
-use Rattle.analysis.specs.Parts.{worklist, followed, Ends}
+use Rattle.analysis.specs.Parts.{worklist, Filled, Learnt, followed, Ends}
+use Rattle.analysis.proofs.Filling.{filled-bits}
+use Rattle.analysis.proofs.Known.{exit-known, exit-marked, known-bits}
 use Rattle.components.specs.Passes.{onlyOf}
-use Rattle.components.specs.PassParts.{Filled, exitAt, firstPending, is, Ready, RoutineReady, ByRoutine}
+use Rattle.components.specs.PassParts.{firstPending, is, Ready, RoutineReady, ByRoutine}
 use Rattle.components.proofs.Only.{only-well-formed, only-routine}
 
 -- the marked configurations of routine f that are no exits are pending, no others, and the summaries of the marked exits are known
@@ -108,10 +110,6 @@ module _ (p : Program) (f : ℕ) (s : Worklist) (h : Ready p (s .marks)) (k : Aw
 
 -- ---- bytes from which it starts
 
-exit-at : (g r q : ℕ) → r < 8 → q < 8 → exitAt (summary g r q) ≡ number g 1 r q
-unfolding summary number
-exit-at g r q hr hq = omega arith
-
 either : (t : Bool) (b : ℕ) → cond t b 0 ≢ 0 → (t ≡ true) × (b ≢ 0)
 either true b h = (refl, h)
 either false b h = absurd (h refl)
@@ -121,21 +119,9 @@ at-most true b h = h
 at-most false b h = omega arith
 
 module _ {p : Program} {f : ℕ} {steps next marks pending known : List ℕ} (r : RoutineReady p f steps next marks)
-    (kn : Filled (λ k. getD marks (exitAt k) 0) 1024 known) (pe : Filled (λ i. firstPending f (getD marks i 0) i) 16384 pending) where
+    (kn : Learnt marks known) (pe : Filled (λ i. firstPending f (getD marks i 0) i) 16384 pending) where
   abbrev s : Worklist
   s = worklist marks pending known 0
-
-  known-byte : (g r q : ℕ) → g < 16 → r < 8 → q < 8 → getD known (summary g r q) 0 ≡ getD marks (number g 1 r q) 0
-  known-byte g r q hg hr hq =
-      kn .byte (summary g r q) (summary-fits g r q hg hr hq) ∙ ap (λ (i : ℕ). getD marks i 0) (exit-at g r q hr hq)
-
-  -- bytes that are written by a rule are 0 or 1 where the rule gives no more
-  bits : (rule : ℕ → ℕ) (size : ℕ) (l : List ℕ) → Filled rule size l → ((i : ℕ) → rule i ≤ 1) → (i : ℕ) → getD l i 0 ≤ 1
-  bits rule size l w b i =
-      elim (ℕ-discrete (suc i - size) 0) [
-        | yes e ↦ rw (w .byte i (omega arith)) (b i)
-        | no e ↦ let z : length l ≤ i = omega (arith, w .len) in rw (List·getD-eq-default l 0 z) (omega arith)
-      ]
 
   starts : Awaits f s
   unfolding routineOf nodeOf
@@ -146,8 +132,8 @@ module _ {p : Program} {f : ℕ} {steps next marks pending known : List ℕ} (r 
           pending-length = pe .len;
           known-length = kn .len;
           marks-bits = r .ready .marks-bits;
-          pending-bits = bits _ 16384 pending pe (λ i. at-most (eqb (i / 1024) f && not (eqb (i / 64 % 16) 1)) (getD marks i 0) (r .ready .marks-bits i));
-          known-bits = bits _ 1024 known kn (λ k. r .ready .marks-bits (exitAt k));
+          pending-bits = filled-bits pe (λ i. at-most (eqb (i / 1024) f && not (eqb (i / 64 % 16) 1)) (getD marks i 0) (r .ready .marks-bits i));
+          known-bits = known-bits marks kn (r .ready .marks-bits);
         };
         woken = λ {j} o e n.
             let l : j < 16384 = omega (arith, r .ready .marks-length, on-lt marks j o) in
@@ -156,8 +142,8 @@ module _ {p : Program} {f : ℕ} {steps next marks pending known : List ℕ} (r 
             let l : j < 16384 = omega (arith, pe .len, on-lt pending j o) in
             let c = either (eqb (j / 1024) f && not (eqb (j / 64 % 16) 1)) (getD marks j 0) (λ z. o .on (pe .byte j l ∙ z)) in
             (record { on = c .1 }, eqb-false (j / 64 % 16) 1 (not-true (eqb (j / 64 % 16) 1) (both (eqb (j / 1024) f) (not (eqb (j / 64 % 16) 1)) (c .0) .1)));
-        learnt = λ g x q hg hr hq o. record { on = λ z. o .on (sym (known-byte g x q hg hr hq) ∙ z) };
-        known = λ g x q hg hr hq o. record { on = λ z. o .on (known-byte g x q hg hr hq ∙ z) };
+        learnt = exit-known marks kn;
+        known = exit-marked marks kn;
       }
 
   pub routine-ends : Ends (onlyOf (is f) p) steps (length steps) next marks pending known

@@ -1,13 +1,11 @@
 pub mod Worked
 pub mod Turned
-pub mod Filling
 pub mod Only
 pub mod Closure
 pub mod Slice
 pub mod Rounds
 pub mod Passing
 pub mod Growth
-pub mod Bytewise
 pub mod Keyed
 pub mod Graphed
 pub mod Leading

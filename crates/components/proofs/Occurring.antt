@@ -6,9 +6,9 @@ use mathlib.Core.Bool.{Bool, true, false, cond, _&&_, not}
 use mathlib.Core.List.{List, List·Memᴰ}
 use native.Mathlib.Omega.{arith}
 use lib.Dec.{eqb, ltb}
-use lib.ListN.{length, getD, take, replicate, length-replicate, List·getD-eq-default}
+use lib.ListN.{length, getD, take, replicate, length-replicate}
 use lib.Seq.{getD-take, length-take-le}
-use borrow.Author.Tests.{eqb-false, ne-eqb, ltb-true, ltb-false, lt-ltb, not-true}
+use borrow.Author.Tests.{eqb-false, ne-eqb, ltb-true, lt-ltb, not-true}
 use Rattle.automaton.specs.Automaton.{moves}
 use Rattle.automaton.specs.declared.Event.the-variants.{Call}
 use Rattle.program.specs.Program.{Program}
@@ -17,11 +17,15 @@ use Rattle.program.specs.declared.DecodedProgram.{DecodedProgram}
 use Rattle.program.proofs.Judged.{both}
 use Rattle.reach.specs.Configurations.{InRange, number}
 use Rattle.reach.specs.Runs.{Moves}
+use Rattle.reach.specs.Worklist.{summary}
 use Rattle.reach.specs.Marks.{Marked, Shows}
 use Rattle.reach.proofs.Flags.{On, none-on}
 use Rattle.reach.proofs.Numbers.{number-fits}
 use Rattle.reach.proofs.Sizes.{sizes, call-stays, may-call}
+use Rattle.analysis.specs.Parts.{Filled, Learnt}
 use Rattle.analysis.proofs.Begun.{take-min}
+use Rattle.analysis.proofs.Filling.{filled-bits}
+use Rattle.analysis.proofs.Known.{exit-byte}
 use Rattle.components.specs.Passes.{Live, begun, called}
 use Rattle.components.specs.Parts.{Flagged}
 use Rattle.components.specs.Graphs.{isSet, inTurn, copyRoot, callerOf, sourceOf, isCall, calledBy, rootsByEdge, rootsByEdges, rootsOfMain, keptByte}
@@ -35,25 +39,23 @@ use Rattle.components.proofs.Keyed.{at-in, place-of, KeysOf, key-step, 
 byte-tells : (marks : List ℕ) {f n r q v : ℕ} → InRange f n r q → v ≡ getD marks (number f n r q) 0 → (v ≢ 0) ↔ Marked marks f n r q
 byte-tells marks h e = (λ x. (h, λ z. x (e ∙ z)), λ m z. m .1 (sym e ∙ z))
 
-pub entries-flagged : (marks flags : List ℕ) → length flags ≡ 128 → ((i : ℕ) → i < 128 → getD flags i 0 ≡ getD marks (i / 8 * 1024 + i % 8 * 9) 0)
+pub entries-flagged : (marks : List ℕ) {flags : List ℕ} → Filled (λ i. getD marks (i / 8 * 1024 + i % 8 * 9) 0) 128 flags
     → Flagged 16 8 (λ f x. Marked marks f 0 x x) flags
 unfolding number
-entries-flagged marks flags l e =
+entries-flagged marks w =
     record {
-      len = l;
+      len = w .len;
       flagged = λ f x hf hx.
           let place : (f * 8 + x) / 8 * 1024 + (f * 8 + x) % 8 * 9 ≡ ((f * 16 + 0) * 8 + x) * 8 + x = omega arith in
           byte-tells marks (record { routine = hf; node = omega arith; root = hx; state = hx })
-          (e (f * 8 + x) (omega arith) ∙ ap (λ (i : ℕ). getD marks i 0) place);
+          (w .byte (f * 8 + x) (omega arith) ∙ ap (λ (i : ℕ). getD marks i 0) place);
     }
 
-pub exits-flagged : (marks flags : List ℕ) → ((i : ℕ) → i < 1024 → getD flags i 0 ≡ getD marks (i / 64 * 1024 + 64 + i % 64) 0)
+pub exits-flagged : (marks : List ℕ) {flags : List ℕ} → Learnt marks flags
     → (f x q : ℕ) → f < 16 → x < 8 → q < 8 → (getD flags ((f * 8 + x) * 8 + q) 0 ≢ 0) ↔ Marked marks f 1 x q
-unfolding number
-exits-flagged marks flags e f x q hf hx hq =
-    let place : ((f * 8 + x) * 8 + q) / 64 * 1024 + 64 + ((f * 8 + x) * 8 + q) % 64 ≡ ((f * 16 + 1) * 8 + x) * 8 + q = omega arith in
-    byte-tells marks (record { routine = hf; node = omega arith; root = hx; state = hq })
-    (e ((f * 8 + x) * 8 + q) (omega arith) ∙ ap (λ (i : ℕ). getD marks i 0) place)
+unfolding summary
+exits-flagged marks w f x q hf hx hq =
+    byte-tells marks (record { routine = hf; node = omega arith; root = hx; state = hq }) (exit-byte marks w f x q hf hx hq)
 
 -- ---- the roots that occur
 
@@ -231,16 +233,9 @@ one-true false x = absurd (omega arith)
 module _ (p : Program) (marks live cut : List ℕ) (l : Flagged 16 8 (Live p (Marked marks)) live) (z : length cut ≡ 16384)
     (e : (i : ℕ) → i < 16384 → getD cut i 0 ≡ keptByte live marks i) where
   cut-bit : (i : ℕ) → getD cut i 0 ≤ 1
-  cut-bit i = go (ltb i 16384) refl
-    where
-      go : (b : Bool) → ltb i 16384 ≡ b → getD cut i 0 ≤ 1
-      go true t =
-          let x = e i (ltb-true i 16384 t) in
-          omega (arith, x, bit-small (isSet marks i && isSet live (i / 1024 * 8 + i / 8 % 8)))
-      go false t =
-          let h : length cut ≤ i = omega (arith, z, ltb-false i 16384 t) in
-          let d : getD cut i 0 ≡ 0 = List·getD-eq-default cut 0 h in
-          omega arith
+  cut-bit =
+      filled-bits {rule = keptByte live marks} {size = 16384} {l = cut} (record { len = z; byte = e }) (λ i.
+      bit-small (isSet marks i && isSet live (i / 1024 * 8 + i / 8 % 8)))
 
   root-place : {f n r q : ℕ} → InRange f n r q → number f n r q / 1024 * 8 + number f n r q / 8 % 8 ≡ f * 8 + r
   unfolding number

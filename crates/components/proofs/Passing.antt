@@ -1,6 +1,6 @@
 -- The pass over a component, as a whole: from the first marks, what follows by the edges of its routines is what the pass derives, and of the
 -- other routines nothing is marked anew.
-use Prim.Native.Nat.{ℕ, suc, _+_, _-_, _*_, _≤_}
+use Prim.Native.Nat.{ℕ, _+_, _*_, _≤_}
 use mathlib.Core.Path.{_≡_, refl, sym, _∙_}
 use mathlib.Core.Logic.{_≢_}
 use mathlib.Core.Bool.{Bool, true, false, cond}
@@ -8,7 +8,7 @@ use mathlib.Core.List.{List}
 use native.Mathlib.Omega.{arith}
 use native.Mathlib.Decide.{ℕ-discrete}
 use lib.Dec.{eqb}
-use lib.ListN.{length, getD, List·getD-eq-default}
+use lib.ListN.{getD}
 use borrow.Author.Tests.{eqb-true, eqb-false, eq-eqb, ne-eqb}
 use Rattle.program.specs.Program.{Program}
 use Rattle.program.specs.WellFormed.{WellFormed}
@@ -18,9 +18,11 @@ use Rattle.reach.specs.Marks.{Marked, Shows}
 use Rattle.reach.proofs.Laws.{grows}
 use Rattle.reach.proofs.Numbers.{routine-of, node-of, root-of, state-of, number-fits}
 use Rattle.reach.proofs.Sizes.{call-stays}
+use Rattle.analysis.specs.Parts.{Filled}
+use Rattle.analysis.proofs.Filling.{filled-bits}
 use Rattle.components.specs.Passes.{PassSeeds, entry, summary}
 use Rattle.components.specs.Parts.{memberOf, Member, RootOf, ExitOf, PassOf, Passable, Passed}
-use Rattle.components.specs.PassParts.{Filled, firstMark, Ready, ByMembers}
+use Rattle.components.specs.PassParts.{firstMark, Ready, ByMembers}
 use Rattle.components.proofs.Only.{only-step, only-routine, only-within}
 use Rattle.components.proofs.Rounds.{true-member, shown-marked, marked-shown}
 
@@ -114,11 +116,7 @@ module _ {p : Program} {members roots marks first : List ℕ} (w : WellFormed p)
       record {
         well-formed = w;
         marks-length = x .len;
-        marks-bits = λ i.
-            elim (ℕ-discrete (suc i - 16384) 0) [
-              | yes e ↦ rw (x .byte i (omega arith)) (old-or-root (getD marks i 0) i (a .marks-bits i))
-              | no e ↦ let z : length first ≤ i = omega (arith, x .len) in rw (List·getD-eq-default first 0 z) (omega arith)
-            ];
+        marks-bits = filled-bits x (λ i. old-or-root (getD marks i 0) i (a .marks-bits i));
         states = λ {f} {n} {r} {q} y.
             elim (is-member f) [
               | yes m ↦

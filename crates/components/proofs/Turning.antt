@@ -2,7 +2,7 @@
 use mathlib.Core.Path.{_≡_, refl, sym, ap, subst, _∙_}
 use mathlib.Core.Logic.{_⊎_, _↔_, _≢_}
 use mathlib.Core.List.{List}
-use Prim.Native.Nat.{ℕ, _+_, _*_, _/_, _%_, _≤_, _<_}
+use Prim.Native.Nat.{ℕ, _+_, _/_, _%_, _≤_, _<_}
 use native.Mathlib.Omega.{arith}
 use lib.ListN.{length, getD, replicate, length-replicate}
 use borrow.Author.Tests.{leb-true, le-leb}
@@ -13,6 +13,7 @@ use Rattle.reach.specs.Marks.{Marked, Shows, freshMarks}
 use Rattle.reach.proofs.Flags.{zeros}
 use Rattle.reach.proofs.Kept.{marks-length}
 use Rattle.reach.proofs.Exact.{analysis-exact}
+use Rattle.analysis.specs.Parts.{Learnt}
 use Rattle.components.specs.Components.{Leads, Together, Anew, Reopened}
 use Rattle.components.specs.Passes.{Live}
 use Rattle.components.specs.Parts.{Flagged, Member, Passable, Passed}
@@ -20,6 +21,7 @@ use Rattle.components.specs.Graphs.{callerOf, sourceOf, calledBy, rankOf
 use Rattle.components.specs.Turns.{DropOf, Ranks, turnOf, Working, Turning, Joined, CallsDiffering, SomeDiffering}
 use Rattle.components.proofs.Graphed.{called-small, rank-positive, rank-limited, rank-same, rank-less, dec-together}
 use Rattle.components.proofs.Keyed.{KeysOf, key-step, step-key}
+use Rattle.components.proofs.Occurring.{exits-flagged}
 use Rattle.components.proofs.Turned.{skipped, kept-turn, worked-turn}
 use Rattle.components.proofs.Finished.{pass-is, passable, reopened-is, first-turn, all-right, cut-fresh}
 
@@ -148,8 +150,7 @@ module _ {p p′ : Program} {edited : ℕ} (h : DropOf p p′ edited) where
 
   pub turning-start : {leads roots before marks : List ℕ} → marks ≡ freshMarks p → Flagged 16 16 (Leads p′) leads
       → Flagged 16 8 (λ (f x : ℕ). Marked marks f 0 x x) roots
-      → (length before ≡ 1024) × ((f x q : ℕ) → f < 16 → x < 8 → q < 8 → (getD before ((f * 8 + x) * 8 + q) 0 ≢ 0) ↔ Marked marks f 1 x q)
-      → Turning p p′ edited leads roots before 16 marks (replicate 16 0) (replicate 16 0)
+      → Learnt marks before → Turning p p′ edited leads roots before 16 marks (replicate 16 0) (replicate 16 0)
   turning-start {marks = marks} e l r b =
       record {
         drop = h;
@@ -162,9 +163,9 @@ module _ {p p′ : Program} {edited : ℕ} (h : DropOf p p′ edited) where
               (λ o. z .0 (y .0 o), λ o. y .1 (z .1 o));
         };
         old-summaries = record {
-          len = b .0;
+          len = b .len;
           flagged = λ f x q hf hx hq.
-              let y = b .1 f x q hf hx hq in
+              let y = exits-flagged marks b f x q hf hx hq in
               let z = fresh-marked e f 1 x q in
               (λ o. z .0 (y .0 o), λ o. y .1 (z .1 o));
         };

@@ -16,20 +16,11 @@ use Rattle.analysis.specs.Parts.{Answers}
 use Rattle.components.specs.Passes.{onlyOf, edgesOf}
 use Rattle.components.specs.Parts.{memberOf, Member}
 
--- every byte of a list is what a rule gives for its number
-pub record Filled (rule : ℕ → ℕ) (size : ℕ) (l : List ℕ) : Type 0 where
-  pub len : length l ≡ size
-  pub byte : (i : ℕ) → i < size → getD l i 0 ≡ rule i
-
 -- the mark of number i at the start of a pass: of these routines, only their entries in their roots are marked
 abbrev pub firstMark : List ℕ → List ℕ → ℕ → ℕ → ℕ
 firstMark members roots old i =
     cond (eqb (getD members (i / 1024) 0) 0) old
     (cond (eqb (i / 64 % 16) 0) (cond (eqb (i / 8 % 8) (i % 8)) (cond (eqb (getD roots (i / 1024 * 8 + i % 8) 0) 0) 0 1) 0) 0)
-
--- the number of the exit whose summary is at this place
-abbrev pub exitAt : ℕ → ℕ
-exitAt k = k / 64 * 1024 + 64 + k % 64
 
 -- what is pending at the start, for routine f: its marked configurations that are no exits
 abbrev pub firstPending : ℕ → ℕ → ℕ → ℕ

@@ -1,20 +1,21 @@
 // The pass over a component (paper: working a group anew): its routines are worked by their own edges, from their roots and
 // the summaries of the routines that they call outside, in rounds until a round marks nothing.
 use analysis::count::count_marks;
+use analysis::exits::summaries_of;
 use analysis::next::next_states;
 use analysis::run::follow_pending;
 use automaton::in_use;
 use program::DecodedProgram;
 ghost use mathlib.Core.Path.{_≡_};
-ghost use Prim.Native.Nat.{ℕ, _<_, _≤_};
+ghost use Prim.Native.Nat.{_<_, _≤_};
 ghost use lib.ListN.{length, getD};
 ghost use Rattle.program.specs.Program.{Program};
 ghost use Rattle.program.specs.WellFormed.{WellFormed};
 ghost use Rattle.program.specs.Decoded.{programOf};
 ghost use Rattle.reach.specs.Marks.{Shows};
-ghost use Rattle.analysis.specs.Parts.{Answers};
+ghost use Rattle.analysis.specs.Parts.{Filled, Answers};
 ghost use Rattle.components.specs.Parts.{Passable, Passed};
-ghost use Rattle.components.specs.PassParts.{Filled, firstMark, exitAt, firstPending, FirstOf, Ready, RoutineReady, ByRoutine, ByMembers, Round, Turn};
+ghost use Rattle.components.specs.PassParts.{firstMark, firstPending, FirstOf, Ready, RoutineReady, ByRoutine, ByMembers, Round, Turn};
 
 // The mark of number i at the start: of the component's routines only the entries in their roots are marked.
 fn first_mark(members: &[u8], roots: &[u8], old: u8, i: usize) -> u8
@@ -48,18 +49,6 @@ fn reset(members: &[u8], roots: &[u8], marks: &mut [u8])
     }
 }
 
-// The known summaries are those of the marked exits.
-fn learn_exits(marks: &[u8], known: &mut [u8])
-    requires { ⌜ (length (now marks) ≡ 16384) × (length (now known) ≡ 1024) ⌝ }
-    ensures { λ _. ⌜ Filled (λ k. getD (now (marks .entry)) (exitAt k) 0) 1024 (now (known .exit)) ⌝ }
-{
-    let mut k: usize = 0;
-    while k < 1024 {
-        known[k] = marks[k / 64 * 1024 + 64 + k % 64];
-        k = k + 1;
-    }
-}
-
 fn first_pending(f: u32, old: u8, i: usize) -> u8
     ensures { λ r. ⌜ r ≡ firstPending f old i ⌝ }
 {
@@ -88,8 +77,8 @@ fn routine_pass(steps: &[u32], f: u32, next: &[u8], marks: &mut [u8], pending: &
     requires { ⌜ ((p : Program) × RoutineReady p f (now steps) (now next) (now marks)) ⌝ }
     ensures { λ _. ⌜ ((p : Program) → RoutineReady p f (now (steps .entry)) (now (next .entry)) (now (marks .entry)) → Shows (ByRoutine p f (now (marks .entry))) (now (marks .exit))) ⌝ }
 {
-    let mut known = [0u8; 1024];
-    learn_exits(marks, &mut known);
+    let exits = summaries_of(marks);
+    let mut known = exits.flags;
     await_routine(f, marks, pending);
     follow_pending(steps, steps.len(), next, marks, pending, &mut known, 0);
 }

@@ -1,4 +1,4 @@
-// The roots and the summaries that are on a sheet of marks, and the roots that occur.
+// The roots that are on a sheet of marks, and the roots that occur.
 use crate::graph::copy_when;
 use crate::graph::is_set;
 use analysis::count::count_marks;
@@ -7,8 +7,7 @@ use automaton::States;
 use automaton::in_use;
 use program::DecodedProgram;
 ghost use mathlib.Core.Path.{_≡_};
-ghost use mathlib.Core.Logic.{_↔_, _≢_};
-ghost use Prim.Native.Nat.{ℕ, min, _<_, _≤_, _+_, _*_};
+ghost use Prim.Native.Nat.{ℕ, min, _<_, _≤_};
 ghost use mathlib.Core.Bool.{cond, _&&_};
 ghost use lib.Dec.{ltb};
 ghost use lib.ListN.{length, getD};
@@ -23,11 +22,6 @@ pub struct Roots {
     pub flags: [u8; 128],
 }
 
-// flags[(f * 8 + r) * 8 + q]: the exit (f, 1, r, q) is marked.
-pub struct Summaries {
-    pub flags: [u8; 1024],
-}
-
 // The marked entries (f, 0, r, r). The caller has measured the marks (refusal 9): hence the `requires`.
 pub fn old_roots(marks: &[u8]) -> Roots
     requires { ⌜ length (now marks) ≡ 16384 ⌝ }
@@ -40,21 +34,6 @@ pub fn old_roots(marks: &[u8]) -> Roots
         i = i + 1;
     }
     Roots { flags }
-}
-
-// The caller has measured the marks (refusal 9): hence the `requires`.
-pub fn summaries_of(marks: &[u8]) -> Summaries
-    requires { ⌜ length (now marks) ≡ 16384 ⌝ }
-    ensures { λ r. ⌜ (length (r .flags) ≡ 1024) × ((f x q : ℕ) → f < 16 → x < 8 → q < 8
-        → (getD (r .flags) ((f * 8 + x) * 8 + q) 0 ≢ 0) ↔ Marked (now (marks .entry)) f 1 x q) ⌝ }
-{
-    let mut flags = [0u8; 1024];
-    let mut i: usize = 0;
-    while i < 1024 {
-        flags[i] = marks[i / 64 * 1024 + 64 + i % 64];
-        i = i + 1;
-    }
-    Summaries { flags }
 }
 
 // The roots of the main routine in the initial states.

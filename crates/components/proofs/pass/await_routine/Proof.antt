@@ -1,5 +1,5 @@
 -- `components::pass::await_routine` meets its contract. The loop's invariant: the first `i` bytes are written.
-use Rattle.components.proofs.Filling.{Filling, filling-none, filling-more, filling-all}
+use Rattle.analysis.proofs.Filling.{Filling, filling-none, filling-more, filling-all}
 use Rattle.components.specs.PassParts.{firstPending}
 use borrow.Author.Needs.{needs}
 use native.Mathlib.Omega.{arith}
@@ -36,7 +36,7 @@ loop-less : tie.Need-loop-less Inv-loop μ-loop
 loop-less c = search needs
 
 loop-again : tie.Need-loop-again Inv-loop μ-loop
-loop-again c = filling-more (c .before .before .before .loop .inv) _ (omega arith) (c .first-pending .ensures)
+loop-again c = filling-more (c .before .before .before .loop .inv) (omega arith) (c .first-pending .ensures)
 
 same-length : tie.Need-same-length Inv-loop μ-loop
 same-length c = c .before .loop .inv .len ∙ sym (c .before .before .before .before .pre .1)

@@ -1,5 +1,5 @@
 -- `components::pass::reset` meets its contract. The loop's invariant: the first `i` marks are written, the others are as they were.
-use Rattle.components.proofs.Filling.{Filling, filling-none, filling-more, filling-all}
+use Rattle.analysis.proofs.Filling.{Filling, filling-none, filling-more, filling-all}
 use Rattle.components.specs.PassParts.{firstMark}
 use borrow.Author.Needs.{needs}
 use native.Mathlib.Omega.{arith}
@@ -44,7 +44,7 @@ loop-again c =
     let w = c .before .before .before .loop .inv in
     let i = c .before .before .before .loop .i in
     let z = c .before .before .before .before .before .before .before .args in
-    filling-more w _ (omega arith) (c .first-mark .ensures ∙ ap (λ (b : ℕ). firstMark (z .members .now) (z .roots .now) b i) (w .left i (omega arith)))
+    filling-more w (omega arith) (c .first-mark .ensures ∙ ap (λ (b : ℕ). firstMark (z .members .now) (z .roots .now) b i) (w .left i (omega arith)))
 
 same-length : tie.Need-same-length Inv-loop μ-loop
 same-length c = c .before .loop .inv .len ∙ sym (c .before .before .before .before .before .pre .2)

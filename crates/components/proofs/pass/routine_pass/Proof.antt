@@ -6,11 +6,8 @@ use borrow.Author.Needs.{needs}
 use Rattle.components.proofs.pass.routine_pass.Statement.{statement}
 use Rattle.components.proofs.pass.routine_pass.Tie as tie
 
-slice-aggregate-learn-exits : tie.Need-slice-aggregate-learn-exits
-slice-aggregate-learn-exits c = search needs
-
-learn-exits-requires : tie.Need-learn-exits-requires
-learn-exits-requires c κs = search needs
+summaries-of-requires : tie.Need-summaries-of-requires
+summaries-of-requires c κs = search needs
 
 await-routine-requires : tie.Need-await-routine-requires
 await-routine-requires c κs = search needs
@@ -20,9 +17,8 @@ slice-aggregate-follow-pending c = search needs
 
 follow-pending-requires : tie.Need-follow-pending-requires
 follow-pending-requires c κs =
-    let z = c .before .before .before .before .before .before .before .before .before .before .before .before .before .before .before .before .pre in
-    let p = z .1 .0 in
-    let e = routine-ends (z .1 .1) (c .before .before .before .before .before .before .before .before .before .learn-exits .ensures) (c .before .before .before .before .before .await-routine .ensures) in
+    let z = c .before .before .before .before .before .before .before .before .before .before .before .before .before .before .before .pre in
+    let e = routine-ends (z .1 .1) (c .before .before .before .before .before .before .before .before .before .summaries-of .ensures) (c .before .before .before .before .before .await-routine .ensures) in
     ((omega arith, z .0 .0, none-yet _), (_, e))
 
 same-length : tie.Need-same-length
@@ -32,14 +28,16 @@ same-length-2 : tie.Need-same-length-2
 same-length-2 c = search needs
 
 returns : tie.Need-returns
-returns c = λ p r. let kn = c .before .before .before .before .before .before .before .before .before .before .before .before .before .before .before .learn-exits .ensures in let pe = c .before .before .before .before .before .before .before .before .before .before .before .await-routine .ensures in routine-done r kn pe (c .before .before .before .before .before .follow-pending .ensures _ (routine-ends r kn pe))
+returns c =
+    let kn = c .before .before .before .before .before .before .before .before .before .before .before .before .before .before .before .summaries-of .ensures in
+    let pe = c .before .before .before .before .before .before .before .before .before .before .before .await-routine .ensures in
+    λ p r. routine-done r kn pe (c .before .before .before .before .before .follow-pending .ensures _ (routine-ends r kn pe))
 
 pub routine-pass-spec : {M : Type 1} → statement M
 routine-pass-spec =
     tie.close
     (tie.spec
-    slice-aggregate-learn-exits
-    learn-exits-requires
+    summaries-of-requires
     await-routine-requires
     slice-aggregate-follow-pending
     follow-pending-requires

@@ -1,22 +1,22 @@
--- `components::roots::summaries_of` meets its contract. The loop's invariant: the flags below `i` are the exits' bytes.
-use Rattle.components.proofs.Occurring.{exits-flagged}
-use Rattle.components.proofs.Bytewise.{Filling, filling-start, filling-turn}
-use Prim.Native.Nat.{_/_, _%_, _<_, _+_, _-_, _*_}
+-- `analysis::exits::summaries_of` meets its contract. The loop's invariant: the flags below `i` are the exits' bytes.
+use Rattle.analysis.specs.Parts.{exitAt}
+use Rattle.analysis.proofs.Filling.{Filling, filling-none, filling-more, filling-all}
+use Prim.Native.Nat.{_-_}
 use borrow.Author.Needs.{needs}
 use native.Mathlib.Omega.{arith}
-use mathlib.Core.Path.{_≡_, refl}
-use lib.ListN.{length, getD, length-set}
-use Rattle.components.proofs.roots.summaries_of.Statement.{statement}
-use Rattle.components.proofs.roots.summaries_of.Tie as tie
+use mathlib.Core.Path.{refl}
+use lib.ListN.{getD}
+use Rattle.analysis.proofs.exits.summaries_of.Statement.{statement}
+use Rattle.analysis.proofs.exits.summaries_of.Tie as tie
 
 abbrev Inv-loop : tie.InvT-loop
-Inv-loop marks flags₀ i₀ flags i = Filling (λ i. getD marks (i / 64 * 1024 + 64 + i % 64) 0) flags₀ i flags × (length flags ≡ 1024)
+Inv-loop marks flags₀ i₀ flags i = Filling (λ j. getD marks (exitAt j) 0) 1024 flags₀ flags i
 
 abbrev μ-loop : tie.MeasureT-loop
 μ-loop marks flags₀ i₀ flags i = 1024 - i
 
 loop-holds : tie.Need-loop-holds Inv-loop μ-loop
-loop-holds c = (filling-start _ _, refl)
+loop-holds c = filling-none _ 1024 _ refl
 
 mul-flags : tie.Need-mul-flags Inv-loop μ-loop
 mul-flags c = search needs
@@ -31,7 +31,7 @@ shared-slice-read-flags : tie.Need-shared-slice-read-flags Inv-loop μ-loop
 shared-slice-read-flags c = search needs
 
 array-write-flags : tie.Need-array-write-flags Inv-loop μ-loop
-array-write-flags c = search needs
+array-write-flags c = omega (arith, c .before .before .loop .inv .len)
 
 add-i : tie.Need-add-i Inv-loop μ-loop
 add-i c = search needs
@@ -40,12 +40,10 @@ loop-less : tie.Need-loop-less Inv-loop μ-loop
 loop-less c = search needs
 
 loop-again : tie.Need-loop-again Inv-loop μ-loop
-loop-again c = let p = c .before .before .loop in
-    let h : p .i < length (p .flags) = omega (arith, p .inv .1) in
-    (filling-turn (p .inv .0) h refl, simp length-set (p .inv .1))
+loop-again c = filling-more (c .before .before .loop .inv) (omega arith) refl
 
 returns : tie.Need-returns Inv-loop μ-loop
-returns c = (c .before .loop .inv .1, exits-flagged (c .before .before .args .marks .now) (c .before .loop .flags) (λ i h. c .before .loop .inv .0 .done i (omega arith)))
+returns c = filling-all (c .before .loop .inv) (omega arith)
 
 pub summaries-of-spec : {M : Type 1} → statement M
 summaries-of-spec =
