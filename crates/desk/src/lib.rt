@@ -115,7 +115,7 @@ fn analyze_line_of(a: AnalyzeAnswer) -> u32
     }
 }
 
-// There are 16,384 configurationCount and at most 2,113,536 iterations, so that each count fits.
+// There are 16,384 configurations and at most 2,113,536 iterations, so that each count fits.
 fn configurations_of(a: AnalyzeAnswer) -> u32
     requires { ⌜ configurationCount a < 2 ^ 32 ⌝ }
     ensures { λ r. ⌜ r ≡ configurationCount a ⌝ }
