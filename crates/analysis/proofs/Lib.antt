@@ -11,3 +11,4 @@ pub mod Filling
 pub mod Known
 pub mod Grown
 pub mod Answered
+pub mod Slice

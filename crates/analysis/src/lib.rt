@@ -6,6 +6,7 @@ pub mod grow;
 mod marking;
 pub mod next;
 pub mod number;
+pub mod part;
 pub mod run;
 mod take;
 

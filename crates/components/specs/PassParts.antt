@@ -26,12 +26,6 @@ firstMark members roots old i =
 abbrev pub firstPending : ℕ → ℕ → ℕ → ℕ
 firstPending f old i = cond (eqb (i / 1024) f && not (eqb (i / 64 % 16) 1)) old 0
 
--- the first edge, of the keys in use, whose routine is not below f
-pub record FirstOf (keys : List ℕ) (count f at : ℕ) : Type 0 where
-  pub within : at ≤ count
-  pub below : (i : ℕ) → i < at → getD keys i 0 / 0x1000000 < f
-  pub not-below : at < count → f ≤ getD keys at 0 / 0x1000000
-
 abbrev pub is : ℕ → ℕ → Bool
 is f g = eqb g f
 

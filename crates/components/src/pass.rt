@@ -3,11 +3,12 @@
 use analysis::count::count_marks;
 use analysis::exits::summaries_of;
 use analysis::next::next_states;
+use analysis::part::first_of;
 use analysis::run::follow_pending;
 use automaton::in_use;
 use program::DecodedProgram;
 ghost use mathlib.Core.Path.{_≡_};
-ghost use Prim.Native.Nat.{_<_, _≤_};
+ghost use Prim.Native.Nat.{_<_};
 ghost use lib.ListN.{length, getD};
 ghost use Rattle.program.specs.Program.{Program};
 ghost use Rattle.program.specs.WellFormed.{WellFormed};
@@ -15,7 +16,7 @@ ghost use Rattle.program.specs.Decoded.{programOf};
 ghost use Rattle.reach.specs.Marks.{Shows};
 ghost use Rattle.analysis.specs.Parts.{Filled, Answers};
 ghost use Rattle.components.specs.Parts.{Passable, Passed};
-ghost use Rattle.components.specs.PassParts.{firstMark, firstPending, FirstOf, Ready, RoutineReady, ByRoutine, ByMembers, Round, Turn};
+ghost use Rattle.components.specs.PassParts.{firstMark, firstPending, Ready, RoutineReady, ByRoutine, ByMembers, Round, Turn};
 
 // The mark of number i at the start: of the component's routines only the entries in their roots are marked.
 fn first_mark(members: &[u8], roots: &[u8], old: u8, i: usize) -> u8
@@ -81,21 +82,6 @@ fn routine_pass(steps: &[u32], f: u32, next: &[u8], marks: &mut [u8], pending: &
     let mut known = exits.flags;
     await_routine(f, marks, pending);
     follow_pending(steps, steps.len(), next, marks, pending, &mut known, 0);
-}
-
-// Where the edges of the routines that are not below f begin: the table ascends.
-fn first_of(keys: &[u32], count: usize, f: u32) -> usize
-    requires { ⌜ count ≤ length (now keys) ⌝ }
-    ensures { λ r. ⌜ FirstOf (now (keys .entry)) count f r ⌝ }
-{
-    let mut i: usize = 0;
-    while i < count {
-        if f <= keys[i] / 0x1000000 {
-            return i;
-        }
-        i = i + 1;
-    }
-    i
 }
 
 // The turn of routine f in a round, if it is one of the component.

@@ -1,5 +1,6 @@
 pub mod Asked
 pub mod Scanned
+pub mod Sliced
 pub mod Passes
 pub mod Supporting
 pub mod Closed

@@ -1,6 +1,7 @@
 -- What the private functions of the keeping promise of each other; nothing here has to be believed.
 use Prim.Native.Nat.{ℕ, zero, suc, _≤_, _<_, _+_, _-_, _*_, _/_, _%_}
 use mathlib.Core.Path.{_≡_}
+use mathlib.Core.Logic.{_≢_}
 use mathlib.Core.Bool.{Bool, true, false, cond, _&&_, _||_}
 use mathlib.Core.List.{List, [], _∷_, map, List·Memᴰ}
 use lib.Dec.{eqb, ltb}
@@ -72,6 +73,11 @@ edgeSupports kept lines count f n r q key = callSupports kept key f n r q || act
 unfoldable pub supports : List ℕ → ℕ → List ℕ → ℕ → List ℕ → ℕ → ℕ → ℕ → ℕ → Bool
 supports keys m lines k kept f n r q = anyKey (edgeSupports kept lines k f n r q) (take m keys)
 
+-- this part of the keys in use has the edges of routine f: a test that fails for every edge of another routine is met by one
+-- of all just where it is met by one of these
+pub record PartOf (keys : List ℕ) (m f : ℕ) (part : List ℕ) : Type 0 where
+  pub decides : (t : ℕ → Bool) → ((key : ℕ) → key / 0x1000000 ≢ f → t key ≡ false) → anyKey t part ≡ anyKey t (take m keys)
+
 -- the configuration of number i is marked, not yet kept, and supported
 unfoldable pub keepsAt : List ℕ → ℕ → List ℕ → ℕ → List ℕ → List ℕ → ℕ → Bool
 keepsAt keys m lines k marks kept i =
@@ -84,13 +90,13 @@ pub data Keeps (test : List ℕ → ℕ → Bool) (old : List ℕ) : List ℕ �
   same : Keeps test old old
   more : {kept : List ℕ} → Keeps test old kept → (i : ℕ) → i < 16384 → test kept i ≡ true → Keeps test old (set kept i 1)
 
--- a pass says whether it has kept more; if not, nothing below i was to be kept
-pub record Passed (test : List ℕ → ℕ → Bool) (old new : List ℕ) (more : Bool) (i : ℕ) : Type 0 where
+-- a pass over the numbers from low to below i says whether it has kept more; if not, none of these was to be kept
+pub record Passed (test : List ℕ → ℕ → Bool) (old new : List ℕ) (more : Bool) (low i : ℕ) : Type 0 where
   pub len : length new ≡ length old
   pub keeps : Keeps test old new
   pub grown : more ≡ true → countSet old < countSet new
   pub same-bytes : more ≡ false → new ≡ old
-  pub none-left : more ≡ false → (j : ℕ) → j < i → test old j ≡ false
+  pub none-left : more ≡ false → (j : ℕ) → low ≤ j → j < i → test old j ≡ false
 
 -- nothing is left to be kept
 pub record Settled (test : List ℕ → ℕ → Bool) (old new : List ℕ) : Type 0 where

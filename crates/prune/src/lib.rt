@@ -4,21 +4,23 @@ mod support;
 use analysis::check_buffers;
 use analysis::count::clear;
 use analysis::number::number_of;
+use analysis::part::first_of;
 use automaton::DecodedAutomaton;
 use automaton::Table;
 use automaton::in_use;
 use automaton::is_initial;
 use program::DecodedProgram;
 use program::Verdict;
-use support::supported;
+use support::has_support;
 ghost use mathlib.Core.Path.{_≡_};
 ghost use mathlib.Core.Bool.{cond, _&&_};
 ghost use mathlib.Core.List.{map};
-ghost use Prim.Native.Nat.{_<_, _≤_};
-ghost use lib.ListN.{length, set};
+ghost use Prim.Native.Nat.{_+_, _*_, _/_, _<_, _≤_};
+ghost use lib.ListN.{length, set, take};
 ghost use Rattle.automaton.specs.Decoded.{keysOf, transitionOf, automatonOf};
 ghost use Rattle.program.specs.Program.{Program};
-ghost use Rattle.program.specs.WellFormed.{WellFormed};
+ghost use Rattle.program.specs.Frames.{edgeKey};
+ghost use Rattle.program.specs.WellFormed.{Ascending, WellFormed};
 ghost use Rattle.program.specs.Decoded.{edgeOf, programOf};
 ghost use Rattle.program.specs.Reading.{readFile};
 ghost use Rattle.reach.specs.Configurations.{none-set};
@@ -26,7 +28,7 @@ ghost use Rattle.reach.specs.Marks.{Shows};
 ghost use Rattle.analysis.specs.Answers.{checked, workAfter};
 ghost use Rattle.analysis.proofs.Table.{isSet};
 ghost use Rattle.prune.specs.Keeping.{Kept, Pruned};
-ghost use Rattle.prune.specs.Parts.{keepsAt, Passed, Settled, Sound, Started};
+ghost use Rattle.prune.specs.Parts.{keepsAt, PartOf, Passed, Settled, Sound, Started};
 
 // Keeps a configuration that is marked, where the flag says so.
 fn keep_when(yes: bool, marks: &[u8], kept: &mut [u8], at: usize)
@@ -56,10 +58,12 @@ fn keep_starts(rule: DecodedAutomaton, marks: &[u8], kept: &mut [u8])
     }
 }
 
-// Keeps the configuration of number i, if it is marked, not yet kept, and supported. Says whether it did.
+// Keeps the configuration of number i, if it is marked, not yet kept, and supported. Says whether it did. `part` has the
+// edges of its routine: hence the `requires`.
 fn keep_at(
     keys: &[u32],
     m: usize,
+    part: &[u32],
     lines: &[u32],
     k: usize,
     marks: &[u8],
@@ -67,6 +71,7 @@ fn keep_at(
     i: usize,
 ) -> bool
     requires { ⌜ (m ≤ length (now keys)) × (k ≤ length (now lines)) × (i < 16384) ⌝ }
+    requires { ⌜ PartOf (now keys) m (i / 1024) (now part) ⌝ }
     requires { ⌜ (length (now marks) ≡ 16384) × (length (now kept) ≡ 16384) ⌝ }
     ensures { λ y. ⌜ (y ≡ keepsAt (now (keys .entry)) m (now (lines .entry)) k (now (marks .entry)) (now (kept .entry)) i)
         × (now (kept .exit) ≡ cond y (set (now (kept .entry)) i 1) (now (kept .entry))) ⌝ }
@@ -81,32 +86,85 @@ fn keep_at(
     let n = (i / 64 % 16) as u8;
     let r = (i / 8 % 8) as u8;
     let q = (i % 8) as u8;
-    if supported(keys, m, lines, k, kept, f, n, r, q) {
+    if has_support(keys, m, part, lines, k, kept, f, n, r, q) {
         kept[i] = 1;
         return true;
     }
     false
 }
 
-// One pass over all numbers. Says whether it kept one more.
-fn keep_pass(keys: &[u32], m: usize, lines: &[u32], k: usize, marks: &[u8], kept: &mut [u8]) -> bool
-    requires { ⌜ (m ≤ length (now keys)) × (k ≤ length (now lines)) ⌝ }
+// The numbers of routine f in turn. Says whether it kept one more. `part` has the routine's edges: hence the `requires`.
+fn keep_numbers(
+    keys: &[u32],
+    m: usize,
+    part: &[u32],
+    lines: &[u32],
+    k: usize,
+    marks: &[u8],
+    kept: &mut [u8],
+    f: u32,
+) -> bool
+    requires { ⌜ (m ≤ length (now keys)) × (k ≤ length (now lines)) × (f < 16) ⌝ }
+    requires { ⌜ PartOf (now keys) m f (now part) ⌝ }
     requires { ⌜ (length (now marks) ≡ 16384) × (length (now kept) ≡ 16384) ⌝ }
-    ensures { λ y. ⌜ Passed (keepsAt (now (keys .entry)) m (now (lines .entry)) k (now (marks .entry))) (now (kept .entry)) (now (kept .exit)) y 16384 ⌝ }
+    ensures { λ y. ⌜ Passed (keepsAt (now (keys .entry)) m (now (lines .entry)) k (now (marks .entry))) (now (kept .entry)) (now (kept .exit)) y
+        (f * 1024) (f * 1024 + 1024) ⌝ }
 {
+    let first = f as usize * 1024;
     let mut more = false;
-    let mut i: usize = 0;
-    while i < 16384 {
-        let one = keep_at(keys, m, lines, k, marks, kept, i);
+    let mut i = first;
+    while i < first + 1024 {
+        let one = keep_at(keys, m, part, lines, k, marks, kept, i);
         more = more | one;
         i = i + 1;
     }
     more
 }
 
-// Passes until one keeps nothing more.
+// The turn of routine f in a pass: its part of the table is found once for all its numbers. The table ascends, else its edges
+// might lie anywhere: hence the `requires`.
+fn keep_routine(
+    keys: &[u32],
+    m: usize,
+    lines: &[u32],
+    k: usize,
+    marks: &[u8],
+    kept: &mut [u8],
+    f: u32,
+) -> bool
+    requires { ⌜ (m ≤ length (now keys)) × (k ≤ length (now lines)) × (f < 16) ⌝ }
+    requires { ⌜ Ascending 0 (map edgeKey (map edgeOf (take m (now keys)))) ⌝ }
+    requires { ⌜ (length (now marks) ≡ 16384) × (length (now kept) ≡ 16384) ⌝ }
+    ensures { λ y. ⌜ Passed (keepsAt (now (keys .entry)) m (now (lines .entry)) k (now (marks .entry))) (now (kept .entry)) (now (kept .exit)) y
+        (f * 1024) (f * 1024 + 1024) ⌝ }
+{
+    let from = first_of(keys, m, f);
+    let to = first_of(keys, m, f + 1);
+    keep_numbers(keys, m, &keys[from..to], lines, k, marks, kept, f)
+}
+
+// One pass over all numbers, routine by routine. Says whether it kept one more. The table ascends, so that each routine's
+// edges are one part of it: hence the `requires`.
+fn keep_pass(keys: &[u32], m: usize, lines: &[u32], k: usize, marks: &[u8], kept: &mut [u8]) -> bool
+    requires { ⌜ (m ≤ length (now keys)) × (k ≤ length (now lines)) ⌝ }
+    requires { ⌜ Ascending 0 (map edgeKey (map edgeOf (take m (now keys)))) ⌝ }
+    requires { ⌜ (length (now marks) ≡ 16384) × (length (now kept) ≡ 16384) ⌝ }
+    ensures { λ y. ⌜ Passed (keepsAt (now (keys .entry)) m (now (lines .entry)) k (now (marks .entry))) (now (kept .entry)) (now (kept .exit)) y 0 16384 ⌝ }
+{
+    let mut more = false;
+    let mut f: u32 = 0;
+    while f < 16 {
+        let another = keep_routine(keys, m, lines, k, marks, kept, f);
+        more = more | another;
+        f = f + 1;
+    }
+    more
+}
+
+// Passes until one keeps nothing more. The table ascends, as a pass asks: hence the `requires`.
 fn keep_all(keys: &[u32], m: usize, lines: &[u32], k: usize, marks: &[u8], kept: &mut [u8])
     requires { ⌜ (m ≤ length (now keys)) × (k ≤ length (now lines)) ⌝ }
+    requires { ⌜ Ascending 0 (map edgeKey (map edgeOf (take m (now keys)))) ⌝ }
     requires { ⌜ (length (now marks) ≡ 16384) × (length (now kept) ≡ 16384) ⌝ }
     ensures { λ _. ⌜ Settled (keepsAt (now (keys .entry)) m (now (lines .entry)) k (now (marks .entry))) (now (kept .entry)) (now (kept .exit)) ⌝ }
 {
@@ -116,8 +174,10 @@ fn keep_all(keys: &[u32], m: usize, lines: &[u32], k: usize, marks: &[u8], kept:
     }
 }
 
-// Passes over the tables of a program in which the starts are kept: what is kept in the end is all that has support.
+// Passes over the tables of a program in which the starts are kept: what is kept in the end is all that has support. The table
+// of edges ascends, as a well-formed program's does: hence the `requires`.
 fn keep_supported(edges: Table, transitions: Table, marks: &[u8], kept: &mut [u8])
+    requires { ⌜ Ascending 0 (map edgeKey (map edgeOf (keysOf edges))) ⌝ }
     requires { ⌜ (length (now marks) ≡ 16384) × (length (now kept) ≡ 16384) ⌝ }
     ensures { λ _. ⌜ ((p : Program) → WellFormed p → p .edges ≡ map edgeOf (keysOf edges) → p .automaton .transitions ≡ map transitionOf (keysOf transitions)
         → Started p (now (marks .entry)) (now (kept .entry)) 8 → Shows (Kept p (now (marks .entry))) (now (kept .exit))) ⌝ }

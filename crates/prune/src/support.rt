@@ -4,7 +4,7 @@ ghost use mathlib.Core.Path.{_≡_};
 ghost use Prim.Native.Nat.{_<_, _≤_};
 ghost use lib.ListN.{length};
 ghost use Rattle.analysis.proofs.Table.{isSet};
-ghost use Rattle.prune.specs.Parts.{rootKept, returnKept, entrySupports, returnSupports, callSupports, lineSupports, linesToTry, supports};
+ghost use Rattle.prune.specs.Parts.{rootKept, returnKept, entrySupports, returnSupports, callSupports, lineSupports, linesToTry, supports, PartOf};
 
 // A number past the end has no byte, so that its configuration is not kept.
 fn is_kept(kept: &[u8], at: usize) -> bool
@@ -115,7 +115,7 @@ fn lines_to_try(key: u32, f: u8, n: u8, count: usize) -> usize
 
 // The search ends at the first support found. The counts are those of the two tables, and routines are below 16: hence the
 // `requires`.
-pub fn supported(
+fn supported(
     keys: &[u32],
     m: usize,
     lines: &[u32],
@@ -151,4 +151,29 @@ pub fn supported(
         i = i + 1;
     }
     found
+}
+
+// A called entry may have its support in any routine: the whole table is searched. Every other configuration has it by the
+// edges of its own routine alone, and `part` has these: a shorter search gives the same answer. The caller has cut the part
+// out of the table, and routines are below 16: hence the `requires`.
+pub fn has_support(
+    keys: &[u32],
+    m: usize,
+    part: &[u32],
+    lines: &[u32],
+    k: usize,
+    kept: &[u8],
+    f: u8,
+    n: u8,
+    r: u8,
+    q: u8,
+) -> bool
+    requires { ⌜ (m ≤ length (now keys)) × (k ≤ length (now lines)) × (f < 16) ⌝ }
+    requires { ⌜ PartOf (now keys) m f (now part) ⌝ }
+    ensures { λ y. ⌜ y ≡ supports (now (keys .entry)) m (now (lines .entry)) k (now (kept .entry)) f n r q ⌝ }
+{
+    if (n == 0) & (r == q) {
+        return supported(keys, m, lines, k, kept, f, n, r, q);
+    }
+    supported(part, part.len(), lines, k, kept, f, n, r, q)
 }

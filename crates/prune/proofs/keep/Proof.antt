@@ -15,7 +15,7 @@ keep-starts-requires c κs = search needs
 keep-supported-requires : tie.Need-keep-supported-requires
 keep-supported-requires c κs =
     let z = c .before .before .before .before .before .before .before .before .before .before .before .before .before .before .pre in
-    (z .1 .0, c .before .before .before .keep-starts .kept .1 .1 .0 ∙ c .before .before .before .before .before .before .before .clear .kept .0 ∙ z .1 .1)
+    (z .0 .edges-ascend, (z .1 .0, c .before .before .before .keep-starts .kept .1 .1 .0 ∙ c .before .before .before .before .before .before .before .clear .kept .0 ∙ z .1 .1))
 
 same-length : tie.Need-same-length
 same-length c = search needs

@@ -19,13 +19,13 @@ keep-pass-requires : tie.Need-keep-pass-requires Inv-loop μ-loop
 keep-pass-requires c κs =
     let p = c .before .before in
     let z = p .before .before .before .before .before .pre in
-    (z .0, (z .1 .0, p .loop .inv .len ∙ z .1 .1))
+    (z .0, (z .1 .0, (z .1 .1 .0, p .loop .inv .len ∙ z .1 .1 .1)))
 
 loop-less : tie.Need-loop-less Inv-loop μ-loop
 loop-less c =
     let p = c .before .before .before .before .before in
     let z = p .before .before .before .before .before .pre in
-    left-less _ _ (c .before .before .keep-pass .ensures) (p .loop .inv .len ∙ z .1 .1) (c .before .before .before .before .loop-test .taken)
+    left-less _ _ (c .before .before .keep-pass .ensures) (p .loop .inv .len ∙ z .1 .1 .1) (c .before .before .before .before .loop-test .taken)
 
 loop-again : tie.Need-loop-again Inv-loop μ-loop
 loop-again c =

@@ -1,5 +1,6 @@
 -- `prune::keep_at` meets its contract.
-use mathlib.Core.Path.{refl, sym, _∙_}
+use mathlib.Core.Path.{_≡_, refl, sym, _∙_}
+use lib.ListN.{getD}
 use borrow.Author.Tests.{eq-eqb, ne-eqb}
 use Rattle.reach.specs.Configurations.{routineOf, nodeOf, rootOf, stateOf}
 use Rattle.prune.specs.Parts.{keepsAt}
@@ -12,7 +13,10 @@ shared-slice-read-if1 c = search needs
 
 returns : tie.Need-returns
 unfolding keepsAt
-returns c = (rw (eq-eqb _ _ (c .if1 .taken)) refl, refl)
+returns c =
+    let z = c .before .before .before .before .before .before .before in
+    let unmarked : getD (z .args .marks .now) (z .args .i) 0 ≡ 0 = c .if1 .taken in
+    (rw (eq-eqb _ _ unmarked) refl, refl)
 
 slice-read-if2 : tie.Need-slice-read-if2
 slice-read-if2 c = search needs
@@ -33,8 +37,8 @@ cast-r c = search needs
 cast-q : tie.Need-cast-q
 cast-q c = search needs
 
-supported-requires : tie.Need-supported-requires
-supported-requires c κs = search needs
+has-support-requires : tie.Need-has-support-requires
+has-support-requires c κs = search needs
 
 slice-write-kept : tie.Need-slice-write-kept
 slice-write-kept c = search needs
@@ -46,7 +50,7 @@ returns-3 : tie.Need-returns-3
 unfolding keepsAt routineOf nodeOf rootOf stateOf
 returns-3 c =
     let b = c .before .before .before in
-    (rw (ne-eqb _ _ (b .before .before .if1 .left), eq-eqb _ _ (b .if2 .left)) (sym (c .if3 .taken) ∙ c .before .supported .ensures), refl)
+    (rw (ne-eqb _ _ (b .before .before .if1 .left), eq-eqb _ _ (b .if2 .left)) (sym (c .if3 .taken) ∙ c .before .has-support .ensures), refl)
 
 same-length-2 : tie.Need-same-length-2
 same-length-2 c = search needs
@@ -55,7 +59,7 @@ returns-4 : tie.Need-returns-4
 unfolding keepsAt routineOf nodeOf rootOf stateOf
 returns-4 c =
     let b = c .before .before .before in
-    (rw (ne-eqb _ _ (b .before .before .if1 .left), eq-eqb _ _ (b .if2 .left)) (sym (c .if3 .left) ∙ c .before .supported .ensures), refl)
+    (rw (ne-eqb _ _ (b .before .before .if1 .left), eq-eqb _ _ (b .if2 .left)) (sym (c .if3 .left) ∙ c .before .has-support .ensures), refl)
 
 pub keep-at-spec : {M : Type 1} → statement M
 keep-at-spec =
@@ -69,7 +73,7 @@ keep-at-spec =
     cast-n
     cast-r
     cast-q
-    supported-requires
+    has-support-requires
     slice-write-kept
     same-length
     returns-3

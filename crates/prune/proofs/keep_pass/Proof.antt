@@ -1,32 +1,31 @@
--- `prune::keep_pass` meets its contract. The loop's invariant: what the pass has done to the numbers below `i`.
+-- `prune::keep_pass` meets its contract. The loop's invariant: what the pass has done to the numbers of the routines below `f`.
 use mathlib.Core.Path.{_≡_, _∙_}
-use Prim.Native.Nat.{_≤_, _-_}
+use Prim.Native.Nat.{_≤_, _+_, _-_, _*_}
 use native.Mathlib.Omega.{arith}
 use Rattle.prune.specs.Parts.{keepsAt, Passed}
-use Rattle.prune.proofs.Passes.{pass-none, pass-turn}
-use Rattle.prune.proofs.Closed.{keeps-free}
+use Rattle.prune.proofs.Passes.{pass-none, pass-on}
 use borrow.Author.Needs.{needs}
 use Rattle.prune.proofs.keep_pass.Statement.{statement}
 use Rattle.prune.proofs.keep_pass.Tie as tie
 
 abbrev Inv-loop : tie.InvT-loop
-Inv-loop keys m lines k marks kept₀ more₀ i₀ kept more i =
-    (i ≤ 16384) × Passed (keepsAt keys m lines k marks) kept₀ kept more i
+Inv-loop keys m lines k marks kept₀ more₀ f₀ kept more f =
+    (f ≤ 16) × Passed (keepsAt keys m lines k marks) kept₀ kept more 0 (f * 1024)
 
 abbrev μ-loop : tie.MeasureT-loop
-μ-loop keys m lines k marks kept₀ more₀ i₀ kept more i = 16384 - i
+μ-loop keys m lines k marks kept₀ more₀ f₀ kept more f = 16 - f
 
 loop-holds : tie.Need-loop-holds Inv-loop μ-loop
-loop-holds c = (omega arith, pass-none _ _)
+loop-holds c = (omega arith, pass-none _ _ 0)
 
-keep-at-requires : tie.Need-keep-at-requires Inv-loop μ-loop
-keep-at-requires c κs =
+keep-routine-requires : tie.Need-keep-routine-requires Inv-loop μ-loop
+keep-routine-requires c κs =
     let p = c .before .before in
     let z = p .before .before .before .before .before .pre in
-    ((z .0 .0, z .0 .1, omega arith), (z .1 .0, p .loop .inv .1 .len ∙ z .1 .1))
+    ((z .0 .0, z .0 .1, omega arith), (z .1 .0, (z .1 .1 .0, p .loop .inv .1 .len ∙ z .1 .1 .1)))
 
-add-i : tie.Need-add-i Inv-loop μ-loop
-add-i c = search needs
+add-f : tie.Need-add-f Inv-loop μ-loop
+add-f c = search needs
 
 loop-less : tie.Need-loop-less Inv-loop μ-loop
 loop-less c = search needs
@@ -34,10 +33,8 @@ loop-less c = search needs
 loop-again : tie.Need-loop-again Inv-loop μ-loop
 loop-again c =
     let p = c .before .before .before .before .before in
-    let z = p .before .before .before .before .before .pre in
-    let n = p .loop .inv .1 .len in
-    let e = c .before .before .keep-at .ensures in
-    (omega arith, pass-turn _ (p .loop .inv .1) (omega arith) (omega arith) (keeps-free _ _ _ _ _ _ _) _ (e .0) (e .1))
+    let e : (p .loop .f + 1) * 1024 ≡ p .loop .f * 1024 + 1024 = omega arith in
+    (omega arith, rw e (pass-on _ _ (p .loop .inv .1) (c .before .before .keep-routine .ensures)))
 
 same-length : tie.Need-same-length Inv-loop μ-loop
 same-length c = c .before .loop .inv .1 .len
@@ -45,7 +42,7 @@ same-length c = c .before .loop .inv .1 .len
 returns : tie.Need-returns Inv-loop μ-loop
 returns c =
     let p = c .before .loop in
-    let e : 16384 ≡ p .i = omega arith in
+    let e : 16384 ≡ p .f * 1024 = omega arith in
     rw e (p .inv .1)
 
 pub keep-pass-spec : {M : Type 1} → statement M
@@ -55,8 +52,8 @@ keep-pass-spec =
     Inv-loop
     μ-loop
     loop-holds
-    keep-at-requires
-    add-i
+    keep-routine-requires
+    add-f
     loop-less
     loop-again
     same-length

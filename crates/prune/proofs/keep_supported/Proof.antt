@@ -1,8 +1,14 @@
 -- `prune::keep_supported` meets its contract.
-use mathlib.Core.Path.{_≡_}
+use mathlib.Core.Path.{_≡_, sym, subst}
+use mathlib.Core.List.{List, map}
+use Prim.Native.Nat.{ℕ}
 use native.Mathlib.Omega.{arith}
 use lib.ListN.{length}
 use borrow.Author.Needs.{needs}
+use Rattle.program.specs.Frames.{edgeKey}
+use Rattle.program.specs.WellFormed.{Ascending}
+use Rattle.program.specs.Decoded.{edgeOf}
+use Rattle.analysis.proofs.Slice.{in-use-same}
 use Rattle.prune.proofs.Closed.{its-tables, settled-shows}
 use Rattle.prune.proofs.keep_supported.Statement.{statement}
 use Rattle.prune.proofs.keep_supported.Tie as tie
@@ -26,7 +32,8 @@ keep-all-requires c κs =
     let more-room : length (z .args .transitions .keys) ≡ 256 = search needs in
     let u = c .before .before .before .before .in-use .ensures in
     let v = c .before .before .before .in-use2 .ensures in
-    ((omega arith, omega arith), z .pre)
+    let up = subst (λ (ks : List ℕ). Ascending 0 (map edgeKey (map edgeOf ks))) (sym (in-use-same (z .args .edges .keys) (z .args .edges .count) room u)) (z .pre .0) in
+    ((omega arith, omega arith), (up, z .pre .1))
 
 same-length : tie.Need-same-length
 same-length c = search needs

@@ -1,6 +1,7 @@
 -- `components::pass::turn` meets its contract: the part of the table that is handed on has the edges of routine `f`.
 use Rattle.program.specs.Decoded.{programOf}
-use Rattle.components.proofs.Slice.{part-starts, routine-edges}
+use Rattle.analysis.proofs.Slice.{part-starts}
+use Rattle.components.proofs.Slice.{routine-edges}
 use Rattle.components.proofs.Rounds.{no-turn, turn-shown}
 use native.Mathlib.Omega.{arith}
 use mathlib.Core.Path.{_≡_}

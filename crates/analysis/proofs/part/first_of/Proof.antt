@@ -1,11 +1,11 @@
--- `components::pass::first_of` meets its contract. The loop's invariant: the routines of the first `i` edges are below `f`.
+-- `analysis::part::first_of` meets its contract. The loop's invariant: the routines of the first `i` edges are below `f`.
 use native.Mathlib.Decide.{ℕ-discrete}
 use borrow.Author.Needs.{needs}
 use native.Mathlib.Omega.{arith}
 use Prim.Native.Nat.{ℕ, _≤_, _<_, _-_, _/_}
 use lib.ListN.{getD}
-use Rattle.components.proofs.pass.first_of.Statement.{statement}
-use Rattle.components.proofs.pass.first_of.Tie as tie
+use Rattle.analysis.proofs.part.first_of.Statement.{statement}
+use Rattle.analysis.proofs.part.first_of.Tie as tie
 
 abbrev Inv-loop : tie.InvT-loop
 Inv-loop keys count f i₀ i = (i ≤ count) × ((j : ℕ) → j < i → getD keys j 0 / 0x1000000 < f)
