@@ -1,9 +1,10 @@
-//! How many edits a second the forward repair does, beside the analysis of the edited program.
+//! How many edits a second the two repairs do, beside the analysis of the edited program.
 
-use crate::{desk, print_row, Input, AT_LEAST};
+use crate::{desk, inside_out_desk, print_row, Input, AT_LEAST};
 use reference::edit::{edited, Edit};
 use reference::file::{Label, Program, Step};
-use reference::repair;
+use reference::lists::widened;
+use reference::repair::{self, InsideOutAnswer};
 use reference::standing::SHEET_SIZE;
 use reference::write::{write, OUTPUT_SIZE};
 use std::time::{Duration, Instant};
@@ -12,20 +13,20 @@ use std::time::{Duration, Instant};
 const EDITS: usize = 4;
 
 const ABOUT: &str = "\
-An edit by the forward repair beside the analysis of the edited program, both by the library
-through its C interface, for the same programs and timed in the same way. In each program a
-few steps are chosen, spread evenly over those that begin where something is marked. 'drop' drops
-such a step, 'add' puts it back into the program without it, and 'replace' gives it the next
-label that no step between the same places has. All these edits are accepted. Before the timing
-the two sides were seen to leave the same marks, and the repair to write the edited file.
+An edit by the forward and by the inside-out repair beside the analysis of the edited program, all
+by the library through its C interface, for the same programs and timed in the same way. In each
+program a few steps are chosen, spread evenly over those that begin where something is marked.
+'drop' drops such a step, 'add' puts it back into the program without it, and 'replace' gives it
+the next label that no step between the same places has. All these edits are accepted. Before the
+timing all sides were seen to leave the same marks, and the repairs to write the edited file.
 Each repair starts from the old program's own marks, and copying them in is within the time
 measured. A repair reads the old file and writes the new one, and it tests the marks (refusal 17)
 by a full analysis of the old program: so it cannot be faster than one analysis of that program.
 For 'add' that is the analysis in the row of 'drop', and for 'drop' and 'replace' the one in the
 row of 'add'; but the rows are timed one after the other, so on a busy machine numbers of
-different rows compare only roughly. A ratio above 1 means that the repair is faster than the
-analysis of the edited program. Standings of the edited program, and marks changed by the edit,
-are means.
+different rows compare only roughly. A ratio stands after its repair; above 1 it means that the
+repair is faster than the analysis of the edited program. Standings of the edited program, and
+marks changed by the edit, are means.
 ";
 
 /// One edit, with what the two sides take and what they have to answer.
@@ -56,8 +57,14 @@ impl Buffers {
     }
 }
 
-/// Whether the repair is accepted and writes as much as it should.
-fn repair(task: &Task, buffers: &mut Buffers) -> bool {
+type Repair = fn(&[u8], &mut repair::Buffers) -> InsideOutAnswer;
+const REPAIRS: [Repair; 2] = [
+    |file, lent| widened(desk::repair_forward(file, lent)),
+    inside_out_desk::repair_inside_out,
+];
+
+/// Whether a repair is accepted and writes as much as it should.
+fn repair(by: Repair, task: &Task, buffers: &mut Buffers) -> bool {
     buffers.marks.copy_from_slice(&task.old_marks);
     let lent = &mut repair::Buffers {
         sheet: &mut buffers.marks,
@@ -65,8 +72,16 @@ fn repair(task: &Task, buffers: &mut Buffers) -> bool {
         output: &mut buffers.output,
         work: &mut buffers.work,
     };
-    let answer = desk::repair_forward(&task.old_file, lent);
+    let answer = by(&task.old_file, lent);
     answer.refusal == 0 && answer.written as usize == task.new_file.len()
+}
+
+fn forward(task: &Task, buffers: &mut Buffers) -> bool {
+    repair(REPAIRS[0], task, buffers)
+}
+
+fn inside_out(task: &Task, buffers: &mut Buffers) -> bool {
+    repair(REPAIRS[1], task, buffers)
 }
 
 /// Whether the analysis of the edited program counts what it should.
@@ -80,7 +95,7 @@ fn analyze(file: &[u8], buffers: &mut Buffers) -> [u32; 3] {
     [answer.standings, answer.findings, answer.takings]
 }
 
-/// An edit of a program, after both sides have done it and agree.
+/// An edit of a program, after all sides have done it and agree.
 fn task(old: &Program, edit: Edit) -> Task {
     let new = edited(old, edit).expect("the edit is accepted");
     let (old_file, new_file) = (write(old), write(&new));
@@ -99,10 +114,12 @@ fn task(old: &Program, edit: Edit) -> Task {
         counts,
         changed,
     };
-    assert!(repair(&task, &mut buffers), "the repair is accepted");
-    assert_eq!(buffers.marks, new_marks, "the two sides mark the same");
-    let written = &buffers.output[..task.new_file.len()];
-    assert_eq!(written, task.new_file, "the repair writes the edited file");
+    for one in REPAIRS {
+        assert!(repair(one, &task, &mut buffers), "the repair is accepted");
+        assert_eq!(buffers.marks, new_marks, "all sides mark the same");
+        let written = &buffers.output[..task.new_file.len()];
+        assert_eq!(written, task.new_file, "the repair writes the edited file");
+    }
     task
 }
 
@@ -153,7 +170,7 @@ type EditKind = fn(&Program, Step) -> Task;
 const EDIT_KINDS: [(&str, EditKind); 3] = [("add", add), ("drop", drop), ("replace", replace)];
 
 type Side = fn(&Task, &mut Buffers) -> bool;
-const SIDES: [Side; 2] = [repair, analysis];
+const SIDES: [Side; 3] = [forward, inside_out, analysis];
 
 /// One turn: every edit once. The answer has to be right each time.
 fn turn(side: Side, tasks: &[Task], buffers: &mut Buffers) -> Duration {
@@ -164,14 +181,14 @@ fn turn(side: Side, tasks: &[Task], buffers: &mut Buffers) -> Duration {
     begin.elapsed()
 }
 
-/// Repairs and analyses a second. The two take turns, so that what else the machine does disturbs
-/// them alike.
-fn measure(tasks: &[Task]) -> [f64; 2] {
+/// Repairs of each kind and analyses a second. They take turns, so that what else the machine does
+/// disturbs them alike.
+fn measure(tasks: &[Task]) -> [f64; 3] {
     let mut buffers = Buffers::new();
     for side in SIDES {
         turn(side, tasks, &mut buffers);
     }
-    let (mut times, mut turns) = ([Duration::ZERO; 2], [0; 2]);
+    let (mut times, mut turns) = ([Duration::ZERO; 3], [0; 3]);
     while times.iter().any(|&time| time < AT_LEAST) {
         for place in 0..SIDES.len() {
             if times[place] < AT_LEAST {
@@ -181,20 +198,22 @@ fn measure(tasks: &[Task]) -> [f64; 2] {
         }
     }
     let rate = |place: usize| (turns[place] * tasks.len()) as f64 / times[place].as_secs_f64();
-    [rate(0), rate(1)]
+    [rate(0), rate(1), rate(2)]
 }
 
 fn measure_row(kind: &str, edit: &str, tasks: &[Task]) {
-    let [repairs, analyses] = measure(tasks);
+    let [forward, inside_out, analyses] = measure(tasks);
     let standings: u32 = tasks.iter().map(|task| task.counts[0]).sum();
     let changed: usize = tasks.iter().map(|task| task.changed).sum();
     let cells = [
         edit.to_string(),
         (standings as usize / tasks.len()).to_string(),
         (changed / tasks.len()).to_string(),
-        format!("{repairs:.0}"),
+        format!("{forward:.0}"),
+        format!("{:.2}", forward / analyses),
+        format!("{inside_out:.0}"),
+        format!("{:.2}", inside_out / analyses),
         format!("{analyses:.0}"),
-        format!("{:.2}", repairs / analyses),
     ];
     print_row(kind, cells);
 }
@@ -206,9 +225,11 @@ pub fn print_table(kinds: &[(&str, Vec<Input>)]) {
         "edit",
         "standings",
         "changed",
-        "repairs",
-        "analyses",
+        "forward",
         "ratio",
+        "inside-out",
+        "ratio",
+        "analyses",
     ];
     print_row("edits a second", names.map(String::from));
     for (kind, inputs) in kinds {

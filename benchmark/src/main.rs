@@ -1,9 +1,11 @@
 //! How many programs a second the proved analysis does, through the C interface, beside the same
-//! procedure in plain Rust; and how many edits the forward repair does.
+//! procedure in plain Rust; and how many edits the two repairs do.
 
 #[path = "../../reference/tests/desk/mod.rs"]
 mod desk;
 mod edits;
+#[path = "../../reference/tests/desk/inside_out.rs"]
+mod inside_out_desk;
 mod plain;
 
 use plain::{Search, Tables};

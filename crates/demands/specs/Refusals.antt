@@ -35,15 +35,22 @@ firstMet (r ∷ rs) = cond (r .met) (r .number) (firstMet rs)
 
 -- ---- a file
 
--- the rows of a line, after the frames before it; a line that is empty, odd, of other characters or without 0A is kept as one without a number
+-- the rows of a line, after the frames before it
 abbrev pub lineRows : Progress → Line → List Row
 lineRows s l =
+    -- empty, odd, other character, or no 0A: such a line is kept as one without a number
     row 1 (eqb (l .count) 0)
+    -- unknown kind
     ∷ row 2 (eqb (kind l) 0)
+    -- wrong count of numbers for the kind
     ∷ row 3 (not (eqb (l .count) (size (kind l))))
+    -- order broken; first frame not 50; a second 50; a routine frame left out
     ∷ row 4 (not (ordered (s .last) (s .frames) (s .program .routines) (length (s .program .nodes)) (kind l) l))
+    -- a number outside its range, or a step from the exit
     ∷ row 5 (not (ranged (s .program) (kind l) l))
+    -- the 257th step or rule line
     ∷ row 6 (full (length (s .program .edges)) (length (s .program .automaton .transitions)) (kind l))
+    -- the end count is wrong
     ∷ row 7 (miscounted (s .frames) (kind l) l)
     ∷ []
 
@@ -79,7 +86,9 @@ drops (Replace s l) = false
 
 abbrev pub editRows : Program → Line → List Row
 editRows p l =
+    -- faults as in 1 to 3, or more than one line
     row 12 (badLine l)
+    -- as 5
     ∷ row 13 (outOfRange p l)
     -- drop or replace: the step is not there
     ∷ row 14 (not (adds (editIn l)) && not (hasEdge (oldEdge (editIn l)) (p .edges)))
@@ -91,12 +100,15 @@ editRows p l =
 
 -- ---- the other rows
 
+-- the marks do not have 16,384 bytes
 abbrev pub marksRow : Lent → Row
 marksRow b = row 9 (not (eqb (length (b .marks)) 16384))
 
+-- the output has under 5,328 bytes
 abbrev pub outputRow : Lent → Row
 outputRow b = row 10 (ltb (length (b .output)) 5328)
 
+-- the working buffer does not have 16,384 bytes
 abbrev pub workRow : Lent → Row
 workRow b = row 11 (not (eqb (length (b .work)) 16384))
 
