@@ -54,8 +54,7 @@ fn measure(v: Verdict, marks: usize, output: usize, work: usize) -> Verdict
     }
 }
 
-// Marks that differ from the program's own are refused (17). Else they are repaired, and the edited program is written. Only
-// the inside-out repair promises something of the routines.
+// Marks that differ from the program's own are refused (17). Else they are repaired, and the edited program is written.
 fn repair_own(
     inward: bool,
     p: DecodedProgram,
@@ -106,8 +105,9 @@ fn repair_wanted(
     }
 }
 
-// Either repair, from the file on.
-fn repair_file(
+// Either repair: the inside-out one where that is asked for, else the forward one. Only the inside-out repair promises something
+// of the routines.
+pub fn repair_file(
     inward: bool,
     file: &[u8],
     marks: &mut [u8],
