@@ -1,6 +1,6 @@
 //! How many edits a second the two repairs do, beside the analysis of the edited program.
 
-use crate::{desk, inside_out_desk, print_row, Input, AT_LEAST};
+use crate::{desk, inside_out_desk, print_row, rates, Input};
 use reference::edit::{edited, Edit};
 use reference::file::{Label, Program, Step};
 use reference::lists::widened;
@@ -181,24 +181,10 @@ fn turn(side: Side, tasks: &[Task], buffers: &mut Buffers) -> Duration {
     begin.elapsed()
 }
 
-/// Repairs of each kind and analyses a second. They take turns, so that what else the machine does
-/// disturbs them alike.
+/// Repairs of each kind and analyses a second.
 fn measure(tasks: &[Task]) -> [f64; 3] {
     let mut buffers = Buffers::new();
-    for side in SIDES {
-        turn(side, tasks, &mut buffers);
-    }
-    let (mut times, mut turns) = ([Duration::ZERO; 3], [0; 3]);
-    while times.iter().any(|&time| time < AT_LEAST) {
-        for place in 0..SIDES.len() {
-            if times[place] < AT_LEAST {
-                times[place] += turn(SIDES[place], tasks, &mut buffers);
-                turns[place] += 1;
-            }
-        }
-    }
-    let rate = |place: usize| (turns[place] * tasks.len()) as f64 / times[place].as_secs_f64();
-    [rate(0), rate(1), rate(2)]
+    rates(tasks.len(), |side| turn(SIDES[side], tasks, &mut buffers))
 }
 
 fn measure_row(kind: &str, edit: &str, tasks: &[Task]) {

@@ -82,27 +82,36 @@ fn turn(side: Side, inputs: &[Input], buffers: &mut Buffers) -> Duration {
     begin.elapsed()
 }
 
-/// Programs a second for each side. The sides take turns, so that what else the machine does
-/// disturbs them alike.
+/// How many items a second each side does, where `turn` is a side's time for all of them once. The
+/// sides take turns, so that what else the machine does disturbs them alike; a first turn is not
+/// counted.
+fn rates<const N: usize>(items: usize, mut turn: impl FnMut(usize) -> Duration) -> [f64; N] {
+    let (mut times, mut turns) = ([Duration::ZERO; N], [0; N]);
+    for side in 0..N {
+        turn(side);
+    }
+    while times.iter().any(|&time| time < AT_LEAST) {
+        for side in 0..N {
+            if times[side] < AT_LEAST {
+                times[side] += turn(side);
+                turns[side] += 1;
+            }
+        }
+    }
+    let mut rates = [0.0; N];
+    for side in 0..N {
+        rates[side] = (turns[side] * items) as f64 / times[side].as_secs_f64();
+    }
+    rates
+}
+
+/// Programs a second for each side.
 fn measure(inputs: &[Input]) -> [f64; 4] {
     let mut buffers = Buffers {
         marks: vec![0xA5; SHEET_SIZE],
         work: vec![0x5A; SHEET_SIZE],
     };
-    for side in SIDES {
-        turn(side, inputs, &mut buffers);
-    }
-    let (mut times, mut turns) = ([Duration::ZERO; 4], [0; 4]);
-    while times.iter().any(|&time| time < AT_LEAST) {
-        for place in 0..SIDES.len() {
-            if times[place] < AT_LEAST {
-                times[place] += turn(SIDES[place], inputs, &mut buffers);
-                turns[place] += 1;
-            }
-        }
-    }
-    let rate = |place: usize| (turns[place] * inputs.len()) as f64 / times[place].as_secs_f64();
-    [rate(0), rate(1), rate(2), rate(3)]
+    rates(inputs.len(), |side| turn(SIDES[side], inputs, &mut buffers))
 }
 
 fn input(program: &Program) -> Input {
