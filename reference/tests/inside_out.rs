@@ -19,8 +19,8 @@ use reference::file::{read, Program};
 use reference::lists::{widened, Call};
 use reference::programs::{program_of_shape, Shape};
 use reference::random::Random;
-use reference::repair::{Buffers, InsideOutAnswer};
-use reference::small::{dropped, marked, program};
+use reference::repair::Buffers;
+use reference::small::{dropped, program};
 use reference::standing::SHEET_SIZE;
 use reference::write::{write, OUTPUT_SIZE};
 
@@ -137,23 +137,6 @@ fn every_drop_of_small_programs_agrees() {
     );
 }
 
-/// An inside-out repair by the library alone: the answer and the numbers marked.
-fn repaired(program: &Program, line: &[u8]) -> (InsideOutAnswer, Vec<usize>) {
-    let mut sheet = analyze(program).sheet;
-    let (mut output, mut work) = (vec![7; OUTPUT_SIZE], vec![7; SHEET_SIZE]);
-    let answer = repair_inside_out(
-        &write(program),
-        &mut Buffers {
-            sheet: &mut sheet,
-            line,
-            output: &mut output,
-            work: &mut work,
-        },
-    );
-    assert_eq!(answer.line, 0);
-    (answer, marked(&sheet))
-}
-
 fn sample() -> Program {
     read(cases::SAMPLE).expect("the sample is accepted")
 }
@@ -188,7 +171,7 @@ fn repairs_worked_out_by_hand() {
             0b11,
         ),
     ] {
-        let (answer, marks) = repaired(program, line.as_bytes());
+        let (answer, marks, _) = trial::repaired(INSIDE_OUT, program, line.as_bytes());
         assert_eq!(
             (answer.refusal, answer.reopened),
             (refusal, reopened),
@@ -215,7 +198,7 @@ fn reopening_stops_where_pairs_stay() {
         ("2D00000002\n", 0b00001),
         ("2D04004301\n", 0b10000),
     ] {
-        let (answer, _) = repaired(&program, line.as_bytes());
+        let (answer, ..) = trial::repaired(INSIDE_OUT, &program, line.as_bytes());
         assert_eq!((answer.refusal, answer.reopened), (0, reopened), "{line}");
     }
 }
@@ -225,7 +208,7 @@ fn named_edits_agree_with_the_answers_worked_out_by_hand() {
     let mut tally = Tally::default();
     for case in edit_cases::all() {
         let program = read(&case.file).expect("the file is accepted");
-        let (answer, _) = repaired(&program, &case.line);
+        let (answer, ..) = trial::repaired(INSIDE_OUT, &program, &case.line);
         assert_eq!(answer.refusal, case.refusal, "{}", case.name);
         let lending = lending(&mut Random::new(0), &program, case.line);
         trial::compare(&case.name, INSIDE_OUT, &lending, &Ok(program), &mut tally);

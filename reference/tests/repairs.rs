@@ -17,7 +17,7 @@ use reference::keeping::keep_answer;
 use reference::lists::{widened, Call};
 use reference::programs::{hub, program_of_shape, Shape};
 use reference::random::Random;
-use reference::repair::{Buffers, ForwardAnswer};
+use reference::repair::Buffers;
 use reference::sheets;
 use reference::small::{dropped, marked, program};
 use reference::standing::{Standing, SHEET_SIZE};
@@ -319,32 +319,12 @@ fn a_list_goes_on_from_the_first_file_while_all_is_refused() {
     trial::check_met(&tally, &[0, 12, 13, 14, 15], 1);
 }
 
-/// A forward repair by the library alone: the answer, the numbers marked, and the file written.
-fn repaired(program: &Program, line: &[u8]) -> (ForwardAnswer, Vec<usize>, Vec<u8>) {
-    let mut sheet = fresh(program);
-    let (mut output, mut work) = (vec![7; OUTPUT_SIZE], vec![7; SHEET_SIZE]);
-    let answer = desk::repair_forward(
-        &write(program),
-        &mut Buffers {
-            sheet: &mut sheet,
-            line,
-            output: &mut output,
-            work: &mut work,
-        },
-    );
-    assert_eq!(answer.line, 0);
-    assert!(output[answer.written as usize..]
-        .iter()
-        .all(|&byte| byte == 7));
-    output.truncate(answer.written as usize);
-    (answer, marked(&sheet), output)
-}
-
 #[test]
 fn repairs_worked_out_by_hand() {
     let five = vec![0, 65, 129, 1024, 1089];
     let left = |program: &Program, line: &str| {
-        let (answer, left, file) = repaired(program, format!("{line}\n").as_bytes());
+        let (answer, left, file) =
+            trial::repaired(FORWARD, program, format!("{line}\n").as_bytes());
         assert_eq!(answer.refusal, 0, "{line}");
         (left, read(&file).expect("what is written is accepted"))
     };
@@ -360,12 +340,12 @@ fn repairs_worked_out_by_hand() {
     assert_eq!((marks, back), (five.clone(), sample()));
     let nothing = program("50020302 520003 520102 54000001 54000102 54010001 54010101 4900");
     assert_eq!(left(&nothing, "2B00004001").0, [0]);
-    let (answer, marks, _) = repaired(&sample(), b"3D0000410241\n");
+    let (answer, marks, _) = trial::repaired(FORWARD, &sample(), b"3D0000410241\n");
     assert_eq!(
         (answer.refusal, answer.written, marks),
         (15, 0, five.clone())
     );
-    let (answer, marks, _) = repaired(&sample(), b"2D00000102\n");
+    let (answer, marks, _) = trial::repaired(FORWARD, &sample(), b"2D00000102\n");
     assert_eq!((answer.refusal, answer.written, marks), (14, 0, five));
 }
 
@@ -373,7 +353,7 @@ fn repairs_worked_out_by_hand() {
 fn named_edits_agree_with_the_answers_worked_out_by_hand() {
     for case in edit_cases::all() {
         let program = read(&case.file).expect("the file is accepted");
-        let (answer, _, file) = repaired(&program, &case.line);
+        let (answer, _, file) = trial::repaired(FORWARD, &program, &case.line);
         assert_eq!(answer.refusal, case.refusal, "{}", case.name);
         assert_eq!(file.is_empty(), case.refusal != 0, "{}", case.name);
         let mut tally = Tally::default();
@@ -462,7 +442,7 @@ fn a_forward_drop_is_the_keeping_on_the_old_sheet() {
         if !line.starts_with(b"2D") {
             continue;
         }
-        let (answer, left, file) = repaired(&before, &line);
+        let (answer, left, file) = trial::repaired(FORWARD, &before, &line);
         if answer.refusal == 0 {
             let after = read(&file).expect("what is written is accepted");
             assert_eq!(left, kept(&after, &fresh(&before)), "seed {seed}");

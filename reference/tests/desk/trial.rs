@@ -12,13 +12,39 @@ use reference::programs::{program_of_shape, Shape};
 use reference::random::Random;
 use reference::repair::{forward_answer, inside_out_answer, Buffers, InsideOutAnswer};
 use reference::sheets;
-use reference::write::write;
+use reference::small::marked;
+use reference::standing::SHEET_SIZE;
+use reference::write::{write, OUTPUT_SIZE};
 
 /// A repair as C calls it. A forward one answers 0 for the reopened routines.
 #[derive(Clone, Copy)]
 pub struct Repair {
     pub inside_out: bool,
     pub call: fn(&[u8], &mut Buffers) -> InsideOutAnswer,
+}
+
+/// A repair by the library alone, with the program's own sheet: the answer, the numbers marked, and
+/// the file written.
+pub fn repaired(
+    repair: Repair,
+    program: &Program,
+    line: &[u8],
+) -> (InsideOutAnswer, Vec<usize>, Vec<u8>) {
+    let mut sheet = analyze(program).sheet;
+    let (mut output, mut work) = (vec![7; OUTPUT_SIZE], vec![7; SHEET_SIZE]);
+    let answer = (repair.call)(
+        &write(program),
+        &mut Buffers {
+            sheet: &mut sheet,
+            line,
+            output: &mut output,
+            work: &mut work,
+        },
+    );
+    assert_eq!(answer.line, 0);
+    let rest = output.split_off(answer.written as usize);
+    assert!(rest.iter().all(|&byte| byte == 7));
+    (answer, marked(&sheet), output)
 }
 
 /// What the comparisons have met.
