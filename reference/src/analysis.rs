@@ -77,17 +77,29 @@ pub struct NextAnswer {
     pub found: u32,
 }
 
+/// The checks before anything is touched: what the file gave, or a refusal of the file, of the sheet's
+/// length or of the working buffer's, with its line.
+pub fn checked<'a, T>(
+    given: &'a Result<T, Refusal>,
+    sheet: &[u8],
+    work: &[u8],
+) -> Result<&'a T, (u32, u32)> {
+    let given = given.as_ref().map_err(|file| (file.number(), file.line))?;
+    if sheet.len() != SHEET_SIZE {
+        return Err((SHEET_LENGTH, 0));
+    }
+    if work.len() != SHEET_SIZE {
+        return Err((WORK_LENGTH, 0));
+    }
+    Ok(given)
+}
+
 /// What the library has to answer when it works a file afresh that has this analysis, and what it
 /// has to leave in the sheet and in the working buffer.
 pub fn analyze_answer(analyzed: &Analyzed, sheet: &mut [u8], work: &mut [u8]) -> AnalyzeAnswer {
     let mut answer = AnalyzeAnswer::default();
-    match analyzed {
-        Err(refusal) => {
-            answer.refusal = refusal.number();
-            answer.line = refusal.line;
-        }
-        Ok(_) if sheet.len() != SHEET_SIZE => answer.refusal = SHEET_LENGTH,
-        Ok(_) if work.len() != SHEET_SIZE => answer.refusal = WORK_LENGTH,
+    match checked(analyzed, sheet, work) {
+        Err((refusal, line)) => (answer.refusal, answer.line) = (refusal, line),
         Ok(analysis) => {
             sheet.copy_from_slice(&analysis.sheet);
             work.fill(0);
@@ -103,13 +115,8 @@ pub fn analyze_answer(analyzed: &Analyzed, sheet: &mut [u8], work: &mut [u8]) ->
 /// has to leave in the working buffer. The sheet is only read.
 pub fn next_answer(analyzed: &Analyzed, sheet: &[u8], work: &mut [u8], from: u32) -> NextAnswer {
     let mut answer = NextAnswer::default();
-    match analyzed {
-        Err(refusal) => {
-            answer.refusal = refusal.number();
-            answer.line = refusal.line;
-        }
-        Ok(_) if sheet.len() != SHEET_SIZE => answer.refusal = SHEET_LENGTH,
-        Ok(_) if work.len() != SHEET_SIZE => answer.refusal = WORK_LENGTH,
+    match checked(analyzed, sheet, work) {
+        Err((refusal, line)) => (answer.refusal, answer.line) = (refusal, line),
         Ok(analysis) => {
             work.fill(0);
             if sheet == analysis.sheet {

@@ -4,7 +4,7 @@
 //! is gone through again and again until nothing more is kept. So two marks that only support each
 //! other both go.
 
-use crate::analysis::{SHEET_LENGTH, WORK_LENGTH};
+use crate::analysis::checked;
 use crate::file::{Label, Program, Reading};
 use crate::standing::{Standing, MOST_STATES, SHEET_SIZE};
 
@@ -86,13 +86,8 @@ pub struct KeepAnswer {
 /// what it has to leave in the sheet and in the working buffer.
 pub fn keep_answer(reading: &Reading, sheet: &mut [u8], work: &mut [u8]) -> KeepAnswer {
     let mut answer = KeepAnswer::default();
-    match reading {
-        Err(refusal) => {
-            answer.refusal = refusal.number();
-            answer.line = refusal.line;
-        }
-        Ok(_) if sheet.len() != SHEET_SIZE => answer.refusal = SHEET_LENGTH,
-        Ok(_) if work.len() != SHEET_SIZE => answer.refusal = WORK_LENGTH,
+    match checked(reading, sheet, work) {
+        Err((refusal, line)) => (answer.refusal, answer.line) = (refusal, line),
         Ok(program) => {
             let kept = keep(program, sheet);
             sheet.copy_from_slice(&kept);
