@@ -11,7 +11,7 @@ use Rattle.automaton.specs.declared.Event.{Event}
 use Rattle.automaton.specs.declared.Event.the-variants.{Action, Call}
 use Rattle.program.specs.Program.{Edge, Program}
 use Rattle.program.specs.Reading.{judgeAs, judge, afterAs, after, readFrom, readFile}
-use Rattle.program.proofs.Samples.{bytes}
+use Rattle.program.specs.Sample.{bytes, F}
 use Rattle.reach.specs.Runs.{Step, HasStep}
 use Rattle.reach.specs.Reachable.{seeded, by-action, by-call, by-return, initial, root, Reachable}
 use Rattle.components.specs.Components.{CallEdge, Leads, directly, through, Together, Anew, Changed, CallsChanged, Reopened, Bits}
@@ -19,7 +19,6 @@ use Rattle.edit.specs.Editing.{without, editedProgram}
 use Rattle.edit.specs.declared.Label.the-variants as label
 use Rattle.edit.specs.declared.Edit.the-variants.{Drop}
 use Rattle.repair.specs.Reanalyzed.{ReanalyzedBy}
-use Rattle.demands.specs.Cases.{F}
 
 -- ---- the programs
 

@@ -9,7 +9,7 @@ use lib.ListN.{length, drop, set, replicate}
 use Rattle.program.specs.Program.{Program}
 use Rattle.program.specs.Reading.{readFile}
 use Rattle.program.specs.declared.Verdict.the-variants.{Accepted}
-use Rattle.program.proofs.Samples.{bytes, lineBytes, header, edges, transitions}
+use Rattle.program.specs.Sample.{bytes, lineBytes, header, edges, transitions, F}
 use Rattle.writer.specs.Answers.{outputSize, refusal, writtenLength}
 use Rattle.reach.specs.Configurations.{none-set}
 use Rattle.reach.specs.Worklist.{analysis}
@@ -90,10 +90,6 @@ Holds (fresh c) = Analyzed c
 Holds (edited c) = Repaired c
 
 -- ---- the rows
-
--- F, by its lines
-abbrev pub F : List String
-F = header ++ edges ++ transitions ++ "4900" ∷ "4602" ∷ "45000C" ∷ []
 
 -- F with these steps, and with these lines after its transitions
 abbrev with : List String → List String → List String

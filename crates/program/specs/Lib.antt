@@ -5,3 +5,4 @@ pub mod WellFormed
 pub mod Reading
 pub mod Decoded
 pub mod Room
+pub mod Sample

@@ -8,7 +8,7 @@ use Rattle.text.specs.Lines.{lines, numbers}
 use Rattle.automaton.specs.Automaton.{listed, moves, member}
 use Rattle.program.specs.Reading.{judgeAs, judge, afterAs, after, readFrom, readFile}
 use Rattle.program.specs.Writing.{text}
-use Rattle.program.proofs.Samples.{bytes, header, edges, transitions}
+use Rattle.program.specs.Sample.{bytes, header, edges, transitions}
 use Rattle.reach.specs.Configurations.{number, routineOf, nodeOf, rootOf, stateOf, none-set}
 use Rattle.reach.specs.Worklist.{lowest, mark, wake, markWhen, summary, onAction, onReturns, onLabel, labelWhen, onSteps, wakeRoots, calls, wakeWhen, wakeCallers, learn, takeFrom, takeAt, work, opened, analysis}
 use Rattle.reach.specs.Marks.{countSet, violationsFrom}
