@@ -145,7 +145,7 @@ fn mean(inputs: &[Input], count: usize) -> u32 {
 
 /// Prints a row of a table: its kind, and its cells.
 fn print_row<const N: usize>(kind: &str, cells: [String; N]) {
-    let cells = cells.map(|cell| format!("{cell:>10}"));
+    let cells = cells.map(|cell| format!("{cell:>11}"));
     println!("{kind:<23}{}", cells.concat());
 }
 
