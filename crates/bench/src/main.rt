@@ -4,10 +4,26 @@ use analysis::AnalyzeAnswer;
 use libc::STDERR_FILENO;
 use libc::STDIN_FILENO;
 use libc::STDOUT_FILENO;
-use repair::RepairAnswer;
+use writer::WriteAnswer;
 ghost use mathlib.Core.Path.{_≡_};
 ghost use lib.ListN.{length};
 ghost use Rattle.io.specs.Counts.{Counts};
+
+// The repair of one edit line. Which routines were reanalyzed is not printed.
+fn repair_with(
+    inside_out: bool,
+    file: &[u8],
+    marks: &mut [u8],
+    line: &[u8],
+    output: &mut [u8],
+    work: &mut [u8],
+) -> WriteAnswer {
+    if inside_out {
+        let answer = repair::repair_inside_out(file, marks, line, output, work);
+        return repair::without_routines(answer);
+    }
+    repair::repair_forward(file, marks, line, output, work)
+}
 
 // What was written to a buffer lies within it: then the answer is n.
 fn within(n: usize, buffer: &[u8]) -> usize
@@ -41,7 +57,7 @@ fn print_refusal(n: u8, out: &mut [u8]) -> bool {
     print(out, size)
 }
 
-// One edit. The file becomes a copy of what an accepted edit wrote; which routines were reanalyzed is not printed. Answers the file's length; 0 where printing failed.
+// One edit. The file becomes a copy of what an accepted edit wrote. Answers the file's length; 0 where printing failed.
 fn apply_edit(
     inside_out: bool,
     line: &[u8],
@@ -55,15 +71,15 @@ fn apply_edit(
 {
     let mut output = [0u8; 5328];
     let before = within(used, file);
-    let answer = repair::repair_file(inside_out, &file[..before], marks, line, &mut output, work);
+    let answer = repair_with(inside_out, &file[..before], marks, line, &mut output, work);
     match answer {
-        RepairAnswer::Refused(n, _line) => {
+        WriteAnswer::Refused(n, _line) => {
             if print_refusal(n, out) {
                 return used;
             }
             0
         }
-        RepairAnswer::Repaired(n, _routines) => {
+        WriteAnswer::Written(n) => {
             let after = within(n, &output);
             let size = bytes::copy(&output[..after], file);
             if print_block(&output[..after], marks, out) {

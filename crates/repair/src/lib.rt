@@ -107,7 +107,7 @@ fn repair_wanted(
 
 // Either repair: the inside-out one where that is asked for, else the forward one. Only the inside-out repair promises something
 // of the routines.
-pub fn repair_file(
+fn repair_file(
     inward: bool,
     file: &[u8],
     marks: &mut [u8],
@@ -131,8 +131,8 @@ pub fn repair_file(
     }
 }
 
-// The answer without the routines.
-fn without_routines(a: RepairAnswer) -> WriteAnswer
+// The answer without the routines, for those who ask for the marks and the file only.
+pub fn without_routines(a: RepairAnswer) -> WriteAnswer
     ensures { λ r. ⌜ r ≡ plain a ⌝ }
 {
     match a {
