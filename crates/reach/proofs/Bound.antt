@@ -2,13 +2,11 @@
 -- that wakes it, 8 for each of 16 routines.
 use mathlib.Core.Path.{_≡_, refl, sym, ap, _∙_}
 use mathlib.Core.Logic.{_⊎_, inl, inr, _≢_}
-use mathlib.Core.Bool.{cond}
 use mathlib.Core.Option.{Option, none, some}
 use mathlib.Core.List.{List, [], _∷_, List·Memᴰ, List·Memᴰ·head, List·Memᴰ·tail}
 use Prim.Native.Nat.{ℕ, zero, suc, _+_, _≤_, _<_}
 use native.Mathlib.Omega.{arith}
 use native.Mathlib.Decide.{ℕ-discrete}
-use lib.Dec.{eqb}
 use lib.ListN.{length, set}
 use borrow.Author.Tests.{eq-eqb, ne-eqb}
 use Rattle.program.specs.Program.{Program}
@@ -17,6 +15,7 @@ use Rattle.reach.specs.Configurations.{Set, number, routineOf, nodeOf, r
 use Rattle.reach.specs.Runs.{stepsOf}
 use Rattle.reach.specs.Reachable.{Initial}
 use Rattle.reach.specs.Worklist.{Worklist, lowest, summary, learn, takeAt, work, opened, blank, analysis}
+use Rattle.reach.specs.Takings.{taken, takenIn, times}
 use Rattle.reach.proofs.Numbers.{number-of, routine-of, node-of, state-of, root-small, state-small, routine-small, summary-fits}
 use Rattle.reach.proofs.Sizes.{Sizes, sizes, Proper, initial-proper}
 use Rattle.reach.proofs.Flags.{On, dec-on, on-lt, set-on, on-set, clear-off, clear-inv, lowest-on}
@@ -27,22 +26,7 @@ use Rattle.reach.proofs.Follows.{Follows, take-follows, opened-follows}
 use Rattle.reach.proofs.Settled.{Settled, take-settled, opened-settled}
 use Rattle.reach.proofs.Counting.{sumTo, sum-most, sum-more, flag, flag-on, flag-off, flag-bit, flag-mono, woken, woken-most, woken-mono, woken-more}
 
--- ---- the numbers that are taken
-
--- the numbers that the loop takes, in order
-unfoldable pub taken : ℕ → Program → Option ℕ → Worklist → List ℕ
-taken zero p o s = []
-taken (suc k) p none s = []
-taken (suc k) p (some i) s = let t = takeAt p i s in i ∷ taken k p (lowest (t .pending) 0) t
-
--- those of the full analysis
-unfoldable pub takenIn : Program → List ℕ
-takenIn p = let s = opened (p .automaton .initial) blank in taken 2113536 p (lowest (s .pending) 0) s
-
--- how often j is in the list
-unfoldable pub times : ℕ → List ℕ → ℕ
-times j [] = 0
-times j (i ∷ is) = cond (eqb i j) 1 0 + times j is
+-- ---- how often a number is taken
 
 times-same : (i : ℕ) (is : List ℕ) → times i (i ∷ is) ≡ 1 + times i is
 unfolding times
