@@ -4,42 +4,89 @@ use mathlib.Core.Logic.{_↔_}
 use mathlib.Core.List.{List, List·Memᴰ}
 use Prim.Native.Nat.{ℕ, _<_}
 use lib.ListN.{length}
+use Rattle.program.specs.Program.{Program}
 use Rattle.program.specs.Reading.{readFile}
 use Rattle.program.specs.declared.Verdict.the-variants.{Accepted}
-use Rattle.repair.specs.Calls.{Call, started}
-use Rattle.repair.proofs.Listed.{agreed, never-drifts, numbers-right, leaves-others}
+use Rattle.reach.specs.Marks.{Marked, Shows}
+use Rattle.prune.specs.Keeping.{Kept}
+use Rattle.edit.specs.Editing.{wantedEdit}
+use Rattle.edit.specs.declared.Step.{Step}
+use Rattle.edit.specs.declared.Edit.the-variants.{Drop}
+use Rattle.edit.specs.declared.EditRead.the-variants.{Read}
+use Rattle.components.specs.Parts.{Member, Passed}
 use Rattle.report.specs.Report.{tooLong, benchText}
-use Rattle.desk.specs.Entries.{Entry, analyze, Lent, Back, Gives}
-use Rattle.demands.specs.Demands.{Demand1, Demand2, Demand3}
+use Rattle.desk.specs.Entries.{Entry, read, write, analyze, next-violation, prune, repair-forward, Lent, Back, programIn, Gives}
+use Rattle.demands.specs.Lists.{Call, started, wrote, Gave}
+use Rattle.demands.specs.Inputs.{SameInputs}
+use Rattle.demands.specs.Demands.{Demand1, Acceptance, Demand2, Safe, Next, Procedure, Demand3, keepingOf}
 use Rattle.demands.specs.Cases.{Case, Holds, table}
 use Rattle.demands.proofs.Returning.{gives-demanded}
+use Rattle.demands.proofs.Accepted.{file-acceptance, comes-back}
 use Rattle.demands.proofs.Bench.{too-long}
-use Rattle.demands.proofs.Analyzing.{analyzed-exact}
+use Rattle.demands.proofs.Analyzing.{analyzed-exact, count-safe, next-given, procedure-ends}
+use Rattle.demands.proofs.Keeping.{pruned, drop-kept}
+use Rattle.demands.proofs.Depends.{depends}
+use Rattle.demands.proofs.Listed.{list-demanded}
 use Rattle.demands.proofs.Cases.{every-row}
 
--- demand 1, for every function that is called from outside, whatever is lent to it
+-- ---- demand 1
+
+-- for every function that is called from outside, whatever is lent to it
 pub demand-1 : (e : Entry) (b : Lent) (a : Back) → Gives e b a → Demand1 e b a
 demand-1 = gives-demanded
 
--- and for `bench`: it prints refusal 18 alone exactly for more than 16,384 bytes of input
+-- which files are accepted
+pub accepted-files : (b : Lent) (a : Back) → Gives read b a → Acceptance b a
+accepted-files = file-acceptance
+
+-- an accepted file comes back as its own bytes
+pub same-bytes : (b : Lent) (a : Back) → Gives write b a → a .refusal ≡ 0 → wrote a ≡ b .file
+same-bytes = comes-back
+
+-- `bench` prints refusal 18 alone exactly for more than 16,384 bytes of input
 pub demand-1-bench : (input : List ℕ) → (benchText input ≡ tooLong) ↔ (16384 < length input)
 demand-1-bench = too-long
 
--- demand 2, for every full analysis that is not refused
-pub demand-2 : (b : Lent) (a : Back) → Gives analyze b a → a .refusal ≡ 0 → Demand2 (readFile (b .file) .program) (a .marks)
+-- ---- demand 2
+
+-- for every full analysis that is not refused
+pub demand-2 : (b : Lent) (a : Back) → Gives analyze b a → a .refusal ≡ 0 → Demand2 (programIn b) a
 demand-2 = analyzed-exact
 
--- demand 3, for every accepted file and every list of calls
-pub demand-3 : (file : List ℕ) → readFile file .verdict ≡ Accepted → (cs : List Call) → Demand3 file cs
-demand-3 file h cs =
-    let p = readFile file .program in
-    let g = agreed file h in
-    record {
-      seen = never-drifts cs (started file) p g;
-      reanalyzed = λ ns. numbers-right cs ns (started file) p g;
-      others = leaves-others cs p;
-    }
+-- its count of violations is 0 exactly when no run arrives in a rejecting state
+pub no-violation : (b : Lent) (a : Back) → Gives analyze b a → a .refusal ≡ 0 → (a .values .violations ≡ 0) ↔ Safe (programIn b)
+no-violation = count-safe
 
--- the cases P1 to P10, rows of one table
+-- the list of violations gives the least one not below a number, or says that there is none
+pub next-one : (b : Lent) (a : Back) → Gives next-violation b a → a .refusal ≡ 0 → Next (programIn b) (b .from) (a .values .found)
+next-one = next-given
+
+-- the procedure ends, and no configuration is taken more than 129 times
+pub procedure : (b : Lent) (a : Back) → Gives analyze b a → a .refusal ≡ 0 → Procedure (programIn b) a
+procedure = procedure-ends
+
+-- ---- demand 3
+
+-- for every accepted file, every list of calls and what they gave back
+pub demand-3 : (file : List ℕ) → readFile file .verdict ≡ Accepted → (cs : List Call) (gs : List Back) → Gave cs gs (started file) → Demand3 file cs gs
+demand-3 = list-demanded
+
+-- the keeping, on any sheet: a 1 at each mark that has support back to a start through marked configurations, and 0 elsewhere
+pub keeping : (b : Lent) (a : Back) → Gives prune b a → a .refusal ≡ 0 → Shows (Kept (programIn b) (b .marks)) (a .marks)
+keeping = pruned
+
+-- what the keeping gives for the edited file and the old marks is what a forward drop leaves
+pub forward-drop : (b : Lent) (a k : Back) (s : Step) → Gives repair-forward b a → a .refusal ≡ 0 → wantedEdit (programIn b) (b .edit) ≡ Read (Drop s)
+    → Gives prune (keepingOf b a) k → (k .refusal ≡ 0) × (k .marks ≡ a .marks)
+forward-drop = drop-kept
+
+-- two passes over a component that are given its steps, its old roots, the rule and the summaries of the routines it calls alike leave its configurations
+-- alike, whatever else the programs and the sheets hold
+pub pass-depends : {members : List ℕ} {p p′ : Program} {old old′ marks marks′ after after′ : List ℕ} → Passed p members old marks after
+    → Passed p′ members old′ marks′ after′ → SameInputs members p p′ old old′ marks marks′ → (f n r q : ℕ) → Member members f
+    → Marked after f n r q ↔ Marked after′ f n r q
+pass-depends = depends
+
+-- ---- the cases P1 to P10, rows of one table
 pub cases : (c : Case) → List·Memᴰ c table → Holds c
 cases = every-row

@@ -16,20 +16,10 @@ use Rattle.reach.specs.Marks.{Marked}
 use Rattle.reach.proofs.Laws.{Within}
 use Rattle.components.specs.Components.{CallEdge}
 use Rattle.components.specs.Passes.{edgesOf, onlyOf, entry, summary}
-use Rattle.components.specs.Parts.{memberOf, Member, RootOf, ExitOf, PassOf, Passed}
+use Rattle.components.specs.Parts.{memberOf, Member, ExitOf, PassOf, Passed}
+use Rattle.demands.specs.Inputs.{SameInputs}
 use Rattle.components.proofs.Only.{only-step, only-routine, step-only}
 use Rattle.components.proofs.Rounds.{member-true, true-member}
-
--- two passes over the same routines, of any two programs and sheets, that are given the same
-pub record SameInputs (members : List ℕ) (p p′ : Program) (old old′ marks marks′ : List ℕ) : Type 0 where
-  -- the steps of the routines of the group, in their order
-  pub steps : edgesOf (memberOf members) (p .edges) ≡ edgesOf (memberOf members) (p′ .edges)
-  -- the rule
-  pub rule : p .automaton ≡ p′ .automaton
-  -- the old roots of the routines of the group
-  pub roots : (f r : ℕ) → Member members f → RootOf old f r ↔ RootOf old′ f r
-  -- the pairs of the routines outside the group that a step of the group calls
-  pub pairs : (f g r q : ℕ) → Member members f → CallEdge p f g → ¬ (Member members g) → ExitOf marks g r q ↔ ExitOf marks′ g r q
 
 -- ---- the same the other way round
 
@@ -90,12 +80,10 @@ module _ {members : List ℕ} {p p′ : Program} {old old′ marks marks′ : Li
 
 -- ---- the theorem
 
--- two passes over a group that are given its steps, its old roots, the rule and the pairs of the routines it calls alike leave its standings alike, whatever
--- else the programs and the sheets hold
-pub pass-depends : {members : List ℕ} {p p′ : Program} {old old′ marks marks′ after after′ : List ℕ} → Passed p members old marks after
+pub depends : {members : List ℕ} {p p′ : Program} {old old′ marks marks′ after after′ : List ℕ} → Passed p members old marks after
     → Passed p′ members old′ marks′ after′ → SameInputs members p p′ old old′ marks marks′ → (f n r q : ℕ) → Member members f
     → Marked after f n r q ↔ Marked after′ f n r q
-pass-depends a b i f n r q m =
+depends a b i f n r q m =
     let here = a .inside f n r q m in
     let there = b .inside f n r q m in
     (λ x. there .1 (derives i m (here .0 x)), λ x. here .1 (derives (flipped i) m (there .0 x)))

@@ -1,9 +1,14 @@
 pub mod Filed
 pub mod Edited
 pub mod Returning
+pub mod Accepted
 pub mod Analyzing
+pub mod Keeping
 pub mod Bench
 pub mod Depends
+pub mod Booked
+pub mod Local
+pub mod Listed
 pub mod Reopened
 pub mod Cases
 pub mod Demands

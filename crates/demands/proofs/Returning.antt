@@ -8,7 +8,7 @@ use Prim.Native.Nat.{ℕ}
 use native.Mathlib.Omega.{arith}
 use lib.Dec.{ltb, eqb}
 use lib.ListN.{length, drop}
-use borrow.Author.Tests.{eqb-false}
+use borrow.Author.Tests.{eqb-false, ne-eqb}
 use Rattle.program.specs.Program.{Program}
 use Rattle.program.specs.Reading.{refusal, refusalLine, readFile}
 use Rattle.program.specs.declared.Verdict.{Verdict}
@@ -27,14 +27,15 @@ use Rattle.edit.specs.Editing.{editedProgram, wantedEdit}
 use Rattle.edit.specs.declared.Edit.{Edit}
 use Rattle.edit.specs.declared.EditRead.{EditRead}
 use Rattle.edit.specs.declared.EditRead.the-variants as read
+use Rattle.repair.specs.Reanalyzed.{insideOutNumber}
 use Rattle.repair.specs.Repairs.{After, measuredBy, foreign, repairedTo, wantedBy, repairedBy, measured, repaired}
-use Rattle.desk.specs.Entries.{Entry, read as reads, write, analyze, next-violation, prune, repair-forward, repair-inside-out, Lent, Back, hasWork, readBack, writeBack, analyzeBack, nextBack, pruneBack, repairBack, Gives}
+use Rattle.desk.specs.Entries.{Entry, read as reads, write, analyze, next-violation, prune, repair-forward, repair-inside-out, Lent, Back, hasWork, Values, noValues, repairing, readBack, writeBack, analyzeBack, nextBack, pruneBack, repairBack, Gives}
 use Rattle.demands.specs.Demands.{Demand1}
 use Rattle.demands.specs.Refusals.{Row, firstMet, FaultyFile, editRows, marksRow, outputRow, workRow, foreignRow, repairRows, rows, Returned, of-the-file, of-the-rest}
 use Rattle.demands.proofs.Filed.{SaysFile, file-told, faulty-number, faulty-once}
 use Rattle.demands.proofs.Edited.{numberThen, edit-told, edit-numbers}
 
-both-ways : false ≡ true → ⊥
+pub both-ways : false ≡ true → ⊥
 both-ways e = subst (λ t. cond t ⊥ Unit) e tt
 
 -- what is returned is fixed by the table
@@ -48,7 +49,7 @@ returned-once (of-the-rest f) (of-the-rest g) = (refl, refl)
 
 -- a call that is refused before 17, and leaves everything
 abbrev refused : ℕ → ℕ → Lent → Back
-refused n line b = record { refusal = n; line = line; marks = b .marks; output = b .output; work = b .work }
+refused n line b = record { refusal = n; line = line; values = noValues; marks = b .marks; output = b .output; work = b .work }
 
 -- the number is the table's, and neither 0 nor 17
 pub record Early (e : Entry) (b : Lent) (n line : ℕ) : Type 0 where
@@ -61,6 +62,7 @@ early {e} {b} {n} {line} x =
     record {
       returned = x .returned;
       no-other = λ m at r. returned-once r (x .returned);
+      no-result = λ h. refl;
       marks = λ h. refl;
       output = λ h. refl;
       work-kept = λ h i. refl;
@@ -74,12 +76,13 @@ early {e} {b} {n} {line} x =
 -- ---- no refusal before 17
 
 -- a call without a working buffer is done
-done : {e : Entry} {b : Lent} {output : List ℕ} → hasWork e ≡ false → Returned e b 0 0
-    → Demand1 e b (record { refusal = 0; line = 0; marks = b .marks; output = output; work = b .work })
+done : {e : Entry} {b : Lent} {v : Values} {output : List ℕ} → hasWork e ≡ false → Returned e b 0 0
+    → Demand1 e b (record { refusal = 0; line = 0; values = v; marks = b .marks; output = output; work = b .work })
 done h r =
     record {
       returned = r;
       no-other = λ m at s. returned-once s r;
+      no-result = λ i. absurd (i refl);
       marks = λ i. refl;
       output = λ i. absurd (i refl);
       work-kept = λ i j. refl;
@@ -87,23 +90,25 @@ done h r =
     }
 
 -- a call with one: 17, or it is done
-late : {e : Entry} {b : Lent} {n : ℕ} {marks output : List ℕ} → Returned e b n 0 → (n ≡ 0) ⊎ ((n ≡ 17) × (marks ≡ b .marks) × (output ≡ b .output))
-    → Demand1 e b (record { refusal = n; line = 0; marks = marks; output = output; work = none-set })
-late {e} {b} {n} {marks} {output} r x =
+late : {e : Entry} {b : Lent} {n : ℕ} {v : Values} {marks output : List ℕ} → Returned e b n 0
+    → (n ≡ 0) ⊎ ((n ≡ 17) × (v ≡ noValues) × (marks ≡ b .marks) × (output ≡ b .output))
+    → Demand1 e b (record { refusal = n; line = 0; values = v; marks = marks; output = output; work = none-set })
+late {e} {b} {n} {v} {marks} {output} r x =
     record {
       returned = r;
       no-other = λ m at s. returned-once s r;
-      marks = λ h. kept x h .0;
-      output = λ h. kept x h .1;
+      no-result = λ h. kept x h .0;
+      marks = λ h. kept x h .1;
+      output = λ h. kept x h .2;
       work-kept = λ h i. absurd (neither x h i);
       work-cleared = λ w h. refl;
     }
   where
-    kept : (n ≡ 0) ⊎ ((n ≡ 17) × (marks ≡ b .marks) × (output ≡ b .output)) → n ≢ 0 → (marks ≡ b .marks) × (output ≡ b .output)
+    kept : (n ≡ 0) ⊎ ((n ≡ 17) × (v ≡ noValues) × (marks ≡ b .marks) × (output ≡ b .output)) → n ≢ 0 → (v ≡ noValues) × (marks ≡ b .marks) × (output ≡ b .output)
     kept (inl z) h = absurd (h z)
-    kept (inr y) h = (y .1, y .2)
+    kept (inr y) h = (y .1, y .2, y .3)
 
-    neither : (n ≡ 0) ⊎ ((n ≡ 17) × (marks ≡ b .marks) × (output ≡ b .output)) → n ≢ 0 → n ≢ 17 → ⊥
+    neither : (n ≡ 0) ⊎ ((n ≡ 17) × (v ≡ noValues) × (marks ≡ b .marks) × (output ≡ b .output)) → n ≢ 0 → n ≢ 17 → ⊥
     neither (inl z) h i = h z
     neither (inr y) h i = i (y .0)
 
@@ -114,7 +119,7 @@ abbrev pub Judged : Entry → Lent → List Row → Verdict → Type 0
 Judged e b left Accepted = Returned e b (firstMet left) 0
 Judged e b left (Refused n line) = Early e b n line
 
-file-judged : (e : Entry) (b : Lent) → Judged e b (rows e b) (readFile (b .file) .verdict)
+pub file-judged : (e : Entry) (b : Lent) → Judged e b (rows e b) (readFile (b .file) .verdict)
 file-judged e b = go (readFile (b .file) .verdict) refl (file-told (b .file))
   where
     go : (v : Verdict) → readFile (b .file) .verdict ≡ v → SaysFile (b .file) v → Judged e b (rows e b) v
@@ -207,7 +212,7 @@ next-good b = go (checked (b .file) (length (b .marks)) (length (b .work))) (che
 
     own : (t : Bool) (o : Option ℕ) → Returned next-violation b (cond (not t) 17 0) 0 → Demand1 next-violation b (nextBack b (cond t (foundOf o) (next.Refused 17 0)) none-set)
     own true o r = found o r
-    own false o r = late r (inr (refl, refl, refl))
+    own false o r = late r (inr (refl, refl, refl, refl))
 
     go : (v : Verdict) → Judged next-violation b (foreignRow b ∷ []) v
         → Demand1 next-violation b (nextBack b (nextBy v (readFile (b .file) .program) (b .marks) (b .from)) (onSuccess v none-set (b .work)))
@@ -230,28 +235,47 @@ measured-judged e b final h = go (readFile (b .file) .verdict) (file-judged e b)
         (subst (λ rs. Returned e b (firstMet rs) 0) h r)
     go (Refused n line) x = x
 
-repair-good : (e : Entry) (b : Lent) → rows e b ≡ repairRows b → Demand1 e b (repairBack (repaired (b .file) (b .marks) (b .edit) (b .output) (b .work)))
+-- whatever routines are answered, if none are on a refusal
+repair-good : (e : Entry) (b : Lent) (routines : ℕ) → rows e b ≡ repairRows b
+    → (writeRefusal (repaired (b .file) (b .marks) (b .edit) (b .output) (b .work) .answer) ≢ 0 → routines ≡ 0)
+    → Demand1 e b (repairBack (repaired (b .file) (b .marks) (b .edit) (b .output) (b .work)) routines)
 unfolding repaired firstMet
-repair-good e b h =
+repair-good e b routines h =
     go (measured (b .file) (length (b .marks)) (length (b .output)) (length (b .work)))
     (measured-judged e b (editRows (readFile (b .file) .program) (onlyLine (b .edit)) ++ foreignRow b ∷ []) h)
   where
+    no-routines : routines ≡ 0 → repairing 0 routines ≡ noValues
+    no-routines z = ap (repairing 0) z
+
+    refuses : {n line : ℕ} → Early e b n line → (n ≢ 0 → routines ≡ 0)
+        → Demand1 e b (record { refusal = n; line = line; values = repairing 0 routines; marks = b .marks; output = b .output; work = b .work })
+    refuses {n} {line} x z =
+        subst (λ v. Demand1 e b (record { refusal = n; line = line; values = v; marks = b .marks; output = b .output; work = b .work }))
+        (sym (no-routines (z (x .some-number)))) (early x)
+
     edited : (d : Edit) (t : Bool) → Returned e b (cond (not t) 17 0) 0
-        → Demand1 e b (repairBack (cond t (repairedTo (editedProgram d (readFile (b .file) .program)) (b .output)) (foreign (b .marks) (b .output))))
-    edited d true r = late r (inl refl)
-    edited d false r = late r (inr (refl, refl, refl))
+        → (writeRefusal (cond t (repairedTo (editedProgram d (readFile (b .file) .program)) (b .output)) (foreign (b .marks) (b .output)) .answer) ≢ 0 → routines ≡ 0)
+        → Demand1 e b (repairBack (cond t (repairedTo (editedProgram d (readFile (b .file) .program)) (b .output)) (foreign (b .marks) (b .output))) routines)
+    edited d true r z = late r (inl refl)
+    edited d false r z = late r (inr (refl, no-routines (z (not-equal refl)), refl, refl))
 
     wanted : (w : EditRead) → wantedEdit (readFile (b .file) .program) (b .edit) ≡ w → Returned e b (numberThen w (firstMet (foreignRow b ∷ []))) 0
-        → Demand1 e b (repairBack (wantedBy w (readFile (b .file) .program) (b .marks) (b .output) (b .work)))
-    wanted (read.Read d) k r = edited d (same (b .marks) (freshMarks (readFile (b .file) .program))) r
-    wanted (read.Refused n) k r = let x = edit-numbers (readFile (b .file) .program) (b .edit) n k in early (record { returned = r; some-number = x .0; before-17 = x .1 })
+        → (writeRefusal (wantedBy w (readFile (b .file) .program) (b .marks) (b .output) (b .work) .answer) ≢ 0 → routines ≡ 0)
+        → Demand1 e b (repairBack (wantedBy w (readFile (b .file) .program) (b .marks) (b .output) (b .work)) routines)
+    wanted (read.Read d) k r z = edited d (same (b .marks) (freshMarks (readFile (b .file) .program))) r z
+    wanted (read.Refused n) k r z = let x = edit-numbers (readFile (b .file) .program) (b .edit) n k in refuses (record { returned = r; some-number = x .0; before-17 = x .1 }) z
 
     go : (v : Verdict) → Judged e b (editRows (readFile (b .file) .program) (onlyLine (b .edit)) ++ foreignRow b ∷ []) v
-        → Demand1 e b (repairBack (repairedBy v (readFile (b .file) .program) (b .marks) (b .edit) (b .output) (b .work)))
-    go Accepted r =
+        → (writeRefusal (repairedBy v (readFile (b .file) .program) (b .marks) (b .edit) (b .output) (b .work) .answer) ≢ 0 → routines ≡ 0)
+        → Demand1 e b (repairBack (repairedBy v (readFile (b .file) .program) (b .marks) (b .edit) (b .output) (b .work)) routines)
+    go Accepted r z =
         wanted (wantedEdit (readFile (b .file) .program) (b .edit)) refl
-        (subst (λ n. Returned e b n 0) (edit-told (readFile (b .file) .program) (b .edit) (foreignRow b)) r)
-    go (Refused n line) x = early x
+        (subst (λ n. Returned e b n 0) (edit-told (readFile (b .file) .program) (b .edit) (foreignRow b)) r) z
+    go (Refused n line) x z = refuses x z
+
+-- the inside-out repair answers no routine on a refusal
+no-number : (n : ℕ) (w : EditRead) (p : Program) (routines : ℕ) → insideOutNumber (eqb n 0) w p routines → n ≢ 0 → routines ≡ 0
+no-number n w p routines x h = rw (ne-eqb n 0 h) at x
 
 -- ---- every function
 
@@ -261,5 +285,9 @@ gives-demanded write b a g = subst (Demand1 write b) (sym g) (write-good b)
 gives-demanded analyze b a g = subst (Demand1 analyze b) (sym g) (analyze-good b)
 gives-demanded next-violation b a g = subst (Demand1 next-violation b) (sym g) (next-good b)
 gives-demanded prune b a g = subst (Demand1 prune b) (sym (g .0)) (prune-good b (a .marks) (g .1))
-gives-demanded repair-forward b a g = subst (Demand1 repair-forward b) (sym g) (repair-good repair-forward b refl)
-gives-demanded repair-inside-out b a g = subst (Demand1 repair-inside-out b) (sym g) (repair-good repair-inside-out b refl)
+gives-demanded repair-forward b a g = subst (Demand1 repair-forward b) (sym g) (repair-good repair-forward b 0 refl (λ h. refl))
+gives-demanded repair-inside-out b a g =
+    subst (Demand1 repair-inside-out b) (sym (g .0))
+    (repair-good repair-inside-out b (a .values .reanalyzed) refl
+    (λ h. no-number (a .refusal) (wantedEdit (readFile (b .file) .program) (b .edit)) (readFile (b .file) .program) (a .values .reanalyzed) (g .1)
+    (λ z. h (sym (ap (λ (x : Back). x .refusal) (g .0)) ∙ z))))

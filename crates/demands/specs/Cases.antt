@@ -16,7 +16,7 @@ use Rattle.reach.specs.Worklist.{analysis}
 use Rattle.reach.specs.Marks.{freshMarks, violations}
 use Rattle.edit.specs.Editing.{wantedEdit}
 use Rattle.repair.specs.Repairs.{After, repaired}
-use Rattle.repair.specs.Calls.{insideOutNumber}
+use Rattle.repair.specs.Reanalyzed.{insideOutNumber}
 
 -- ---- what a row says
 

@@ -1,19 +1,25 @@
--- The three demands, in the user's words.
+-- What is promised of the whole, in the user's words: of what is lent to the functions that are called from outside, and of what they give back.
 use mathlib.Core.Path.{_≡_}
 use mathlib.Core.Logic.{_↔_, _≢_, _⊎_}
-use mathlib.Core.Bool.{true}
-use mathlib.Core.List.{List, List·Memᴰ}
-use Prim.Native.Nat.{ℕ, _<_}
+use mathlib.Core.Bool.{true, false}
+use mathlib.Core.List.{List, [], map, List·Memᴰ}
+use Prim.Native.Nat.{ℕ, _≤_, _<_}
 use lib.ListN.{getD, length}
+use Rattle.automaton.specs.Automaton.{isRejecting}
 use Rattle.program.specs.Program.{Program}
+use Rattle.program.specs.WellFormed.{WellFormed}
+use Rattle.program.specs.Writing.{written}
 use Rattle.program.specs.Reading.{readFile}
+use Rattle.writer.specs.Answers.{outputSize}
 use Rattle.reach.specs.Configurations.{InRange, number, routineOf, nodeOf, rootOf, stateOf, none-set}
-use Rattle.reach.specs.Runs.{Occurs}
-use Rattle.reach.specs.Marks.{violations, firstFrom}
-use Rattle.reach.specs.Violations.{Violation, Ascends, First}
-use Rattle.repair.specs.Calls.{Call, started, played, bookPlayed, Numbers, BookNumbers, BookLeaves}
-use Rattle.desk.specs.Entries.{Entry, Lent, Back, hasWork}
+use Rattle.reach.specs.Runs.{Activation, Run, Occurs}
+use Rattle.reach.specs.Worklist.{analysis}
+use Rattle.reach.specs.Takings.{takenIn, times}
+use Rattle.reach.specs.Marks.{countSet, violations}
+use Rattle.reach.specs.Violations.{Violation, Ascends}
+use Rattle.desk.specs.Entries.{Entry, Lent, Back, hasWork, noValues, programIn}
 use Rattle.demands.specs.Refusals.{Returned}
+use Rattle.demands.specs.Lists.{Call, wrote, seen, bookPlayed, BookRoutines, BookLeaves}
 
 -- ---- demand 1: every file, edit line and lent buffer gets a result or one numbered refusal; a refusal changes nothing
 
@@ -23,6 +29,8 @@ pub record Demand1 (e : Entry) (b : Lent) (a : Back) : Type 0 where
   pub returned : Returned e b (a .refusal) (a .line)
   -- and in no other
   pub no-other : (n line : ℕ) → Returned e b n line → (n ≡ a .refusal) × (line ≡ a .line)
+  -- a refusal has no result: every other number is 0
+  pub no-result : a .refusal ≢ 0 → a .values ≡ noValues
   -- a refusal leaves the marks and the output unchanged
   pub marks : a .refusal ≢ 0 → a .marks ≡ b .marks
   pub output : a .refusal ≢ 0 → a .output ≡ b .output
@@ -31,37 +39,68 @@ pub record Demand1 (e : Entry) (b : Lent) (a : Back) : Type 0 where
   -- and all zero after 17 or success
   pub work-cleared : hasWork e ≡ true → (a .refusal ≡ 0) ⊎ (a .refusal ≡ 17) → a .work ≡ none-set
 
+-- a file is what is written of a well-formed program
+pub record FileOf (p : Program) (file : List ℕ) : Type 0 where
+  pub well-formed : WellFormed p
+  pub is-written : file ≡ written p
+
+-- a file is accepted exactly when it is that of some program; this is then its program, and it has at most 5,328 bytes
+pub record Acceptance (b : Lent) (a : Back) : Type 0 where
+  pub accepted : (a .refusal ≡ 0) ↔ ((p : Program) × FileOf p (b .file))
+  pub its-program : (p : Program) → FileOf p (b .file) → programIn b ≡ p
+  pub its-size : (p : Program) → FileOf p (b .file) → length (b .file) ≤ outputSize
+
 -- ---- demand 2: the sheet marks a standing exactly when some run, each return going back to its own call, arrives there
 
-pub record Demand2 (p : Program) (marks : List ℕ) : Type 0 where
+-- of a program, and what a full analysis of its file gives back
+pub record Demand2 (p : Program) (a : Back) : Type 0 where
   -- there is a byte for each number
-  pub bytes : length marks ≡ 16384
+  pub bytes : length (a .marks) ≡ 16384
   -- at the number of a configuration there is a 1 exactly when some run of the program arrives there
-  pub marked : {f n r q : ℕ} → InRange f n r q → (getD marks (number f n r q) 0 ≡ 1) ↔ Occurs p f n r q
+  pub marked : {f n r q : ℕ} → InRange f n r q → (getD (a .marks) (number f n r q) 0 ≡ 1) ↔ Occurs p f n r q
   -- no run arrives at a configuration that has no number
   pub numbered : {f n r q : ℕ} → Occurs p f n r q → InRange f n r q
   -- every other byte is 0
   pub others : (i : ℕ) → i < 16384
-      → ((getD marks i 0 ≡ 1) × Occurs p (routineOf i) (nodeOf i) (rootOf i) (stateOf i))
-      ⊎ ((getD marks i 0 ≡ 0) × (¬ (Occurs p (routineOf i) (nodeOf i) (rootOf i) (stateOf i))))
-  -- the violations are exactly the configurations that occur with a state that is rejecting now; they ascend
+      → ((getD (a .marks) i 0 ≡ 1) × Occurs p (routineOf i) (nodeOf i) (rootOf i) (stateOf i))
+      ⊎ ((getD (a .marks) i 0 ≡ 0) × (¬ (Occurs p (routineOf i) (nodeOf i) (rootOf i) (stateOf i))))
+  -- so many configurations are marked
+  pub configurations : a .values .configurations ≡ countSet (a .marks)
+  -- and so many violations are there: exactly the configurations that occur with a state that is rejecting now, ascending
+  pub violation-count : a .values .violations ≡ length (violations p)
   pub violating : (i : ℕ) → List·Memᴰ i (violations p) ↔ Violation p i
   pub ascending : Ascends 0 (violations p)
-  -- the violation that is given for a number is the least one not below it, or none where there is none
-  pub next : (low : ℕ) → First (Violation p) low (firstFrom low (violations p))
+
+-- the sentence that the user cares about: no run arrives in a rejecting state (paper: a forbidden state)
+abbrev pub Safe : Program → Type 0
+Safe p = (f n r q : ℕ) (below : List Activation) → Run p f n r below q → isRejecting (p .automaton) q ≡ false
+
+-- the violation that is given for a number: the least one not below it, or 4294967295 where there is none
+pub data Next (p : Program) (low : ℕ) : ℕ → Type 0 where
+  least : {v : ℕ} → Violation p v → low ≤ v → ((w : ℕ) → Violation p w → low ≤ w → v ≤ w) → Next p low v
+  nothing : ((w : ℕ) → Violation p w → w < low) → Next p low 4294967295
+
+-- the full analysis ends with nothing pending, its iterations are the takings of the procedure, and no configuration is taken more than 129 times
+pub record Procedure (p : Program) (a : Back) : Type 0 where
+  pub ends : analysis p .pending ≡ none-set
+  pub iterations : a .values .iterations ≡ length (takenIn p)
+  pub at-most : (i : ℕ) → times i (takenIn p) ≤ 129
 
 -- ---- demand 3: for every list of forward and inside-out repair calls, refused ones among them, the sheet is byte for byte the one worked afresh from the
 -- program as a plain reference model has it, and the refusals are the model's; and an edit that keeps a routine's pairs and calls leaves the other routines
 -- alone
 
--- of a file that the list begins with, and the calls
-pub record Demand3 (file : List ℕ) (cs : List Call) : Type 0 where
+-- of a file that the list begins with, the calls, and what they gave back
+pub record Demand3 (file : List ℕ) (cs : List Call) (gs : List Back) : Type 0 where
   -- after every call of the list the refusal's number, or that there is none, is the model's; the marks are the fresh ones of the model's program; and an
   -- accepted call has that program, written, at the start of its output and the length in its answer
-  pub seen : played cs (started file) ≡ bookPlayed cs (readFile file .program)
-  -- the routines that an accepted inside-out call says it has reanalyzed are those that the rules give for this edit of the program that the model had
-  -- before the call
-  pub reanalyzed : (ns : List ℕ) → Numbers cs ns (started file) → BookNumbers cs ns (readFile file .program)
+  pub seen : map seen gs ≡ bookPlayed cs (readFile file .program)
+  -- the routines that an inside-out call says it has reanalyzed are those that the rules give for this edit of the program that the model had before the call
+  pub reanalyzed : BookRoutines cs gs (readFile file .program)
   -- where an accepted edit leaves the edited routine with the same pairs, calling each other routine in the same states, no configuration of any other
   -- routine differs
   pub others : BookLeaves cs (readFile file .program)
+
+-- the keeping's call that does what a forward drop did: for the file that the drop wrote, on the marks that were lent to it
+abbrev pub keepingOf : Lent → Back → Lent
+keepingOf b a = record { file = wrote a; marks = b .marks; edit = []; output = []; work = b .work; from = 0 }

@@ -3,16 +3,20 @@ use Prim.Native.Nat.{ℕ}
 use mathlib.Core.Path.{_≡_}
 use mathlib.Core.Bool.{Bool, true, false}
 use mathlib.Core.List.{List}
+use lib.Dec.{eqb}
 use lib.ListN.{length}
+use Rattle.program.specs.Program.{Program}
 use Rattle.program.specs.Reading.{refusal, refusalLine, readFile}
 use Rattle.program.specs.declared.Verdict.{Verdict}
-use Rattle.writer.specs.Answers.{writeAnswer, outputAfter, refusal as writeRefusal, refusalLine as writeLine}
-use Rattle.analysis.specs.Answers.{checked, analyzeAnswer, marksAfter, workAfter, analyzeRefusal, analyzeLine, nextAnswer, nextRefusal, nextLine}
+use Rattle.writer.specs.Answers.{writeAnswer, outputAfter, refusal as writeRefusal, refusalLine as writeLine, writtenLength}
+use Rattle.analysis.specs.Answers.{checked, analyzeAnswer, marksAfter, workAfter, analyzeRefusal, analyzeLine, configurationCount, violationCount, iterationCount, nextAnswer, nextRefusal, nextLine, nextFound}
 use Rattle.writer.specs.declared.WriteAnswer.{WriteAnswer}
 use Rattle.analysis.specs.declared.AnalyzeAnswer.{AnalyzeAnswer}
 use Rattle.analysis.specs.declared.NextAnswer.{NextAnswer}
 use Rattle.prune.specs.Keeping.{Pruned}
+use Rattle.edit.specs.Editing.{wantedEdit}
 use Rattle.repair.specs.Repairs.{After, repaired}
+use Rattle.repair.specs.Reanalyzed.{insideOutNumber}
 
 pub data Entry : Type 0 where
   read : Entry
@@ -32,10 +36,24 @@ pub record Lent : Type 0 where
   pub work : List ℕ
   pub from : ℕ
 
--- what is given back: the refusal's number (0: none) and line, and the lent buffers that may change, as they are afterwards
+-- the numbers of an answer that only some functions have; 0 where the function has none of them, and on a refusal
+pub record Values : Type 0 where
+  -- how many bytes were written to the output
+  pub written : ℕ
+  -- the counts of configurations, of violations and of iterations (paper: standings, findings and takings)
+  pub configurations : ℕ
+  pub violations : ℕ
+  pub iterations : ℕ
+  -- the number of a violation; 4294967295 says that there is none
+  pub found : ℕ
+  -- the reanalyzed routines (paper: reopened), bit f for routine f
+  pub reanalyzed : ℕ
+
+-- what is given back: the refusal's number (0: none) and line, the other numbers, and the lent buffers that may change, as they are afterwards
 pub record Back : Type 0 where
   pub refusal : ℕ
   pub line : ℕ
+  pub values : Values
   pub marks : List ℕ
   pub output : List ℕ
   pub work : List ℕ
@@ -50,25 +68,61 @@ hasWork prune = true
 hasWork repair-forward = true
 hasWork repair-inside-out = true
 
--- ---- what each function promises of these; a buffer that it does not have is not changed
+-- ---- the numbers that a function has
+
+abbrev pub noValues : Values
+noValues = record { written = 0; configurations = 0; violations = 0; iterations = 0; found = 0; reanalyzed = 0 }
+
+abbrev pub counts : ℕ → ℕ → ℕ → Values
+counts c v i = record { written = 0; configurations = c; violations = v; iterations = i; found = 0; reanalyzed = 0 }
+
+abbrev pub finding : ℕ → Values
+finding i = record { written = 0; configurations = 0; violations = 0; iterations = 0; found = i; reanalyzed = 0 }
+
+abbrev pub repairing : ℕ → ℕ → Values
+repairing size routines = record { written = size; configurations = 0; violations = 0; iterations = 0; found = 0; reanalyzed = routines }
+
+abbrev pub writing : ℕ → Values
+writing size = repairing size 0
+
+-- ---- what each function promises: every number and every lent byte; a buffer that it does not have is not changed
 
 abbrev pub readBack : Lent → Verdict → Back
-readBack b v = record { refusal = refusal v; line = refusalLine v; marks = b .marks; output = b .output; work = b .work }
+readBack b v = record { refusal = refusal v; line = refusalLine v; values = noValues; marks = b .marks; output = b .output; work = b .work }
 
 abbrev pub writeBack : Lent → WriteAnswer → List ℕ → Back
-writeBack b r output = record { refusal = writeRefusal r; line = writeLine r; marks = b .marks; output = output; work = b .work }
+writeBack b r output = record { refusal = writeRefusal r; line = writeLine r; values = writing (writtenLength r); marks = b .marks; output = output; work = b .work }
 
 abbrev pub analyzeBack : Lent → AnalyzeAnswer → List ℕ → List ℕ → Back
-analyzeBack b r marks work = record { refusal = analyzeRefusal r; line = analyzeLine r; marks = marks; output = b .output; work = work }
+analyzeBack b r marks work =
+    record {
+      refusal = analyzeRefusal r;
+      line = analyzeLine r;
+      values = counts (configurationCount r) (violationCount r) (iterationCount r);
+      marks = marks;
+      output = b .output;
+      work = work;
+    }
 
 abbrev pub nextBack : Lent → NextAnswer → List ℕ → Back
-nextBack b r work = record { refusal = nextRefusal r; line = nextLine r; marks = b .marks; output = b .output; work = work }
+nextBack b r work = record { refusal = nextRefusal r; line = nextLine r; values = finding (nextFound r); marks = b .marks; output = b .output; work = work }
 
 abbrev pub pruneBack : Lent → Verdict → List ℕ → List ℕ → Back
-pruneBack b v marks work = record { refusal = refusal v; line = refusalLine v; marks = marks; output = b .output; work = work }
+pruneBack b v marks work = record { refusal = refusal v; line = refusalLine v; values = noValues; marks = marks; output = b .output; work = work }
 
-abbrev pub repairBack : After → Back
-repairBack a = record { refusal = writeRefusal (a .answer); line = writeLine (a .answer); marks = a .marks; output = a .output; work = a .work }
+abbrev pub repairBack : After → ℕ → Back
+repairBack a routines =
+    record {
+      refusal = writeRefusal (a .answer);
+      line = writeLine (a .answer);
+      values = repairing (writtenLength (a .answer)) routines;
+      marks = a .marks;
+      output = a .output;
+      work = a .work;
+    }
+
+abbrev pub programIn : Lent → Program
+programIn b = readFile (b .file) .program
 
 abbrev pub Gives : Entry → Lent → Back → Type 0
 Gives read b a = a ≡ readBack b (readFile (b .file) .verdict)
@@ -78,6 +132,8 @@ Gives analyze b a =
 Gives next-violation b a = a ≡ nextBack b (nextAnswer (b .file) (b .marks) (b .work) (b .from)) (workAfter (b .file) (b .marks) (b .work))
 Gives prune b a =
     (a ≡ pruneBack b (checked (b .file) (length (b .marks)) (length (b .work))) (a .marks) (workAfter (b .file) (b .marks) (b .work)))
-    × Pruned (checked (b .file) (length (b .marks)) (length (b .work))) (readFile (b .file) .program) (b .marks) (a .marks)
-Gives repair-forward b a = a ≡ repairBack (repaired (b .file) (b .marks) (b .edit) (b .output) (b .work))
-Gives repair-inside-out b a = a ≡ repairBack (repaired (b .file) (b .marks) (b .edit) (b .output) (b .work))
+    × Pruned (checked (b .file) (length (b .marks)) (length (b .work))) (programIn b) (b .marks) (a .marks)
+Gives repair-forward b a = a ≡ repairBack (repaired (b .file) (b .marks) (b .edit) (b .output) (b .work)) 0
+Gives repair-inside-out b a =
+    (a ≡ repairBack (repaired (b .file) (b .marks) (b .edit) (b .output) (b .work)) (a .values .reanalyzed))
+    × insideOutNumber (eqb (a .refusal) 0) (wantedEdit (programIn b) (b .edit)) (programIn b) (a .values .reanalyzed)

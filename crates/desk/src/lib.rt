@@ -7,14 +7,11 @@ use writer::WriteAnswer;
 ghost use mathlib.Core.Path.{_≡_};
 ghost use mathlib.Core.List.{[]};
 ghost use Prim.Native.Nat.{_<_, _^_};
-ghost use lib.Dec.{eqb};
-ghost use Rattle.program.specs.Reading.{refusal, refusalLine, readFile};
-ghost use Rattle.writer.specs.Answers.{writeAnswer, refusal as writeRefusal, refusalLine as writeLine, writtenLength};
-ghost use Rattle.analysis.specs.Answers.{analyzeAnswer, analyzeRefusal, analyzeLine, configurationCount, violationCount, iterationCount, nextAnswer, nextRefusal, nextLine, nextFound};
-ghost use Rattle.edit.specs.Editing.{wantedEdit};
-ghost use Rattle.repair.specs.Repairs.{repaired, plain, reanalyzed as reanalyzedNumber};
-ghost use Rattle.repair.specs.Calls.{insideOutNumber};
-ghost use Rattle.desk.specs.Entries.{Gives, read, write, analyze, next-violation, prune, repair-forward, repair-inside-out};
+ghost use Rattle.program.specs.Reading.{refusal, refusalLine};
+ghost use Rattle.writer.specs.Answers.{refusal as writeRefusal, refusalLine as writeLine, writtenLength};
+ghost use Rattle.analysis.specs.Answers.{analyzeRefusal, analyzeLine, configurationCount, violationCount, iterationCount, nextRefusal, nextLine, nextFound};
+ghost use Rattle.repair.specs.Repairs.{plain, reanalyzed as reanalyzedNumber};
+ghost use Rattle.desk.specs.Entries.{Gives, read, write, analyze, next-violation, prune, repair-forward, repair-inside-out, noValues, writing, counts, finding, repairing};
 
 fn refusal_of(v: Verdict) -> u32
     ensures { λ r. ⌜ r ≡ refusal v ⌝ }
@@ -40,7 +37,7 @@ fn line_of(v: Verdict) -> u32
 #[no_mangle]
 pub extern "C" fn palthrenni_read(file: &[u8], line: &mut u32) -> u32
     ensures { λ r. ⌜ Gives read (record { file = now (file .entry); marks = []; edit = []; output = []; work = []; from = 0 })
-        (record { refusal = r; line = now (line .exit); marks = []; output = []; work = [] }) ⌝ }
+        (record { refusal = r; line = now (line .exit); values = noValues; marks = []; output = []; work = [] }) ⌝ }
 {
     let r = reader::read(file);
     let v = r.verdict;
@@ -86,9 +83,8 @@ pub extern "C" fn palthrenni_write(
     line: &mut u32,
     written: &mut u32,
 ) -> u32
-    ensures back { λ r. ⌜ Gives write (record { file = now (file .entry); marks = []; edit = []; output = now (output .entry); work = []; from = 0 })
-        (record { refusal = r; line = now (line .exit); marks = []; output = now (output .exit); work = [] }) ⌝ }
-    ensures length { λ _. ⌜ now (written .exit) ≡ writtenLength (writeAnswer (now (file .entry)) (now (output .entry))) ⌝ }
+    ensures { λ r. ⌜ Gives write (record { file = now (file .entry); marks = []; edit = []; output = now (output .entry); work = []; from = 0 })
+        (record { refusal = r; line = now (line .exit); values = writing (now (written .exit)); marks = []; output = now (output .exit); work = [] }) ⌝ }
 {
     let a = writer::write(file, output);
     *line = write_line_of(a);
@@ -157,11 +153,15 @@ pub extern "C" fn palthrenni_analyze(
     violations: &mut u32,
     iterations: &mut u32,
 ) -> u32
-    ensures back { λ r. ⌜ Gives analyze (record { file = now (file .entry); marks = now (marks .entry); edit = []; output = []; work = now (work .entry); from = 0 })
-        (record { refusal = r; line = now (line .exit); marks = now (marks .exit); output = []; work = now (work .exit) }) ⌝ }
-    ensures counts { λ _. ⌜ (now (configurations .exit) ≡ configurationCount (analyzeAnswer (now (file .entry)) (now (marks .entry)) (now (work .entry))))
-        × (now (violations .exit) ≡ violationCount (analyzeAnswer (now (file .entry)) (now (marks .entry)) (now (work .entry))))
-        × (now (iterations .exit) ≡ iterationCount (analyzeAnswer (now (file .entry)) (now (marks .entry)) (now (work .entry)))) ⌝ }
+    ensures { λ r. ⌜ Gives analyze (record { file = now (file .entry); marks = now (marks .entry); edit = []; output = []; work = now (work .entry); from = 0 })
+        (record {
+          refusal = r;
+          line = now (line .exit);
+          values = counts (now (configurations .exit)) (now (violations .exit)) (now (iterations .exit));
+          marks = now (marks .exit);
+          output = [];
+          work = now (work .exit);
+        }) ⌝ }
 {
     let a = analysis::analyze(file, marks, work);
     *line = analyze_line_of(a);
@@ -213,9 +213,8 @@ pub extern "C" fn palthrenni_next_violation(
     line: &mut u32,
     found: &mut u32,
 ) -> u32
-    ensures back { λ r. ⌜ Gives next-violation (record { file = now (file .entry); marks = now (marks .entry); edit = []; output = []; work = now (work .entry); from = from })
-        (record { refusal = r; line = now (line .exit); marks = now (marks .entry); output = []; work = now (work .exit) }) ⌝ }
-    ensures number { λ _. ⌜ now (found .exit) ≡ nextFound (nextAnswer (now (file .entry)) (now (marks .entry)) (now (work .entry)) from) ⌝ }
+    ensures { λ r. ⌜ Gives next-violation (record { file = now (file .entry); marks = now (marks .entry); edit = []; output = []; work = now (work .entry); from = from })
+        (record { refusal = r; line = now (line .exit); values = finding (now (found .exit)); marks = now (marks .entry); output = []; work = now (work .exit) }) ⌝ }
 {
     let a = analysis::next_violation(file, marks, work, from as usize);
     *line = next_line_of(a);
@@ -232,7 +231,7 @@ pub extern "C" fn palthrenni_prune(
     line: &mut u32,
 ) -> u32
     ensures { λ r. ⌜ Gives prune (record { file = now (file .entry); marks = now (marks .entry); edit = []; output = []; work = now (work .entry); from = 0 })
-        (record { refusal = r; line = now (line .exit); marks = now (marks .exit); output = []; work = now (work .exit) }) ⌝ }
+        (record { refusal = r; line = now (line .exit); values = noValues; marks = now (marks .exit); output = []; work = now (work .exit) }) ⌝ }
 {
     let v = prune::prune(file, marks, work);
     *line = line_of(v);
@@ -251,9 +250,8 @@ pub extern "C" fn palthrenni_repair_forward(
     line: &mut u32,
     written: &mut u32,
 ) -> u32
-    ensures back { λ r. ⌜ Gives repair-forward (record { file = now (file .entry); marks = now (marks .entry); edit = now (edit .entry); output = now (output .entry); work = now (work .entry); from = 0 })
-        (record { refusal = r; line = now (line .exit); marks = now (marks .exit); output = now (output .exit); work = now (work .exit) }) ⌝ }
-    ensures length { λ _. ⌜ now (written .exit) ≡ writtenLength (repaired (now (file .entry)) (now (marks .entry)) (now (edit .entry)) (now (output .entry)) (now (work .entry)) .answer) ⌝ }
+    ensures { λ r. ⌜ Gives repair-forward (record { file = now (file .entry); marks = now (marks .entry); edit = now (edit .entry); output = now (output .entry); work = now (work .entry); from = 0 })
+        (record { refusal = r; line = now (line .exit); values = writing (now (written .exit)); marks = now (marks .exit); output = now (output .exit); work = now (work .exit) }) ⌝ }
 {
     let a = repair::repair_forward(file, marks, edit, output, work);
     *line = write_line_of(a);
@@ -311,10 +309,15 @@ pub extern "C" fn palthrenni_repair_inside_out(
     written: &mut u32,
     reanalyzed: &mut u32,
 ) -> u32
-    ensures back { λ r. ⌜ Gives repair-inside-out (record { file = now (file .entry); marks = now (marks .entry); edit = now (edit .entry); output = now (output .entry); work = now (work .entry); from = 0 })
-        (record { refusal = r; line = now (line .exit); marks = now (marks .exit); output = now (output .exit); work = now (work .exit) }) ⌝ }
-    ensures length { λ _. ⌜ now (written .exit) ≡ writtenLength (repaired (now (file .entry)) (now (marks .entry)) (now (edit .entry)) (now (output .entry)) (now (work .entry)) .answer) ⌝ }
-    ensures routines { λ r. ⌜ insideOutNumber (eqb r 0) (wantedEdit (readFile (now (file .entry)) .program) (now (edit .entry))) (readFile (now (file .entry)) .program) (now (reanalyzed .exit)) ⌝ }
+    ensures { λ r. ⌜ Gives repair-inside-out (record { file = now (file .entry); marks = now (marks .entry); edit = now (edit .entry); output = now (output .entry); work = now (work .entry); from = 0 })
+        (record {
+          refusal = r;
+          line = now (line .exit);
+          values = repairing (now (written .exit)) (now (reanalyzed .exit));
+          marks = now (marks .exit);
+          output = now (output .exit);
+          work = now (work .exit);
+        }) ⌝ }
 {
     let a = repair::repair_inside_out(file, marks, edit, output, work);
     *line = repair_line_of(a);

@@ -1,4 +1,3 @@
-pub mod Booked
 pub mod Kept
 pub mod Linked
 pub mod Making

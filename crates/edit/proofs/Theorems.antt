@@ -14,13 +14,11 @@ use Rattle.program.proofs.Theorems.{read-again}
 use Rattle.edit.specs.Edits.{edgeOfStep}
 use Rattle.edit.specs.EditLines.{readEdit}
 use Rattle.edit.specs.Editing.{inserted, without, withEdges, editedProgram, wantedEdit, Applies}
-use Rattle.edit.specs.Book.{bookEdges, sorted, bookProgram}
 use Rattle.edit.specs.declared.Label.{Label}
 use Rattle.edit.specs.declared.Step.{Step}
 use Rattle.edit.specs.declared.Edit.{Edit}
 use Rattle.edit.specs.declared.Edit.the-variants.{Add, Drop, Replace}
 use Rattle.edit.specs.declared.EditRead.the-variants.{Read}
-use Rattle.edit.proofs.Booked.{read-sorted, judged-sorted, sorted-book}
 use Rattle.edit.proofs.Kept.{edited-well-formed}
 use Rattle.edit.proofs.Refusing.{read-fits, judged-applies, drop-not-refused, add-not-refused, room-left}
 
@@ -75,13 +73,3 @@ add-ready s p w a = (edge-bytes p w (edgeOfStep s) (a .old-fits), room-left s (p
 
 pub drop-ready : (s : Step) (p : Program) → WellFormed p → Applies (Drop s) p → Bytes (edgeFrame (edgeOfStep s))
 drop-ready s p w a = edge-bytes p w (edgeOfStep s) (a .old-fits)
-
--- The book's set of edges, in whatever order, meets the refusals that its program meets.
-pub wanted-sorted : (b : Program) (line : List ℕ) → wantedEdit (bookProgram b) line ≡ wantedEdit b line
-unfolding wantedEdit
-wanted-sorted b line = rw (read-sorted b (sorted (b .edges)) line) (judged-sorted (readEdit b line) (b .edges))
-
--- The program of the book after an edit is the book's program, edited.
-pub booked : (b : Program) (e : Edit) → bookProgram (withEdges b (bookEdges e (b .edges))) ≡ editedProgram e (bookProgram b)
-unfolding editedProgram
-booked b e = ap (withEdges b) (sorted-book e (b .edges))

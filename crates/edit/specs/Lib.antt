@@ -2,4 +2,3 @@ pub mod Edits
 pub mod EditLines
 pub mod Editing
 pub mod Tables
-pub mod Book

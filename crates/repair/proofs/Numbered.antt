@@ -18,8 +18,7 @@ use Rattle.edit.specs.declared.Edit.{Edit}
 use Rattle.edit.specs.declared.EditRead.{EditRead}
 use Rattle.edit.specs.declared.EditRead.the-variants.{Read, Refused}
 use Rattle.repair.specs.Repairs.{measuredBy}
-use Rattle.repair.specs.Reanalyzed.{ReanalyzedBy}
-use Rattle.repair.specs.Calls.{insideOutNumber}
+use Rattle.repair.specs.Reanalyzed.{ReanalyzedBy, insideOutNumber}
 use Rattle.repair.specs.Parts.{FlagsOf}
 use Rattle.repair.proofs.Numbers.{wanted-number, refused-positive}
 

@@ -24,7 +24,7 @@ ghost use Rattle.program.specs.Reading.{readFile};
 ghost use Rattle.writer.specs.Answers.{refusal};
 ghost use Rattle.edit.specs.declared.EditRead.the-variants.{Read};
 ghost use Rattle.repair.specs.Repairs.{After, measuredBy, editedBy, wantedBy, repaired, plain, reanalyzed};
-ghost use Rattle.repair.specs.Calls.{insideOutNumber};
+ghost use Rattle.repair.specs.Reanalyzed.{insideOutNumber};
 
 // So many bytes were written, and these routines were reanalyzed, a bit each; or nothing was done, and a refusal says why, at
 // which line.

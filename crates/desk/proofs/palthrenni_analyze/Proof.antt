@@ -1,4 +1,4 @@
-use Rattle.desk.proofs.Backs.{same-back}
+use Rattle.desk.proofs.Backs.{same-back, same-counts}
 use Rattle.desk.proofs.Small.{analyze-small}
 use Rattle.analysis.specs.Answers.{analyzeRefusal, analyzeLine, configurationCount, violationCount, iterationCount}
 use native.Mathlib.Omega.{arith}
@@ -46,14 +46,10 @@ same-length-2 c = search needs
 returns : tie.Need-returns
 returns c =
     let e = c .before .before .before .before .before .before .before .before .before .analyze .ensures in
-    let a = e .0 in (
-      same-back (c .analyze-refusal-of .ensures ∙ ap analyzeRefusal a) (c .before .before .before .before .analyze-line-of .ensures ∙ ap analyzeLine a) (e .1) refl (e .2),
-      (
-        c .before .before .before .configurations-of .ensures ∙ ap configurationCount a,
-        c .before .before .violations-of .ensures ∙ ap violationCount a,
-        c .before .iterations-of .ensures ∙ ap iterationCount a,
-      ),
-    )
+    let a = e .0 in
+    same-back (c .analyze-refusal-of .ensures ∙ ap analyzeRefusal a) (c .before .before .before .before .analyze-line-of .ensures ∙ ap analyzeLine a)
+    (same-counts (c .before .before .before .configurations-of .ensures ∙ ap configurationCount a) (c .before .before .violations-of .ensures ∙ ap violationCount a) (c .before .iterations-of .ensures ∙ ap iterationCount a))
+    (e .1) refl (e .2)
 
 pub palthrenni-analyze-spec : {M : Type 1} → statement M
 palthrenni-analyze-spec =

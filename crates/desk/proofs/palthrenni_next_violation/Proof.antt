@@ -1,5 +1,6 @@
 use Rattle.desk.proofs.Backs.{same-back}
 use Rattle.desk.proofs.Small.{next-small}
+use Rattle.desk.specs.Entries.{finding}
 use Rattle.analysis.specs.Answers.{nextRefusal, nextLine, nextFound}
 use native.Mathlib.Omega.{arith}
 use mathlib.Core.Path.{refl, ap, _∙_}
@@ -31,10 +32,9 @@ same-length c = search needs
 returns : tie.Need-returns
 returns c =
     let e = c .before .before .before .before .before .next-violation .ensures in
-    let a = e .0 in (
-      same-back (c .next-refusal-of .ensures ∙ ap nextRefusal a) (c .before .before .next-line-of .ensures ∙ ap nextLine a) refl refl (e .1),
-      c .before .found-of .ensures ∙ ap nextFound a,
-    )
+    let a = e .0 in
+    same-back (c .next-refusal-of .ensures ∙ ap nextRefusal a) (c .before .before .next-line-of .ensures ∙ ap nextLine a)
+    (ap finding (c .before .found-of .ensures ∙ ap nextFound a)) refl refl (e .1)
 
 pub palthrenni-next-violation-spec : {M : Type 1} → statement M
 palthrenni-next-violation-spec =

@@ -25,7 +25,7 @@ same-length-2 c = search needs
 returns : tie.Need-returns
 returns c =
     let e = c .before .before .before .before .before .before .prune .ensures in
-    (same-back (c .refusal-of .ensures ∙ ap refusal (e .0)) (c .before .line-of .ensures ∙ ap refusalLine (e .0)) refl refl (e .2), e .1)
+    (same-back (c .refusal-of .ensures ∙ ap refusal (e .0)) (c .before .line-of .ensures ∙ ap refusalLine (e .0)) refl refl refl (e .2), e .1)
 
 pub palthrenni-prune-spec : {M : Type 1} → statement M
 palthrenni-prune-spec =

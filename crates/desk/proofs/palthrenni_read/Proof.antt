@@ -21,7 +21,7 @@ refusal-of-requires c κs = search needs
 returns : tie.Need-returns
 returns c =
     let e = c .before .before .read .ensures in
-    same-back (c .refusal-of .ensures ∙ ap (λ (o : Outcome). refusal (o .verdict)) e) (c .before .line-of .ensures ∙ ap (λ (o : Outcome). refusalLine (o .verdict)) e) refl refl refl
+    same-back (c .refusal-of .ensures ∙ ap (λ (o : Outcome). refusal (o .verdict)) e) (c .before .line-of .ensures ∙ ap (λ (o : Outcome). refusalLine (o .verdict)) e) refl refl refl refl
 
 pub palthrenni-read-spec : {M : Type 1} → statement M
 palthrenni-read-spec =

@@ -1,4 +1,4 @@
-use Rattle.desk.proofs.Backs.{same-back}
+use Rattle.desk.proofs.Backs.{same-back, same-size}
 use Rattle.desk.proofs.Small.{repair-small}
 use Rattle.writer.specs.Answers.{refusal, refusalLine, writtenLength}
 use Rattle.repair.specs.Repairs.{After}
@@ -38,10 +38,10 @@ same-length-3 c = search needs
 returns : tie.Need-returns
 returns c =
     let x = c .before .before .before .before .before .before .before .before .before .repair-forward .ensures in
-    let e = ap (λ (a : After). a .answer) x in (
-      same-back (c .write-refusal-of .ensures ∙ ap refusal e) (c .before .before .write-line-of .ensures ∙ ap refusalLine e) (ap (λ (a : After). a .marks) x) (ap (λ (a : After). a .output) x) (ap (λ (a : After). a .work) x),
-      c .before .written-of .ensures ∙ ap writtenLength e,
-    )
+    let e = ap (λ (a : After). a .answer) x in
+    same-back (c .write-refusal-of .ensures ∙ ap refusal e) (c .before .before .write-line-of .ensures ∙ ap refusalLine e)
+    (same-size 0 (c .before .written-of .ensures ∙ ap writtenLength e))
+    (ap (λ (a : After). a .marks) x) (ap (λ (a : After). a .output) x) (ap (λ (a : After). a .work) x)
 
 pub palthrenni-repair-forward-spec : {M : Type 1} → statement M
 palthrenni-repair-forward-spec =

@@ -1,4 +1,4 @@
-use Rattle.desk.proofs.Backs.{same-back}
+use Rattle.desk.proofs.Backs.{same-back, same-size}
 use Rattle.desk.proofs.Small.{repair-small}
 use Rattle.writer.specs.Answers.{refusal, refusalLine, writtenLength}
 use Rattle.repair.specs.Repairs.{After}
@@ -42,11 +42,10 @@ returns : tie.Need-returns
 returns c =
     let x = c .before .before .before .before .before .before .before .before .before .before .repair-inside-out .ensures in
     let e = ap (λ (a : After). a .answer) (x .0) in (
-      same-back (c .repair-refusal-of .ensures ∙ ap refusal e) (c .before .before .before .repair-line-of .ensures ∙ ap refusalLine e) (ap (λ (a : After). a .marks) (x .0)) (ap (λ (a : After). a .output) (x .0)) (ap (λ (a : After). a .work) (x .0)),
-      (
-        c .before .before .repair-written-of .ensures ∙ ap writtenLength e,
-        rw (c .repair-refusal-of .ensures, c .before .reanalyzed-of .ensures) (x .1),
-      ),
+      same-back (c .repair-refusal-of .ensures ∙ ap refusal e) (c .before .before .before .repair-line-of .ensures ∙ ap refusalLine e)
+          (same-size _ (c .before .before .repair-written-of .ensures ∙ ap writtenLength e))
+          (ap (λ (a : After). a .marks) (x .0)) (ap (λ (a : After). a .output) (x .0)) (ap (λ (a : After). a .work) (x .0)),
+      rw (c .repair-refusal-of .ensures, c .before .reanalyzed-of .ensures) (x .1),
     )
 
 pub palthrenni-repair-inside-out-spec : {M : Type 1} → statement M

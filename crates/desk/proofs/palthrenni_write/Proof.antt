@@ -1,4 +1,4 @@
-use Rattle.desk.proofs.Backs.{same-back}
+use Rattle.desk.proofs.Backs.{same-back, same-size}
 use Rattle.desk.proofs.Small.{answer-small}
 use Rattle.writer.specs.Answers.{refusal, refusalLine, writtenLength}
 use native.Mathlib.Omega.{arith}
@@ -30,10 +30,9 @@ same-length c = search needs
 
 returns : tie.Need-returns
 returns c =
-    let e = c .before .before .before .before .before .write .ensures in (
-      same-back (c .write-refusal-of .ensures ∙ ap refusal (e .0)) (c .before .before .write-line-of .ensures ∙ ap refusalLine (e .0)) refl (e .1) refl,
-      c .before .written-of .ensures ∙ ap writtenLength (e .0),
-    )
+    let e = c .before .before .before .before .before .write .ensures in
+    same-back (c .write-refusal-of .ensures ∙ ap refusal (e .0)) (c .before .before .write-line-of .ensures ∙ ap refusalLine (e .0))
+    (same-size 0 (c .before .written-of .ensures ∙ ap writtenLength (e .0))) refl (e .1) refl
 
 pub palthrenni-write-spec : {M : Type 1} → statement M
 palthrenni-write-spec =

@@ -10,24 +10,24 @@ use borrow.Author.Tests.{ltb-true, ltb-false, leb-true, lt-ltb, le-leb}
 use Rattle.program.specs.Program.{Edge, Program}
 use Rattle.program.specs.Frames.{edgeKey}
 use Rattle.program.specs.WellFormed.{All, Ascending, WellFormed}
 use Rattle.edit.specs.Edits.{oldEdge, newEdge}
 use Rattle.edit.specs.EditLines.{editFrom, readEdit}
-use Rattle.edit.specs.Editing.{sameEdge, hasEdge, without, inserted, withEdges, editRefusal, editedEdges, wantedBy}
-use Rattle.edit.specs.Book.{bookEdges, sorted, bookProgram}
+use Rattle.edit.specs.Editing.{sameEdge, hasEdge, without, inserted, withEdges, editRefusal, editedEdges, editedProgram, wantedBy, wantedEdit}
+use Rattle.demands.specs.Book.{bookEdges, sorted, bookProgram}
 use Rattle.edit.specs.declared.Edit.{Edit}
 use Rattle.edit.specs.declared.Edit.the-variants.{Add, Drop, Replace}
 use Rattle.edit.specs.declared.EditRead.{EditRead}
 use Rattle.edit.specs.declared.EditRead.the-variants.{Read, Refused}
 use Rattle.edit.proofs.Kept.{has-inserted, length-inserted, all-inserted, all-without}
 
 -- ---- sorting changes nothing but the order
 
-pub has-sorted : (d : Edge) (es : List Edge) → hasEdge d (sorted es) ≡ hasEdge d es
+has-sorted : (d : Edge) (es : List Edge) → hasEdge d (sorted es) ≡ hasEdge d es
 unfolding hasEdge sorted
 has-sorted d [] = refl
 has-sorted d (e ∷ es) = has-inserted d e (sorted es) ∙ rw (has-sorted d es)
 
-pub length-sorted : (es : List Edge) → length (sorted es) ≡ length es
+length-sorted : (es : List Edge) → length (sorted es) ≡ length es
 unfolding sorted
 length-sorted [] = refl
 length-sorted (e ∷ es) = length-inserted e (sorted es) ∙ ap suc (length-sorted es)
@@ -37,18 +37,18 @@ refusal-sorted (Add s) es = rw (has-sorted (newEdge (Add s)) es, length-sorted e
 refusal-sorted (Drop s) es = rw (has-sorted (oldEdge (Drop s)) es)
 refusal-sorted (Replace s l) es = rw (has-sorted (oldEdge (Replace s l)) es, has-sorted (newEdge (Replace s l)) es)
 
-pub judged-sorted : (r : EditRead) (es : List Edge) → wantedBy r (sorted es) ≡ wantedBy r es
+judged-sorted : (r : EditRead) (es : List Edge) → wantedBy r (sorted es) ≡ wantedBy r es
 judged-sorted (Read e) es = rw (refusal-sorted e es)
 judged-sorted (Refused n) es = refl
 
 -- a line is read by the ranges alone
-pub read-sorted : (b : Program) (es : List Edge) (line : List ℕ) → readEdit (withEdges b es) line ≡ readEdit b line
+read-sorted : (b : Program) (es : List Edge) (line : List ℕ) → readEdit (withEdges b es) line ≡ readEdit b line
 unfolding readEdit editFrom
 read-sorted b es line = refl
 
 -- ---- ascending edges are sorted
 
-pub sorted-ascending : (lo : ℕ) (es : List Edge) → Ascending lo (map edgeKey es) → sorted es ≡ es
+sorted-ascending : (lo : ℕ) (es : List Edge) → Ascending lo (map edgeKey es) → sorted es ≡ es
 unfolding Ascending inserted sorted
 sorted-ascending lo [] s = refl
 sorted-ascending lo (e ∷ es) s = rw (sorted-ascending (edgeKey e) es (s .1)) (first es (s .1))
@@ -131,7 +131,7 @@ without-other e d (x ∷ xs) h s = go (ltb (edgeKey d) (edgeKey x)) refl (withou
         rw h (sym (inserted-first d (without e (x ∷ xs)) (all-without above e (x ∷ xs) all)))
     go false i r = later (sameEdge e x) i r
 
-pub sorted-without : (e : Edge) (es : List Edge) → sorted (without e es) ≡ without e (sorted es)
+sorted-without : (e : Edge) (es : List Edge) → sorted (without e es) ≡ without e (sorted es)
 unfolding without sorted
 sorted-without e [] = refl
 sorted-without e (d ∷ ds) = go (sameEdge e d) refl (sorted-without e ds)
@@ -142,8 +142,20 @@ sorted-without e (d ∷ ds) = go (sameEdge e d) refl (sorted-without e ds)
     go false h r = ap (inserted d) r ∙ sym (without-other e d (sorted ds) h (sorted-sorted ds))
 
 -- the edges of a book after an edit
-pub sorted-book : (e : Edit) (es : List Edge) → sorted (bookEdges e es) ≡ editedEdges e (sorted es)
+sorted-book : (e : Edit) (es : List Edge) → sorted (bookEdges e es) ≡ editedEdges e (sorted es)
 unfolding sorted
 sorted-book (Add s) es = refl
 sorted-book (Drop s) es = sorted-without (oldEdge (Drop s)) es
 sorted-book (Replace s l) es = ap (inserted (newEdge (Replace s l))) (sorted-without (oldEdge (Replace s l)) es)
+
+-- ---- what is proved of the book
+
+-- the book's set of edges, in whatever order, meets the refusals that its program meets
+pub wanted-sorted : (b : Program) (line : List ℕ) → wantedEdit (bookProgram b) line ≡ wantedEdit b line
+unfolding wantedEdit
+wanted-sorted b line = rw (read-sorted b (sorted (b .edges)) line) (judged-sorted (readEdit b line) (b .edges))
+
+-- the program of the book after an edit is the book's program, edited
+pub booked : (b : Program) (e : Edit) → bookProgram (withEdges b (bookEdges e (b .edges))) ≡ editedProgram e (bookProgram b)
+unfolding editedProgram
+booked b e = ap (withEdges b) (sorted-book e (b .edges))

@@ -1,0 +1,135 @@
+-- Lists of repair calls: what each call is lent and gives back, one after the other, and what the reference model says of the list.
+use Prim.Native.Nat.{ℕ}
+use mathlib.Core.Path.{_≡_}
+use mathlib.Core.Logic.{_↔_, _≢_}
+use mathlib.Core.Bool.{cond}
+use mathlib.Core.List.{List, [], _∷_}
+use lib.Dec.{eqb}
+use lib.ListN.{length, take}
+use Rattle.program.specs.Program.{Program}
+use Rattle.program.specs.Reading.{readFile}
+use Rattle.program.specs.Writing.{written}
+use Rattle.reach.specs.Runs.{Occurs}
+use Rattle.reach.specs.Reachable.{Calls}
+use Rattle.reach.specs.Marks.{freshMarks}
+use Rattle.edit.specs.Edits.{oldEdge}
+use Rattle.edit.specs.Editing.{wantedEdit}
+use Rattle.edit.specs.declared.EditRead.{EditRead}
+use Rattle.edit.specs.declared.EditRead.the-variants.{Read, Refused}
+use Rattle.repair.specs.Reanalyzed.{insideOutNumber}
+use Rattle.desk.specs.Entries.{Entry, repair-forward, repair-inside-out, Lent, Back, Gives}
+use Rattle.demands.specs.Book.{bookRefusal, bookAfter, bookProgram}
+
+-- ---- the calls, and what came back
+
+-- the repair that is called
+pub data Repair : Type 0 where
+  forward : Repair
+  inside-out : Repair
+
+-- a call: the edit line, the output and the working buffer may be anything, of any length
+pub record Call : Type 0 where
+  pub repair : Repair
+  pub line : List ℕ
+  pub output : List ℕ
+  pub work : List ℕ
+
+-- the function that a call names
+abbrev pub entry : Repair → Entry
+entry forward = repair-forward
+entry inside-out = repair-inside-out
+
+-- what the desk keeps for the next call: a file and marks
+pub record Desk : Type 0 where
+  pub file : List ℕ
+  pub marks : List ℕ
+
+-- at the start: an accepted file and its fresh marks
+abbrev pub started : List ℕ → Desk
+started file = record { file = file; marks = freshMarks (readFile file .program) }
+
+-- what is lent to a call
+abbrev pub lentTo : Desk → Call → Lent
+lentTo d c = record { file = d .file; marks = d .marks; edit = c .line; output = c .output; work = c .work; from = 0 }
+
+-- what a call wrote: so many bytes at the start of its output
+abbrev pub wrote : Back → List ℕ
+wrote a = take (a .values .written) (a .output)
+
+-- afterwards the marks are as the call left them, and the file is a copy of what an accepted call wrote; a refused one leaves the file
+abbrev pub after : Desk → Back → Desk
+after d a = record { file = cond (eqb (a .refusal) 0) (wrote a) (d .file); marks = a .marks }
+
+-- this is what the calls of a list gave back: each what its function promises for what was lent to it
+unfoldable pub Gave : List Call → List Back → Desk → Type 0
+Gave [] [] d = Unit
+Gave [] (a ∷ gs) d = ⊥
+Gave (c ∷ cs) [] d = ⊥
+Gave (c ∷ cs) (a ∷ gs) d = Gives (entry (c .repair)) (lentTo d c) a × Gave cs gs (after d a)
+
+-- ---- what is seen, and what the reference model says is seen
+
+-- after a call: the refusal's number (0: none), the marks, how many bytes were written, and these bytes
+pub record Seen : Type 0 where
+  pub refused : ℕ
+  pub marks : List ℕ
+  pub size : ℕ
+  pub wrote : List ℕ
+
+abbrev pub seen : Back → Seen
+seen a = record { refused = a .refusal; marks = a .marks; size = a .values .written; wrote = wrote a }
+
+-- the model is fed the line and the lengths of output and working buffer
+abbrev pub bookCall : Program → Call → Program
+bookCall b c = bookAfter b (c .line) (length (c .output)) (length (c .work))
+
+abbrev pub bookRefuses : Program → Call → ℕ
+bookRefuses b c = bookRefusal b (c .line) (length (c .output)) (length (c .work))
+
+abbrev pub writtenWhen : ℕ → Program → List ℕ
+writtenWhen n p = cond (eqb n 0) (written p) []
+
+-- its refusal, the fresh marks of its program after the call, and that program, written
+abbrev pub foreseen : ℕ → Program → Seen
+foreseen n p = record { refused = n; marks = freshMarks p; size = length (writtenWhen n p); wrote = writtenWhen n p }
+
+unfoldable pub bookPlayed : List Call → Program → List Seen
+bookPlayed [] b = []
+bookPlayed (c ∷ cs) b = foreseen (bookRefuses b c) (bookProgram (bookCall b c)) ∷ bookPlayed cs (bookCall b c)
+
+-- ---- the reanalyzed routines (paper: reopened)
+
+-- by the rules, for the edit that a line says for the program that the model has; 0 where the call is refused, and for a forward one
+abbrev pub RoutinesBy : Repair → ℕ → Program → List ℕ → ℕ → Type 0
+RoutinesBy forward n b line routines = routines ≡ 0
+RoutinesBy inside-out n b line routines = insideOutNumber (eqb n 0) (wantedEdit b line) (bookProgram b) routines
+
+-- so for each call of a list, in the program that the model had before the call
+unfoldable pub BookRoutines : List Call → List Back → Program → Type 0
+BookRoutines [] [] b = Unit
+BookRoutines [] (a ∷ gs) b = ⊥
+BookRoutines (c ∷ cs) [] b = ⊥
+BookRoutines (c ∷ cs) (a ∷ gs) b = RoutinesBy (c .repair) (bookRefuses b c) b (c .line) (a .values .reanalyzed) × BookRoutines cs gs (bookCall b c)
+
+-- ---- what edits leave alone
+
+-- the edit of a call that is not refused
+abbrev pub editOf : ℕ → EditRead → EditRead
+editOf n w = cond (eqb n 0) w (Refused n)
+
+-- routine f has the same pairs in both programs, and calls each other routine in the same states
+pub record KeepsRoutine (f : ℕ) (p p′ : Program) : Type 0 where
+  pub pairs : (r q : ℕ) → Occurs p f 1 r q ↔ Occurs p′ f 1 r q
+  pub calls : (g s : ℕ) → g ≢ f → Calls p (Occurs p) f g s ↔ Calls p′ (Occurs p′) f g s
+
+-- where this edit leaves the edited routine with the same pairs, calling each other routine in the same states, no configuration of another routine differs
+abbrev pub LeavesOthers : EditRead → Program → Program → Type 0
+LeavesOthers (Read e) p p′ =
+    KeepsRoutine (oldEdge e .routine) p p′ → (g n r q : ℕ) → g ≢ oldEdge e .routine → Occurs p g n r q ↔ Occurs p′ g n r q
+LeavesOthers (Refused n) p p′ = Unit
+
+-- so for each call of a list, in the model's program before the call and after it; a refused call is no edit
+unfoldable pub BookLeaves : List Call → Program → Type 0
+BookLeaves [] b = Unit
+BookLeaves (c ∷ cs) b =
+    LeavesOthers (editOf (bookRefuses b c) (wantedEdit b (c .line))) (bookProgram b) (bookProgram (bookCall b c)) × BookLeaves cs (bookCall b c)
