@@ -26,7 +26,7 @@ use Rattle.repair.specs.Repairs.{After, untouched, repairedTo, wantedBy, repair
 use Rattle.repair.specs.Reanalyzed.{insideOutNumber}
 use Rattle.repair.proofs.Numbers.{wanted-number}
 use Rattle.desk.specs.Entries.{Back, repairBack, Gives}
-use Rattle.demands.specs.Book.{bookEdges, bookRefusal, bookEdited, bookAfter, bookProgram, editReadRefusal}
+use Rattle.demands.specs.Book.{bookEdges, bookRefusal, bookEdited, unlessRefused, bookAfter, bookProgram, editReadRefusal}
 use Rattle.demands.specs.Lists.{Repair, forward, inside-out, Call, entry, Desk, started, lentTo, after, Gave, Seen, seen, foreseen, bookCall, bookRefuses, bookPlayed, RoutinesBy, BookRoutines, editOf, LeavesOthers, BookLeaves}
 use Rattle.demands.specs.Demands.{Demand3}
 use Rattle.demands.proofs.Booked.{book-well-formed, wanted-sorted, booked}
@@ -91,7 +91,7 @@ module _ (d : Desk) (b : Program) (g : Agrees d b) (k : ℕ) where
       rw t (goes e output (wanted-applies p line e h))
   wanted (read.Refused n) line output work h = stays n 0 output work (ne-eqb n 0 (λ z. absurd (omega (arith, wanted-number p line n h))))
 
-  zero-when : (w : EditRead) (line : List ℕ) → wantedEdit p line ≡ w → cond (eqb (editReadRefusal w) 0) (bookEdited w b) b ≡ bookEdited w b
+  zero-when : (w : EditRead) (line : List ℕ) → wantedEdit p line ≡ w → unlessRefused (editReadRefusal w) (bookEdited w b) b ≡ bookEdited w b
   zero-when (read.Read e) line h = refl
   zero-when (read.Refused n) line h = rw (ne-eqb n 0 (λ z. absurd (omega (arith, wanted-number p line n h))))
 
@@ -109,7 +109,7 @@ module _ (d : Desk) (b : Program) (g : Agrees d b) (k : ℕ) where
       go : (t u : Bool) (w : EditRead) → wantedEdit p (c .line) ≡ w
           → Step d (repairBack (repairedBy (cond t (verdict.Refused 10 0) (cond u verdict.Accepted (verdict.Refused 11 0))) p (d .marks) (c .line) (c .output) (c .work)) k)
           (cond t 10 (cond u (editReadRefusal w) 11))
-          (cond (eqb (cond t 10 (cond u (editReadRefusal w) 11)) 0) (bookEdited w b) b)
+          (unlessRefused (cond t 10 (cond u (editReadRefusal w) 11)) (bookEdited w b) b)
       go true u w h = stays 10 0 (c .output) (c .work) refl
       go false false w h = stays 11 0 (c .output) (c .work) refl
       go false true w h = rw (h, zero-when w (c .line) h) (wanted w (c .line) (c .output) (c .work) h)

@@ -34,8 +34,11 @@ abbrev pub bookEdited : EditRead → Program → Program
 bookEdited (Read e) b = withEdges b (bookEdges e (b .edges))
 bookEdited (Refused n) b = b
 
+abbrev pub unlessRefused : ℕ → Program → Program → Program
+unlessRefused n edited b = cond (eqb n 0) edited b
+
 unfoldable pub bookAfter : Program → List ℕ → ℕ → ℕ → Program
-bookAfter b line output work = cond (eqb (bookRefusal b line output work) 0) (bookEdited (wantedEdit b line) b) b
+bookAfter b line output work = unlessRefused (bookRefusal b line output work) (bookEdited (wantedEdit b line) b) b
 
 -- the program of a book: its edges in ascending order
 unfoldable pub sorted : List Edge → List Edge
