@@ -36,7 +36,7 @@ use Rattle.edit.specs.declared.EditRead.{EditRead}
 use Rattle.edit.specs.declared.EditRead.the-variants as read
 use Rattle.edit.proofs.Theorems.{applied-well-formed, added-is, dropped-is, replaced-is, relabelled, drop-applies, add-applies}
 use Rattle.repair.specs.Repairs.{After, measuredBy, untouched, foreign, repairedTo, editedBy, wantedBy, repairedBy, measured, repaired}
-use Rattle.repair.specs.Parts.{Repaired}
+use Rattle.repair.specs.Parts.{Keeps, Repaired}
 use Rattle.repair.proofs.Steps.{add-grown, drop-within, drop-initial}
 
 -- ---- the program, and the marks
@@ -62,16 +62,20 @@ module _ (s : Step) (p p′ : Program) (w : WellFormed p) where
     pub dropped-well-formed : WellFormed p′
     dropped-well-formed = subst WellFormed (sym is-dropped) (applied-well-formed (Drop s) p w a)
 
-    pub dropped : {old marks work : List ℕ} → old ≡ freshMarks p → Shows (Kept p′ old) marks × (work ≡ none-set) → Repaired (Drop s) p p′ marks work
-    dropped {old} {marks} {work} o h =
-        record {
-          is-edited = is-dropped;
-          own = rw is-dropped (kept-fresh (editedProgram (Drop s) p) p (applied-well-formed (Drop s) p w a) w (drop-within s p w) (drop-initial s p w) marks shows);
-          clear = h .1;
-        }
-      where
-        shows : Shows (Kept (editedProgram (Drop s) p) (freshMarks p)) marks
-        shows = subst (λ (x : Program). Shows (Kept x (freshMarks p)) marks) is-dropped (subst (λ (l : List ℕ). Shows (Kept p′ l) marks) o (h .0))
+    pub keeps : {old marks work : List ℕ} → Shows (Kept p′ old) marks × (work ≡ none-set) → Keeps s p p′ old marks work
+    keeps h = record { is-edited = is-dropped; kept = h .0; clear = h .1 }
+
+  -- what is kept of the program's own marks is the edited program's own
+  pub dropped : Applies (Drop s) p → {old marks work : List ℕ} → old ≡ freshMarks p → Keeps s p p′ old marks work → Repaired (Drop s) p p′ marks work
+  dropped a {old} {marks} {work} o k =
+      record {
+        is-edited = k .is-edited;
+        own = rw (k .is-edited) (kept-fresh (editedProgram (Drop s) p) p (applied-well-formed (Drop s) p w a) w (drop-within s p w) (drop-initial s p w) marks shows);
+        clear = k .clear;
+      }
+    where
+      shows : Shows (Kept (editedProgram (Drop s) p) (freshMarks p)) marks
+      shows = subst (λ (x : Program). Shows (Kept x (freshMarks p)) marks) (k .is-edited) (subst (λ (l : List ℕ). Shows (Kept p′ l) marks) o (k .kept))
 
 -- a replace is the drop and then the add
 module _ (s : Step) (l : Label) (p d p′ : Program) (w : WellFormed p) (a : Applies (Replace s l) p) {m k : List ℕ} (x : Repaired (Drop s) p d m k) where

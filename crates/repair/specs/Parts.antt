@@ -6,14 +6,23 @@ use mathlib.Core.List.{List}
 use lib.ListN.{getD}
 use Rattle.program.specs.Program.{Program}
 use Rattle.reach.specs.Configurations.{none-set}
-use Rattle.reach.specs.Marks.{Marked, freshMarks}
+use Rattle.reach.specs.Marks.{Marked, Shows, freshMarks}
+use Rattle.prune.specs.Keeping.{Kept}
 use Rattle.edit.specs.Editing.{editedProgram}
+use Rattle.edit.specs.declared.Step.{Step}
 use Rattle.edit.specs.declared.Edit.{Edit}
+use Rattle.edit.specs.declared.Edit.the-variants.{Drop}
 
 -- the program is the edited one, the marks are its own, and the working buffer is all zero
 pub record Repaired (e : Edit) (p p′ : Program) (marks work : List ℕ) : Type 0 where
   pub is-edited : p′ ≡ editedProgram e p
   pub own : marks ≡ freshMarks p′
+  pub clear : work ≡ none-set
+
+-- the program is the one without the step, the marks are what it keeps of the old ones (paper: the keeping), foreign or not, and the working buffer is all zero
+pub record Keeps (s : Step) (p p′ : Program) (old marks work : List ℕ) : Type 0 where
+  pub is-edited : p′ ≡ editedProgram (Drop s) p
+  pub kept : Shows (Kept p′ old) marks
   pub clear : work ≡ none-set
 
 -- the flags are set exactly at these routines

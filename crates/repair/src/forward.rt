@@ -1,6 +1,6 @@
 // The forward repair of the marks: an add lets the new edge act and follows what is newly marked; a drop keeps what still has
-// support; a replace is the drop and then the add. The edits that come here were not refused and the marks are the program's
-// own (refusals 12 to 17): hence each `requires`.
+// support, whatever the marks are; a replace is the drop and then the add. The edits that come here were not refused (12 to 16),
+// the buffers have their lengths (9 and 11), and but for a drop the marks must be the program's own (17): hence each `requires`.
 use analysis::grow::follow_added;
 use edit::Edit;
 use edit::Step;
@@ -15,8 +15,10 @@ ghost use Rattle.program.specs.WellFormed.{WellFormed};
 ghost use Rattle.program.specs.Decoded.{programOf};
 ghost use Rattle.edit.specs.Editing.{Applies};
 ghost use Rattle.edit.specs.declared.Edit.the-variants.{Add, Drop};
-ghost use Rattle.reach.specs.Marks.{freshMarks};
-ghost use Rattle.repair.specs.Parts.{Repaired};
+ghost use Rattle.reach.specs.Configurations.{none-set};
+ghost use Rattle.reach.specs.Marks.{Shows, freshMarks};
+ghost use Rattle.prune.specs.Keeping.{Kept};
+ghost use Rattle.repair.specs.Parts.{Keeps, Repaired};
 
 pub fn add_step(p: DecodedProgram, s: Step, marks: &mut [u8], work: &mut [u8]) -> DecodedProgram
     requires { ⌜ WellFormed (programOf p) × Applies (Add s) (programOf p) ⌝ }
@@ -28,13 +30,22 @@ pub fn add_step(p: DecodedProgram, s: Step, marks: &mut [u8], work: &mut [u8]) -
     added
 }
 
+// The keeping by the edited program, on whatever marks are lent: a forward drop is this, and no fresh working.
+fn prune_marks(p: DecodedProgram, marks: &mut [u8], work: &mut [u8])
+    requires { ⌜ WellFormed (programOf p) ⌝ }
+    requires { ⌜ (length (now marks) ≡ 16384) × (length (now work) ≡ 16384) ⌝ }
+    ensures { λ _. ⌜ Shows (Kept (programOf p) (now (marks .entry))) (now (marks .exit)) × (now (work .exit) ≡ none-set) ⌝ }
+{
+    prune_program(p, marks, work);
+}
+
 fn drop_step(p: DecodedProgram, s: Step, marks: &mut [u8], work: &mut [u8]) -> DecodedProgram
     requires { ⌜ WellFormed (programOf p) × Applies (Drop s) (programOf p) ⌝ }
-    requires { ⌜ (now marks ≡ freshMarks (programOf p)) × (length (now work) ≡ 16384) ⌝ }
-    ensures { λ r. ⌜ Repaired (Drop s) (programOf p) (programOf r) (now (marks .exit)) (now (work .exit)) ⌝ }
+    requires { ⌜ (length (now marks) ≡ 16384) × (length (now work) ≡ 16384) ⌝ }
+    ensures { λ r. ⌜ Keeps s (programOf p) (programOf r) (now (marks .entry)) (now (marks .exit)) (now (work .exit)) ⌝ }
 {
     let dropped = without_step(p, s);
-    prune_program(dropped, marks, work);
+    prune_marks(dropped, marks, work);
     dropped
 }
 

@@ -1,9 +1,6 @@
-use Rattle.repair.proofs.Answered.{dropped-well-formed, dropped}
+use Rattle.repair.proofs.Answered.{dropped-well-formed, keeps}
 use Rattle.edit.proofs.Theorems.{drop-ready}
-use Rattle.reach.proofs.Kept.{marks-length}
 use Rattle.program.specs.Decoded.{programOf}
-use lib.ListN.{length}
-use mathlib.Core.Path.{ap, _∙_}
 use borrow.Author.Needs.{needs}
 use Rattle.repair.proofs.forward.drop_step.Statement.{statement}
 use Rattle.repair.proofs.forward.drop_step.Tie as tie
@@ -14,13 +11,13 @@ without-step-requires c κs =
     drop-ready (z .args .s) (programOf (z .args .p)) (z .pre .0 .0) (z .pre .0 .1)
 
 -- the program before the edit is well-formed as well as the one after it: which of the two is pruned by is for `returns` to tell
-prune-program-requires : tie.Need-prune-program-requires
-prune-program-requires c κs =
+prune-marks-requires : tie.Need-prune-marks-requires
+prune-marks-requires c κs =
     let z = c .before .before .before .before .before in
     let p = programOf (z .args .p) in
     let before = z .pre .0 .0 in
     let after = dropped-well-formed (z .args .s) p _ before (z .pre .0 .1) (c .before .before .without-step .ensures) in
-    (search (before, after), (ap length (z .pre .1 .0) ∙ marks-length p, z .pre .1 .1))
+    (search (before, after), z .pre .1)
 
 same-length : tie.Need-same-length
 same-length c = search needs
@@ -31,9 +28,9 @@ same-length-2 c = search needs
 returns : tie.Need-returns
 returns c =
     let z = c .before .before .before .before .before .before .before .before .before .before in
-    dropped (z .args .s) (programOf (z .args .p)) _ (z .pre .0 .0) (z .pre .0 .1) (c .before .before .before .before .before .before .before .without-step .ensures) (z .pre .1 .0) (c .before .before .before .before .prune-program .ensures)
+    keeps (z .args .s) (programOf (z .args .p)) _ (z .pre .0 .0) (z .pre .0 .1) (c .before .before .before .before .before .before .before .without-step .ensures) (c .before .before .before .before .prune-marks .ensures)
 
 pub drop-step-spec : {M : Type 1} → statement M
 drop-step-spec =
     tie.close
-    (tie.spec without-step-requires prune-program-requires same-length same-length-2 returns)
+    (tie.spec without-step-requires prune-marks-requires same-length same-length-2 returns)

@@ -1,5 +1,6 @@
-use Rattle.repair.proofs.Answered.{between-well-formed, between-applies, replaced, none-length}
+use Rattle.repair.proofs.Answered.{dropped, between-well-formed, between-applies, replaced, none-length}
 use Rattle.edit.proofs.Theorems.{drop-applies}
+use Rattle.reach.proofs.Kept.{marks-length}
 use Rattle.program.specs.Decoded.{programOf}
 use lib.ListN.{length}
 use mathlib.Core.Path.{ap, _∙_}
@@ -21,7 +22,7 @@ enum-known-e-2 c = search needs
 drop-step-requires : tie.Need-drop-step-requires
 drop-step-requires c κs =
     let z = c .before .before .before .before .before .before .before in
-    ((z .pre .0 .0, rw (c .before .before .before .e2 .given .1) at (z .pre .0 .1)), z .pre .1)
+    ((z .pre .0 .0, rw (c .before .before .before .e2 .given .1) at (z .pre .0 .1)), (ap length (z .pre .1 .0) ∙ marks-length _, z .pre .1 .1))
 
 enum-known-e-3 : tie.Need-enum-known-e-3
 enum-known-e-3 c = search needs
@@ -30,7 +31,7 @@ drop-step-requires-2 : tie.Need-drop-step-requires-2
 drop-step-requires-2 c κs =
     let z = c .before .before .before .before .before .before .before in
     let a = rw (c .before .before .before .e3 .given .1) at (z .pre .0 .1) in
-    ((z .pre .0 .0, drop-applies _ _ (programOf (z .args .p)) a), z .pre .1)
+    ((z .pre .0 .0, drop-applies _ _ (programOf (z .args .p)) a), (ap length (z .pre .1 .0) ∙ marks-length _, z .pre .1 .1))
 
 relabelled-requires : tie.Need-relabelled-requires
 relabelled-requires c κs = search needs
@@ -40,7 +41,7 @@ add-step-requires-2 c κs =
     let z = c .before .before .before .before .before .before .before .before .before .before .before .before .before .before .before in
     let p = programOf (z .args .p) in
     let a = rw (c .before .before .before .before .before .before .before .before .before .before .before .e3 .given .1) at (z .pre .0 .1) in
-    let x = c .before .before .before .before .before .before .before .drop-step2 .ensures in
+    let x = dropped _ p _ (z .pre .0 .0) (drop-applies _ _ p a) (z .pre .1 .0) (c .before .before .before .before .before .before .before .drop-step2 .ensures) in
     ((between-well-formed _ _ p _ p (z .pre .0 .0) a x, rw (c .before .before .relabelled .ensures) (between-applies _ _ p _ p (z .pre .0 .0) a x)), (x .own, ap length (x .clear) ∙ none-length))
 
 same-length : tie.Need-same-length
@@ -61,7 +62,10 @@ same-length-4 c = search needs
 
 returns-2 : tie.Need-returns-2
 returns-2 c =
-    rw (c .before .before .before .before .before .before .before .before .e2 .given .1) (c .before .before .before .before .drop-step .ensures)
+    let z = c .before .before .before .before .before .before .before .before .before .before .before .before in
+    let a = rw (c .before .before .before .before .before .before .before .before .e2 .given .1) at (z .pre .0 .1) in
+    rw (c .before .before .before .before .before .before .before .before .e2 .given .1)
+    (dropped _ (programOf (z .args .p)) _ (z .pre .0 .0) a (z .pre .1 .0) (c .before .before .before .before .drop-step .ensures))
 
 same-length-5 : tie.Need-same-length-5
 same-length-5 c = search needs
@@ -74,7 +78,7 @@ returns-3 c =
     let z = c .before .before .before .before .before .before .before .before .before .before .before .before .before .before .before .before .before .before .before .before in
     let p = programOf (z .args .p) in
     let a = rw (c .before .before .before .before .before .before .before .before .before .before .before .before .before .before .before .before .e3 .given .1) at (z .pre .0 .1) in
-    let x = c .before .before .before .before .before .before .before .before .before .before .before .before .drop-step2 .ensures in
+    let x = dropped _ p _ (z .pre .0 .0) (drop-applies _ _ p a) (z .pre .1 .0) (c .before .before .before .before .before .before .before .before .before .before .before .before .drop-step2 .ensures) in
     let y = rw (c .before .before .before .before .before .before .before .relabelled .ensures) at (c .before .before .before .before .add-step2 .ensures) in
     rw (c .before .before .before .before .before .before .before .before .before .before .before .before .before .before .before .before .e3 .given .1) (replaced _ _ p _ _ (z .pre .0 .0) a x y)
 
