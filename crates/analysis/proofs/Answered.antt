@@ -1,6 +1,6 @@
 -- The answers, by what the reader and the checks of the buffers say.
 use Prim.Native.Nat.{ℕ}
-use mathlib.Core.Path.{_≡_, refl, sym, ap, _∙_}
+use mathlib.Core.Path.{_≡_, refl, sym, ap, subst, _∙_}
 use mathlib.Core.Bool.{Bool, true, false, cond, _&&_}
 use mathlib.Core.List.{List, [], _∷_}
 use native.Mathlib.Omega.{arith}
@@ -86,16 +86,19 @@ same-equal (x ∷ l) (y ∷ k) e =
     let w = both (eqb x y) (same l k) e in
     λ i. eqb-true x y (w .0) i ∷ same-equal l k (w .1) i
 
-module _ (p : Program) (marks : List ℕ) (low : ℕ) where
-  pub own-found : (i : ℕ) → marks ≡ freshMarks p → firstFrom low (violationsFrom p marks 0) ≡ within 16384 i
-      → foundOf (within 16384 i) ≡ nextBy Accepted p marks low
-  own-found i e f =
-      let t : same marks (freshMarks p) ≡ true = rw e (same-self (freshMarks p)) in
-      rw t (ap foundOf (sym (rw e at f)))
+-- a comparison that is right both ways says whether they are the same
+pub same-decides : (r : Bool) (l k : List ℕ) → (r ≡ true → l ≡ k) × (l ≡ k → r ≡ true) → r ≡ same l k
+same-decides r l k h = go r h (same l k) refl
+  where
+    go : (r : Bool) → (r ≡ true → l ≡ k) × (l ≡ k → r ≡ true) → (t : Bool) → same l k ≡ t → r ≡ t
+    go true h t e = sym (sym e ∙ subst (λ (x : List ℕ). same x k ≡ true) (sym (h .0 refl)) (same-self k))
+    go false h true e = h .1 (same-equal l k e)
+    go false h false e = refl
 
-  pub foreign : (marks ≡ freshMarks p → ⊥) → next.Refused 17 0 ≡ nextBy Accepted p marks low
-  foreign h = go (same marks (freshMarks p)) refl
-    where
-      go : (t : Bool) → same marks (freshMarks p) ≡ t → next.Refused 17 0 ≡ cond (same marks (freshMarks p)) (foundOf (firstFrom low (violations p))) (next.Refused 17 0)
-      go true e = absurd (h (same-equal marks (freshMarks p) e))
-      go false e = rw e
+module _ (p : Program) (marks : List ℕ) (low : ℕ) where
+  pub own-found : (i : ℕ) → same marks (freshMarks p) ≡ true → firstFrom low (violationsFrom p marks 0) ≡ within 16384 i
+      → foundOf (within 16384 i) ≡ nextBy Accepted p marks low
+  own-found i e f = rw e (ap foundOf (sym (rw (same-equal marks (freshMarks p) e) at f)))
+
+  pub foreign : same marks (freshMarks p) ≡ false → next.Refused 17 0 ≡ nextBy Accepted p marks low
+  foreign e = rw e

@@ -6,6 +6,7 @@ pub mod grow;
 mod marking;
 pub mod next;
 pub mod number;
+pub mod own;
 pub mod part;
 pub mod run;
 mod take;
@@ -14,6 +15,7 @@ use count::count_marks;
 use count::count_violations;
 use count::first_violation;
 use count::rejecting_flags;
+use own::is_own;
 use program::DecodedProgram;
 use program::Verdict;
 use run::analyze_program;
@@ -97,9 +99,7 @@ fn search_own(p: DecodedProgram, marks: &[u8], work: &mut [u8], low: usize) -> N
     requires { ⌜ (length (now marks) ≡ 16384) × (length (now work) ≡ 16384) ⌝ }
     ensures { λ r. ⌜ (r ≡ nextBy Accepted (programOf p) (now (marks .entry)) low) × (now (work .exit) ≡ none-set) ⌝ }
 {
-    let mut own = [0u8; 16384];
-    let _iterations = analyze_program(p, &mut own, work);
-    if check::same(marks, &own) {
+    if is_own(p, marks, work) {
         let rule = p.automaton;
         let rejecting = rejecting_flags(rule);
         let flags = rejecting.flags;

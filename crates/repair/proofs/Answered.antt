@@ -21,7 +21,6 @@ use Rattle.reach.specs.Marks.{Shows, freshMarks}
 use Rattle.reach.proofs.Growing.{Grown}
 use Rattle.reach.proofs.Kept.{marks-length}
 use Rattle.analysis.specs.Answers.{same}
-use Rattle.analysis.proofs.Answered.{same-self, same-equal}
 use Rattle.prune.specs.Keeping.{Kept}
 use Rattle.prune.proofs.Theorems.{kept-fresh}
 use Rattle.writer.specs.declared.WriteAnswer.{WriteAnswer}
@@ -35,7 +34,7 @@ use Rattle.edit.specs.declared.Edit.the-variants.{Add, Drop, Replace}
 use Rattle.edit.specs.declared.EditRead.{EditRead}
 use Rattle.edit.specs.declared.EditRead.the-variants as read
 use Rattle.edit.proofs.Theorems.{applied-well-formed, added-is, dropped-is, replaced-is, relabelled, drop-applies, add-applies}
-use Rattle.repair.specs.Repairs.{After, measuredBy, untouched, foreign, repairedTo, editedBy, wantedBy, repairedBy, measured, repaired}
+use Rattle.repair.specs.Repairs.{After, measuredBy, editedBy, wantedBy, measured, repaired}
 use Rattle.repair.specs.Parts.{Keeps, Repaired}
 use Rattle.repair.proofs.Steps.{add-grown, drop-within, drop-initial}
 
@@ -96,21 +95,14 @@ module _ (s : Step) (l : Label) (p d p′ : Program) (w : WellFormed p) (a : App
 -- ---- 17
 
 module _ (e : Edit) (p : Program) (marks output : List ℕ) where
-  pub own-answer : marks ≡ freshMarks p → {p′ : Program} {m k : List ℕ} → Repaired e p p′ m k → {n : ℕ} {o : List ℕ}
+  pub own-answer : same marks (freshMarks p) ≡ true → {p′ : Program} {m k : List ℕ} → Repaired e p p′ m k → {n : ℕ} {o : List ℕ}
       → (n ≡ length (written p′)) × (o ≡ written p′ ++ drop (length (written p′)) output)
       → _≡_ {A = After} (record { answer = Written n; marks = m; output = o; work = k }) (editedBy e p marks output)
-  own-answer f {p′} {m} {k} r {n} {o} h =
-      let t : same marks (freshMarks p) ≡ true = subst (λ (l : List ℕ). same l (freshMarks p) ≡ true) (sym f) (same-self (freshMarks p)) in
-      rw (t, h .0, h .1, r .own, r .clear, r .is-edited) refl
+  own-answer t {p′} {m} {k} r {n} {o} h = rw (t, h .0, h .1, r .own, r .clear, r .is-edited) refl
 
-  pub foreign-answer : (marks ≡ freshMarks p → ⊥) → {k : List ℕ} → k ≡ none-set
+  pub foreign-answer : same marks (freshMarks p) ≡ false → {k : List ℕ} → k ≡ none-set
       → _≡_ {A = After} (record { answer = Refused 17 0; marks = marks; output = output; work = k }) (editedBy e p marks output)
-  foreign-answer h {k} z = go (same marks (freshMarks p)) refl
-    where
-      go : (t : Bool) → same marks (freshMarks p) ≡ t → _≡_ {A = After} (record { answer = Refused 17 0; marks = marks; output = output; work = k })
-          (cond (same marks (freshMarks p)) (repairedTo (editedProgram e p) output) (foreign marks output))
-      go true f = absurd (h (same-equal marks (freshMarks p) f))
-      go false f = rw (f, z) refl
+  foreign-answer t {k} z = rw (t, z) refl
 
   -- there is room for the edited program
   pub room : WellFormed p → Applies e p → {p′ : Program} {m k : List ℕ} → Repaired e p p′ m k → 5328 ≤ length output

@@ -2,7 +2,7 @@
 mod forward;
 mod inside_out;
 
-use analysis::run::analyze_program;
+use analysis::own::is_own;
 use components::bits::bits_of;
 use edit::Edit;
 use edit::EditRead;
@@ -69,9 +69,7 @@ fn repair_own(
         (editedBy e (programOf p) (now (marks .entry)) (now (output .entry)))
         × (inward ≡ true → insideOutNumber (eqb (refusal (plain r)) 0) (Read e) (programOf p) (reanalyzed r)) ⌝ }
 {
-    let mut own = [0u8; 16384];
-    let _iterations = analyze_program(p, &mut own, work);
-    if check::same(marks, &own) {
+    if is_own(p, marks, work) {
         let mended = mend(inward, p, e, marks, work);
         let edited = mended.program;
         let routines = mended.routines;

@@ -1,0 +1,43 @@
+-- `analysis::own::is_own` meets its contract.
+use Rattle.analysis.specs.Answers.{same}
+use Rattle.analysis.proofs.Answered.{same-decides}
+use lib.ListN.{length-replicate}
+use mathlib.Core.Path.{ap, _∙_}
+use mathlib.Core.List.{List}
+use Prim.Native.Nat.{ℕ}
+use borrow.Author.Needs.{needs}
+use Rattle.analysis.proofs.own.is_own.Statement.{statement}
+use Rattle.analysis.proofs.own.is_own.Tie as tie
+
+slice-aggregate-analyze-program : tie.Need-slice-aggregate-analyze-program
+slice-aggregate-analyze-program c = search needs
+
+analyze-program-requires : tie.Need-analyze-program-requires
+analyze-program-requires c κs =
+    let z = c .before .before .before .before in
+    (z .pre .0, (length-replicate {A = ℕ} 16384 0, z .pre .1))
+
+slice-aggregate-same : tie.Need-slice-aggregate-same
+slice-aggregate-same c = search needs
+
+same-requires : tie.Need-same-requires
+same-requires c κs = search needs
+
+same-length : tie.Need-same-length
+same-length c = search needs
+
+returns : tie.Need-returns
+returns c =
+    let a = c .before .before .before .before .before .analyze-program .ensures in
+    (same-decides _ _ _ (c .same .ensures) ∙ ap (λ (l : List ℕ). same (c .before .before .before .before .before .before .before .before .before .before .args .marks .now) l) (a .0), a .1)
+
+pub is-own-spec : {M : Type 1} → statement M
+is-own-spec =
+    tie.close
+    (tie.spec
+    slice-aggregate-analyze-program
+    analyze-program-requires
+    slice-aggregate-same
+    same-requires
+    same-length
+    returns)
