@@ -200,6 +200,11 @@ module _ (s : Step) (p p′ : Program) (w : WellFormed p) (a : Applies (Add s) p
 
 -- ---- a drop
 
+-- a drop of nothing leaves the program as it was
+pub none-dropped : (p : Program) → WellFormed p → (f : ℕ) → DropOf p p f
+none-dropped p w f =
+    record { old-well-formed = w; well-formed = w; automaton = refl; steps = λ h. h; others = λ n h. h }
+
 module _ (s : Step) (p : Program) (w : WellFormed p) (a : Applies (Drop s) p) where
   -- its routine is in range
   pub drop-routine : s .routine < 16

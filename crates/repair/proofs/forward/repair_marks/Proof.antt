@@ -42,7 +42,9 @@ add-step-requires-2 c κs =
     let p = programOf (z .args .p) in
     let a = rw (c .before .before .before .before .before .before .before .before .before .before .before .e3 .given .1) at (z .pre .0 .1) in
     let x = dropped _ p _ (z .pre .0 .0) (drop-applies _ _ p a) (z .pre .1 .0) (c .before .before .before .before .before .before .before .drop-step2 .ensures) in
-    ((between-well-formed _ _ p _ p (z .pre .0 .0) a x, rw (c .before .before .relabelled .ensures) (between-applies _ _ p _ p (z .pre .0 .0) a x)), (x .own, ap length (x .clear) ∙ none-length))
+    let before = z .pre .0 .0 in
+    let after = between-well-formed _ _ p _ p before a x in
+    ((search (before, after), rw (c .before .before .relabelled .ensures) (between-applies _ _ p _ p before a x)), (x .own, ap length (x .clear) ∙ none-length))
 
 same-length : tie.Need-same-length
 same-length c = search needs
