@@ -11,7 +11,7 @@ use lib.Dec.{eqb}
 use lib.ListN.{length, getD, take, drop, length-drop, drop-of-length-le}
 use lib.Seq.{drop-cons, drop-drop, getD-drop}
 use borrow.Author.Tests.{eqb-true, eq-eqb, ne-eqb}
-use Rattle.text.specs.Lines.{lines}
+use Rattle.text.specs.Lines.{glue, lines}
 use Rattle.text.proofs.Split.{firstLine, lines-first, afterLine}
 use Rattle.report.specs.Report.{startsEnd, fileSize, firstSize}
 
@@ -148,3 +148,31 @@ unfolding fileSize lines
 file-end {s} {at} w h =
     let e : fileSize (lines (drop at s)) ≡ 0 = rw (drop-of-length-le s h) in
     omega (arith, w .whole, e)
+
+-- ---- the file lies within its text
+
+total : List (List ℕ) → ℕ
+total [] = 0
+total (l ∷ ls) = length l + total ls
+
+lines-total : (s : List ℕ) → total (lines s) ≡ length s
+unfolding lines total
+lines-total [] = refl
+lines-total (b ∷ s) = go (eqb b 10) (lines s) (lines-total s)
+  where
+    go : (t : Bool) (ls : List (List ℕ)) → total ls ≡ length s → total (cond t ((b ∷ []) ∷ ls) (glue b ls)) ≡ length (b ∷ s)
+    go true ls e = omega arith
+    go false [] e = omega arith
+    go false (l ∷ ls) e = omega arith
+
+file-short : (ls : List (List ℕ)) → fileSize ls ≤ total ls
+unfolding fileSize total
+file-short [] = omega arith
+file-short (l ∷ ls) = go (startsEnd l) (file-short ls)
+  where
+    go : (t : Bool) → fileSize ls ≤ total ls → length l + cond t 0 (fileSize ls) ≤ length l + total ls
+    go true h = omega arith
+    go false h = omega arith
+
+pub file-inside : (s : List ℕ) → fileSize (lines s) ≤ length s
+file-inside s = omega (arith, lines-total s, file-short (lines s))
