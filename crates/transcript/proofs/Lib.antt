@@ -1,0 +1,6 @@
+pub mod Parts
+pub mod Answered
+pub mod Given
+pub mod Limits
+pub mod Turning
+pub mod Theorems

@@ -1,0 +1,66 @@
+-- How long a text is.
+use mathlib.Core.Path.{_≡_, refl, ap}
+use mathlib.Core.Bool.{Bool, true, false, cond, _&&_}
+use mathlib.Core.List.{List, []}
+use Prim.Native.Nat.{ℕ, _≤_}
+use native.Mathlib.Omega.{arith}
+use lib.Dec.{eqb, ltb}
+use lib.ListN.{length, length-append}
+use borrow.Author.Tests.{eqb-true}
+use Rattle.text.proofs.RoundTrip.{length-hex}
+use Rattle.program.specs.Program.{Program}
+use Rattle.program.specs.Reading.{readFile}
+use Rattle.program.specs.declared.Verdict.{Verdict}
+use Rattle.program.specs.declared.Verdict.the-variants as verdict
+use Rattle.writer.specs.declared.WriteAnswer.{WriteAnswer}
+use Rattle.writer.specs.declared.WriteAnswer.the-variants.{Written, Refused}
+use Rattle.reach.specs.Marks.{freshMarks}
+use Rattle.reach.proofs.Kept.{marks-length}
+use Rattle.repair.specs.Repairs.{After}
+use Rattle.repair.specs.Calls.{Desk, after}
+use Rattle.report.specs.Report.{blockOf, blockBy, blockText, refusedEdit, refusedFile, tooLong}
+use Rattle.report.proofs.Theorems.{block-limited}
+use Rattle.transcript.specs.Transcript.{fileOf, begunBy, begun, lineAt, editOn, turned, alone}
+use Rattle.transcript.specs.Parts.{editedText}
+use Rattle.transcript.proofs.Answered.{edited-text}
+
+edit-line-long : (n : ℕ) → length (refusedEdit n) ≡ 5
+edit-line-long n = simp (length-append, length-hex)
+
+file-line-long : (n line : ℕ) → length (refusedFile n line) ≡ 9
+file-line-long n line = simp (length-append, length-hex)
+
+block-short : (file marks : List ℕ) → length (blockText file marks 180235) ≤ 180235
+unfolding blockText
+block-short file marks = by (readFile file .verdict) (readFile file .program)
+  where
+    go : (p : Program) (b : Bool) → eqb (length marks) 16384 ≡ b → length (cond (b && true) (blockOf p marks) []) ≤ 180235
+    go p true h = block-limited p marks (eqb-true (length marks) 16384 h)
+    go p false h = omega arith
+
+    by : (v : Verdict) (p : Program) → length (blockBy v p marks 180235) ≤ 180235
+    by verdict.Accepted p = go p (eqb (length marks) 16384) refl
+    by (verdict.Refused n line) p = omega arith
+
+edited-limited : (a : WriteAnswer) (d : Desk) → length (editedText a d) ≤ 180235
+edited-limited (Written n) d = block-short (d .file) (d .marks)
+edited-limited (Refused n line) d = omega (arith, edit-line-long n)
+
+pub begun-short : (input : List ℕ) → length (begun input .text) ≤ 180235
+unfolding begun
+begun-short input = go (ltb 16384 (length input)) (readFile (fileOf input) .verdict)
+  where
+    p : Program
+    p = readFile (fileOf input) .program
+
+    go : (b : Bool) (v : Verdict) → length (cond b (alone tooLong input) (begunBy v p input) .text) ≤ 180235
+    go true v = omega (arith, edit-line-long 18)
+    go false verdict.Accepted = block-limited p (freshMarks p) (marks-length p)
+    go false (verdict.Refused n line) = omega (arith, file-line-long n line)
+
+pub turned-short : (input : List ℕ) (at : ℕ) (d : Desk) → length (turned input at d .text) ≤ 180235
+unfolding turned
+turned-short input at d =
+    let a : After = editOn (lineAt input at) d in
+    let e = edited-text (lineAt input at) d in
+    omega (arith, ap length e, edited-limited (a .answer) (after a (d .file)))

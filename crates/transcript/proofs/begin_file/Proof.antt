@@ -1,0 +1,88 @@
+-- `transcript::begin_file` meets its contract.
+use native.Mathlib.Omega.{arith}
+use Prim.Native.Nat.{ℕ}
+use mathlib.Core.Path.{_≡_, sym, _∙_}
+use lib.ListN.{length, replicate, length-replicate}
+use borrow.Author.Needs.{needs}
+use Rattle.transcript.proofs.Parts.{file-counted}
+use Rattle.transcript.proofs.Answered.{analyze-refuses, analyze-accepts, fresh-after}
+use Rattle.transcript.proofs.Given.{gives-refusal, gives-block}
+use Rattle.transcript.proofs.begin_file.Statement.{statement}
+use Rattle.transcript.proofs.begin_file.Tie as tie
+
+zeros : length {A = ℕ} (replicate 16384 0) ≡ 16384
+zeros = length-replicate {A = ℕ} 16384 0
+
+file-size-requires : tie.Need-file-size-requires
+file-size-requires c κs = search needs
+
+slice-aggregate-analyze : tie.Need-slice-aggregate-analyze
+slice-aggregate-analyze c = file-counted _ _ (c .before .file-size .ensures) .1
+
+slice-aggregate-analyze-2 : tie.Need-slice-aggregate-analyze-2
+slice-aggregate-analyze-2 c = search needs
+
+slice-aggregate-analyze-3 : tie.Need-slice-aggregate-analyze-3
+slice-aggregate-analyze-3 c = search needs
+
+analyze-requires : tie.Need-analyze-requires
+analyze-requires c κs = search needs
+
+enum-known-answer : tie.Need-enum-known-answer
+enum-known-answer c = search needs
+
+file-refusal-requires : tie.Need-file-refusal-requires
+file-refusal-requires c κs = search needs
+
+nothing-more-requires : tie.Need-nothing-more-requires
+nothing-more-requires c κs = search needs
+
+enum-known-answer-2 : tie.Need-enum-known-answer-2
+enum-known-answer-2 c = search needs
+
+slice-aggregate-hold : tie.Need-slice-aggregate-hold
+slice-aggregate-hold c = file-counted _ _ (c .before .before .before .before .before .before .before .before .before .before .file-size .ensures) .1
+
+hold-requires : tie.Need-hold-requires
+hold-requires c κs =
+    let k = file-counted _ _ (c .before .before .before .before .before .before .before .before .before .before .file-size .ensures) in
+    omega (arith, k .0, k .1, c .before .before .before .before .before .before .before .before .before .before .before .before .pre)
+
+put-held-requires : tie.Need-put-held-requires
+put-held-requires c κs = search needs
+
+returns : tie.Need-returns
+returns c =
+    let a = c .before .before .before .before .before .before .before .before .before .before .before .before .before .before .args in
+    let x = c .before .before .before .before .before .before .before .before .analyze .ensures in
+    let n : length (a .out .now) ≡ 180235 = search needs in
+    gives-refusal (a .input .now) (a .out .now) (c .before .before .before .before .before .before .before .before .before .before .before .before .file-size .ensures)
+    (analyze-refuses _ _ _ zeros zeros (sym (c .before .before .before .before .answer .given .1) ∙ x .0))
+    (rw n at (c .before .file-refusal .ensures))
+    (c .nothing-more .ensures)
+
+returns-2 : tie.Need-returns-2
+returns-2 c =
+    let a = c .before .before .before .before .before .before .before .before .before .before .before .before .before .before .before .args in
+    let x = c .before .before .before .before .before .before .before .before .before .analyze .ensures in
+    let v = analyze-accepts _ _ _ zeros zeros (sym (c .before .before .before .before .before .answer2 .given .1) ∙ x .0) in
+    gives-block (a .input .now) (a .out .now) (c .before .before .before .before .before .before .before .before .before .before .before .before .before .file-size .ensures) v (x .1 ∙ fresh-after _ _ _ zeros zeros v) (c .before .before .hold .ensures) (c .put-held .ensures)
+
+pub begin-file-spec : {M : Type 1} → statement M
+begin-file-spec =
+    tie.close
+    (tie.spec
+    file-size-requires
+    slice-aggregate-analyze
+    slice-aggregate-analyze-2
+    slice-aggregate-analyze-3
+    analyze-requires
+    enum-known-answer
+    file-refusal-requires
+    nothing-more-requires
+    enum-known-answer-2
+    slice-aggregate-hold
+    hold-requires
+    put-held-requires
+    returns
+    returns-2)

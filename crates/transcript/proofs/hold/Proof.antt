@@ -1,0 +1,21 @@
+-- `transcript::hold` meets its contract.
+use borrow.Author.Needs.{needs}
+use Rattle.transcript.proofs.Parts.{copied}
+use lib.ListN.{replicate}
+use Rattle.transcript.proofs.hold.Statement.{statement}
+use Rattle.transcript.proofs.hold.Tie as tie
+
+slice-aggregate-copy : tie.Need-slice-aggregate-copy
+slice-aggregate-copy c = search needs
+
+copy-requires : tie.Need-copy-requires
+copy-requires c κs = search needs
+
+returns : tie.Need-returns
+returns c =
+    let a = c .before .before .before .before .args in
+    let k = c .before .copy2 .ensures in
+    λ i. record { file = copied (a .file .now) (replicate 16384 0) (k .0) (k .1) i; marks = a .marks }
+
+pub hold-spec : {M : Type 1} → statement M
+hold-spec = tie.close (tie.spec slice-aggregate-copy copy-requires returns)

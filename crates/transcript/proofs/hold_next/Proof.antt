@@ -1,0 +1,58 @@
+-- `transcript::hold_next` meets its contract.
+use native.Mathlib.Omega.{arith}
+use mathlib.Core.Path.{_≡_, _∙_}
+use lib.ListN.{length}
+use borrow.Author.Needs.{needs}
+use Rattle.transcript.specs.Transcript.{heldOf}
+use Rattle.transcript.proofs.Answered.{file-stays, file-wrote}
+use Rattle.transcript.proofs.hold_next.Statement.{statement}
+use Rattle.transcript.proofs.hold_next.Tie as tie
+
+enum-known-answer : tie.Need-enum-known-answer
+enum-known-answer c = search needs
+
+enum-known-answer-2 : tie.Need-enum-known-answer-2
+enum-known-answer-2 c = search needs
+
+slice-aggregate-within : tie.Need-slice-aggregate-within
+slice-aggregate-within c = search needs
+
+within-requires : tie.Need-within-requires
+within-requires c κs = search needs
+
+array-share-prefix-output : tie.Need-array-share-prefix-output
+array-share-prefix-output c = search needs
+
+slice-aggregate-hold : tie.Need-slice-aggregate-hold
+slice-aggregate-hold c = search needs
+
+hold-requires : tie.Need-hold-requires
+hold-requires c κs =
+    let w = c .before .before .within .ensures in
+    let n : length (c .before .before .before .before .before .before .before .args .t2) ≡ 5328 = search needs in
+    omega (arith, w .inside, w .counted)
+
+returns : tie.Need-returns
+returns c =
+    let a = c .before .before .before .args in
+    λ i. record { file = file-stays (a .t2) (heldOf (a .held) .file) (c .before .answer .given .1) i; marks = a .held .marks }
+
+returns-2 : tie.Need-returns-2
+returns-2 c =
+    let a = c .before .before .before .before .before .before .before .before .args in
+    c .hold .ensures
+    ∙ (λ i. record { file = file-wrote (heldOf (a .held) .file) (c .before .before .before .before .before .before .answer2 .given .1) (c .before .before .before .within .ensures) i; marks = a .held .marks })
+
+pub hold-next-spec : {M : Type 1} → statement M
+hold-next-spec =
+    tie.close
+    (tie.spec
+    enum-known-answer
+    enum-known-answer-2
+    slice-aggregate-within
+    within-requires
+    array-share-prefix-output
+    slice-aggregate-hold
+    hold-requires
+    returns
+    returns-2)

@@ -1,0 +1,37 @@
+-- `transcript::put_edited` meets its contract.
+use mathlib.Core.Path.{_≡_}
+use lib.ListN.{length}
+use borrow.Author.Needs.{needs}
+use Rattle.transcript.proofs.put_edited.Statement.{statement}
+use Rattle.transcript.proofs.put_edited.Tie as tie
+
+enum-known-answer : tie.Need-enum-known-answer
+enum-known-answer c = search needs
+
+edit-refusal-requires : tie.Need-edit-refusal-requires
+edit-refusal-requires c κs = search needs
+
+enum-known-answer-2 : tie.Need-enum-known-answer-2
+enum-known-answer-2 c = search needs
+
+put-held-requires : tie.Need-put-held-requires
+put-held-requires c κs = search needs
+
+returns : tie.Need-returns
+returns c =
+    let n : length (c .before .before .before .before .before .args .out .now) ≡ 180235 = search needs in
+    rw (c .before .before .before .answer .given .1) (rw n at (c .edit-refusal .ensures))
+
+returns-2 : tie.Need-returns-2
+returns-2 c = rw (c .before .before .before .before .answer2 .given .1) (c .put-held .ensures)
+
+pub put-edited-spec : {M : Type 1} → statement M
+put-edited-spec =
+    tie.close
+    (tie.spec
+    enum-known-answer
+    edit-refusal-requires
+    enum-known-answer-2
+    put-held-requires
+    returns
+    returns-2)

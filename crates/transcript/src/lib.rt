@@ -1,0 +1,223 @@
+// What bench prints for an input, a turn after the other: one for the file, and then one for each edit line. Each turn puts its text at
+// the start of an output of 180,235 bytes, which every text fits.
+use analysis::AnalyzeAnswer;
+use writer::WriteAnswer;
+ghost use mathlib.Core.Path.{_≡_};
+ghost use Prim.Native.Nat.{_≤_};
+ghost use lib.ListN.{length};
+ghost use Rattle.program.specs.Reading.{readFile};
+ghost use Rattle.repair.specs.Repairs.{After, repaired};
+ghost use Rattle.repair.specs.Calls.{fileBy, after};
+ghost use Rattle.report.specs.Report.{blockText, Printed};
+ghost use Rattle.transcript.specs.Transcript.{heldOf, nothing, Gives, fileOf, begunBy, begun, lineAt, editOn, turned};
+ghost use Rattle.transcript.specs.Parts.{Within, editedText};
+
+// What is held between two turns: the first `used` bytes of the file, and its marks. The bytes past `used` are free.
+pub struct Held {
+    pub file: [u8; 16384],
+    pub used: usize,
+    pub marks: [u8; 16384],
+}
+
+// After a turn: how many bytes of the output are printed, where the next edit line starts, and what is held for it.
+pub struct Turn {
+    pub size: usize,
+    pub next: usize,
+    pub held: Held,
+}
+
+// A repair's answer, and what is held after it.
+struct Edited {
+    answer: WriteAnswer,
+    held: Held,
+}
+
+// A count of bytes, no more than there are.
+fn within(n: usize, bytes: &[u8]) -> usize
+    ensures { λ r. ⌜ Within n (now (bytes .entry)) r ⌝ }
+{
+    if n < bytes.len() {
+        return n;
+    }
+    bytes.len()
+}
+
+// A copy of a file, with its marks. No file that is held is longer than an input may be: hence the `requires`.
+fn hold(file: &[u8], marks: [u8; 16384]) -> Held
+    requires { ⌜ length (now file) ≤ 16384 ⌝ }
+    ensures { λ r. ⌜ heldOf r ≡ record { file = now (file .entry); marks = marks } ⌝ }
+{
+    let mut copy = [0u8; 16384];
+    let used = bytes::copy(file, &mut copy);
+    Held {
+        file: copy,
+        used,
+        marks,
+    }
+}
+
+// Nothing is held, and the next turn would start at the input's end: there is none.
+fn nothing_more(size: usize, end: usize) -> Turn
+    ensures { λ r. ⌜ (r .size ≡ size) × ((r .next ≡ end) × (heldOf (r .held) ≡ nothing)) ⌝ }
+{
+    let file = [0u8; 16384];
+    let marks = [0u8; 16384];
+    let held = Held {
+        file,
+        used: 0,
+        marks,
+    };
+    Turn {
+        size,
+        next: end,
+        held,
+    }
+}
+
+// The block of what is held.
+fn put_held(held: Held, out: &mut [u8; 180235]) -> usize
+    ensures { λ r. ⌜ Printed (blockText (heldOf held .file) (heldOf held .marks) 180235) (now (out .entry)) (now (out .exit)) r ⌝ }
+{
+    let file = held.file;
+    let marks = held.marks;
+    let used = within(held.used, &file);
+    report::block(&file[..used], &marks, out)
+}
+
+// The file: its refusal, or its block and the file to be held. An input that is longer is refused before: hence the `requires`.
+fn begin_file(input: &[u8], out: &mut [u8; 180235]) -> Turn
+    requires { ⌜ length (now input) ≤ 16384 ⌝ }
+    ensures { λ r. ⌜ Gives (begunBy (readFile (fileOf (now (input .entry))) .verdict) (readFile (fileOf (now (input .entry))) .program) (now (input .entry)))
+        (now (out .entry)) (now (out .exit)) r ⌝ }
+{
+    let end = report::file_size(input);
+    let mut marks = [0u8; 16384];
+    let mut work = [0u8; 16384];
+    let answer = analysis::analyze(&input[..end], &mut marks, &mut work);
+    match answer {
+        AnalyzeAnswer::Refused(n, line) => {
+            let size = report::file_refusal(n, line, out);
+            nothing_more(size, input.len())
+        }
+        AnalyzeAnswer::Counts(_configurations, _violations, _iterations) => {
+            let held = hold(&input[..end], marks);
+            let size = put_held(held, out);
+            Turn {
+                size,
+                next: end,
+                held,
+            }
+        }
+    }
+}
+
+// The first turn. More than 16,384 bytes of input are refused (18); else the file is read.
+pub fn begin(input: &[u8], out: &mut [u8; 180235]) -> Turn
+    ensures { λ r. ⌜ Gives (begun (now (input .entry))) (now (out .entry)) (now (out .exit)) r ⌝ }
+{
+    if 16384 < input.len() {
+        let size = report::edit_refusal(18, out);
+        return nothing_more(size, input.len());
+    }
+    begin_file(input, out)
+}
+
+// The line that starts at a position; past the input's end it is empty.
+fn line_at(input: &[u8], at: usize) -> &[u8]
+    ensures { λ r. ⌜ now r ≡ lineAt (now (input .entry)) at ⌝ }
+{
+    let from = within(at, input);
+    let next = from + report::line_size(input, from);
+    &input[from..next]
+}
+
+// The repair that is asked for. Which routines were reanalyzed is not printed.
+fn repair_with(
+    inside_out: bool,
+    file: &[u8],
+    marks: &mut [u8],
+    line: &[u8],
+    output: &mut [u8],
+    work: &mut [u8],
+) -> WriteAnswer
+    ensures { λ r. ⌜ _≡_ {A = After} (record { answer = r; marks = now (marks .exit); output = now (output .exit); work = now (work .exit) })
+        (repaired (now (file .entry)) (now (marks .entry)) (now (line .entry)) (now (output .entry)) (now (work .entry))) ⌝ }
+{
+    if inside_out {
+        let answer = repair::repair_inside_out(file, marks, line, output, work);
+        return repair::without_routines(answer);
+    }
+    repair::repair_forward(file, marks, line, output, work)
+}
+
+// The next file is a copy of what an accepted repair wrote; after a refused one it stays.
+fn hold_next(answer: WriteAnswer, output: [u8; 5328], held: Held) -> Held
+    ensures { λ r. ⌜ heldOf r ≡ record { file = fileBy answer output (heldOf held .file); marks = held .marks } ⌝ }
+{
+    match answer {
+        WriteAnswer::Refused(_n, _line) => held,
+        WriteAnswer::Written(n) => {
+            let written = within(n, &output);
+            let marks = held.marks;
+            hold(&output[..written], marks)
+        }
+    }
+}
+
+// The repair of what is held by an edit line, with an output and a working buffer of its own.
+fn edit_held(inside_out: bool, line: &[u8], held: Held) -> Edited
+    ensures { λ r. ⌜ (r .answer ≡ editOn (now (line .entry)) (heldOf held) .answer)
+        × (heldOf (r .held) ≡ after (editOn (now (line .entry)) (heldOf held)) (heldOf held .file)) ⌝ }
+{
+    let mut output = [0u8; 5328];
+    let mut work = [0u8; 16384];
+    let file = held.file;
+    let mut marks = held.marks;
+    let used = within(held.used, &file);
+    let answer = repair_with(
+        inside_out,
+        &file[..used],
+        &mut marks,
+        line,
+        &mut output,
+        &mut work,
+    );
+    let next = hold_next(answer, output, Held { file, used, marks });
+    Edited { answer, held: next }
+}
+
+// The block of what is held after an accepted edit, or the number of a refused one.
+fn put_edited(edited: Edited, out: &mut [u8; 180235]) -> usize
+    ensures { λ r. ⌜ Printed (editedText (edited .answer) (heldOf (edited .held))) (now (out .entry)) (now (out .exit)) r ⌝ }
+{
+    let answer = edited.answer;
+    match answer {
+        WriteAnswer::Refused(n, _line) => report::edit_refusal(n, out),
+        WriteAnswer::Written(_n) => {
+            let held = edited.held;
+            put_held(held, out)
+        }
+    }
+}
+
+// A turn for the edit line that starts at a position, by the repair that is asked for.
+pub fn edit_line(
+    inside_out: bool,
+    input: &[u8],
+    at: usize,
+    held: Held,
+    out: &mut [u8; 180235],
+) -> Turn
+    ensures { λ r. ⌜ Gives (turned (now (input .entry)) at (heldOf held)) (now (out .entry)) (now (out .exit)) r ⌝ }
+{
+    let past = at + report::line_size(input, at);
+    let line = line_at(input, at);
+    let edited = edit_held(inside_out, line, held);
+    let size = put_edited(edited, out);
+    let kept = edited.held;
+    Turn {
+        size,
+        next: past,
+        held: kept,
+    }
+}
