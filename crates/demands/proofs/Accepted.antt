@@ -6,6 +6,7 @@ use Prim.Native.Nat.{ℕ}
 use native.Mathlib.Omega.{arith}
 use lib.Dec.{ltb}
 use lib.ListN.{length, take, drop}
+use lib.Seq.{take-append-seam}
 use Rattle.program.specs.Program.{Program}
 use Rattle.program.specs.Writing.{written}
 use Rattle.program.specs.Reading.{Outcome, accepted, readFile, refusal}
@@ -19,7 +20,6 @@ use Rattle.demands.specs.Demands.{FileOf, Acceptance}
 use Rattle.demands.specs.Refusals.{rows}
 use Rattle.demands.specs.Lists.{wrote}
 use Rattle.demands.proofs.Returning.{Judged, file-judged}
-use Rattle.demands.proofs.Listed.{take-front}
 
 -- a file that is not refused is accepted
 pub not-refused : (b : Lent) → refusal (readFile (b .file) .verdict) ≡ 0 → readFile (b .file) .verdict ≡ Accepted
@@ -55,7 +55,7 @@ comes-back b a g z =
         → take (writtenLength (cond t (answer.Refused 10 0) (answer.Written (length (written p))))) (cond t (b .output) (written p ++ drop (length (written p)) (b .output)))
         ≡ b .file
     short true p e y = absurd (omega arith)
-    short false p e y = take-front (written p) (drop (length (written p)) (b .output)) ∙ e
+    short false p e y = take-append-seam (written p) (drop (length (written p)) (b .output)) ∙ e
 
     go : (v : Verdict) (p : Program) → Judged write b (rows write b) v → (v ≡ Accepted → written p ≡ b .file) → writeRefusal (answerBy v p (length (b .output))) ≡ 0
         → take (writtenLength (answerBy v p (length (b .output)))) (outputBy v p (b .output)) ≡ b .file

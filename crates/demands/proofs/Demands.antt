@@ -1,9 +1,9 @@
 -- What is proved of the whole, for people: the three demands and the ten cases. Each proof cites.
 use mathlib.Core.Path.{_≡_}
 use mathlib.Core.Logic.{_↔_}
-use mathlib.Core.List.{List, List·Memᴰ}
+use mathlib.Core.List.{List, _∷_, flatten, List·Memᴰ}
 use Prim.Native.Nat.{ℕ, _<_}
-use lib.ListN.{length}
+use lib.ListN.{length, take}
 use Rattle.program.specs.Program.{Program}
 use Rattle.program.specs.Reading.{readFile}
 use Rattle.program.specs.declared.Verdict.the-variants.{Accepted}
@@ -13,10 +13,14 @@ use Rattle.edit.specs.Editing.{wantedEdit}
 use Rattle.edit.specs.declared.Step.{Step}
 use Rattle.edit.specs.declared.Edit.the-variants.{Drop}
 use Rattle.edit.specs.declared.EditRead.the-variants.{Read}
+use Rattle.repair.specs.Desk.{started}
 use Rattle.components.specs.Parts.{Member, Passed}
 use Rattle.report.specs.Report.{tooLong, benchText}
+use Rattle.transcript.specs.Transcript.{TurnGives, begun, Turns}
+use Rattle.transcript.specs.declared.Turn.{Turn}
+use Rattle.transcript.proofs.Theorems.{bench-text}
 use Rattle.desk.specs.Entries.{Entry, read, write, analyze, next-violation, prune, repair-forward, Lent, Back, programIn, Gives}
-use Rattle.demands.specs.Lists.{Call, started, wrote, Gave}
+use Rattle.demands.specs.Lists.{Call, wrote, Gave}
 use Rattle.demands.specs.Inputs.{SameInputs}
 use Rattle.demands.specs.Demands.{Demand1, Acceptance, Demand2, Safe, Next, Procedure, Demand3, keepingOf}
 use Rattle.demands.specs.Cases.{Case, Holds, table}
@@ -42,6 +46,12 @@ accepted-files = file-acceptance
 -- an accepted file comes back as its own bytes
 pub same-bytes : (b : Lent) (a : Back) → Gives write b a → a .refusal ≡ 0 → wrote a ≡ b .file
 same-bytes = comes-back
+
+-- what `bench` prints: the texts that the functions of its turns give, the first for the file and then one for each edit line by either repair, are together
+-- the text of the input
+pub bench-prints : {input old new : List ℕ} {t : Turn} {texts : List (List ℕ)} → TurnGives (begun input) old new t → Turns input t texts
+    → flatten (take (t .size) new ∷ texts) ≡ benchText input
+bench-prints = bench-text
 
 -- `bench` prints refusal 18 alone exactly for more than 16,384 bytes of input
 pub demand-1-bench : (input : List ℕ) → (benchText input ≡ tooLong) ↔ (16384 < length input)

@@ -5,6 +5,7 @@ use mathlib.Core.List.{List, [], _∷_}
 use Prim.Native.Nat.{ℕ, _<_}
 use native.Mathlib.Omega.{arith}
 use lib.ListN.{length, drop}
+use lib.Seq.{take-append-seam}
 use Rattle.program.specs.Program.{Program}
 use Rattle.program.specs.WellFormed.{WellFormed}
 use Rattle.program.specs.Writing.{written}
@@ -34,7 +35,6 @@ use Rattle.desk.specs.Entries.{prune, repair-forward, Lent, Back, repairBack, p
 use Rattle.demands.specs.Demands.{keepingOf}
 use Rattle.demands.specs.Lists.{wrote}
 use Rattle.demands.proofs.Returning.{Judged, checked-judged}
-use Rattle.demands.proofs.Listed.{take-front}
 
 -- ---- which marks are left
 
@@ -95,7 +95,7 @@ module _ (b : Lent) (a k : Back) (s : Step) (g : Gives repair-forward b a) (z : 
   -- what was written is read as the edited program
   is-read : readFile (wrote a) ≡ accepted p′
   is-read =
-      ap (λ (x : Back). readFile (wrote x)) (m .is) ∙ ap readFile (take-front (written p′) (drop (length (written p′)) (b .output)))
+      ap (λ (x : Back). readFile (wrote x)) (m .is) ∙ ap readFile (take-append-seam (written p′) (drop (length (written p′)) (b .output)))
       ∙ read-again p′ w′
 
   is-checked : checked (wrote a) (length (b .marks)) (length (b .work)) ≡ Accepted

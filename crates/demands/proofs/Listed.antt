@@ -1,11 +1,12 @@
 -- A list of repair calls never drifts from the reference model: one call, and then the whole list.
 use mathlib.Core.Path.{_≡_, refl, sym, ap, subst, _∙_}
 use mathlib.Core.Bool.{Bool, true, false, cond}
-use mathlib.Core.List.{List, [], _∷_, _++_, map}
+use mathlib.Core.List.{List, [], _∷_, map}
 use Prim.Native.Nat.{ℕ}
 use native.Mathlib.Omega.{arith}
 use lib.Dec.{ltb, eqb}
-use lib.ListN.{length, take, drop}
+use lib.ListN.{length, drop}
+use lib.Seq.{take-append-seam}
 use borrow.Author.Tests.{ne-eqb}
 use Rattle.program.specs.Program.{Program}
 use Rattle.program.specs.WellFormed.{WellFormed}
@@ -23,18 +24,15 @@ use Rattle.edit.specs.declared.EditRead.{EditRead}
 use Rattle.edit.specs.declared.EditRead.the-variants as read
 use Rattle.edit.proofs.Theorems.{wanted-applies, applied-well-formed}
 use Rattle.repair.specs.Repairs.{After, untouched, repairedTo, wantedBy, repairedBy, measured, repaired}
+use Rattle.repair.specs.Desk.{Desk, started}
 use Rattle.repair.specs.Reanalyzed.{insideOutNumber}
 use Rattle.repair.proofs.Numbers.{wanted-number}
 use Rattle.desk.specs.Entries.{Back, repairBack, Gives}
 use Rattle.demands.specs.Book.{bookEdges, bookRefusal, bookEdited, unlessRefused, bookAfter, bookProgram, editReadRefusal}
-use Rattle.demands.specs.Lists.{Repair, forward, inside-out, Call, entry, Desk, started, lentTo, after, Gave, Seen, seen, foreseen, bookCall, bookRefuses, bookPlayed, RoutinesBy, BookRoutines, editOf, LeavesOthers, BookLeaves}
+use Rattle.demands.specs.Lists.{Repair, forward, inside-out, Call, entry, lentTo, after, Gave, Seen, seen, foreseen, bookCall, bookRefuses, bookPlayed, RoutinesBy, BookRoutines, editOf, LeavesOthers, BookLeaves}
 use Rattle.demands.specs.Demands.{Demand3}
 use Rattle.demands.proofs.Booked.{book-well-formed, wanted-sorted, booked}
 use Rattle.demands.proofs.Local.{local-change}
-
-pub take-front : (xs ys : List ℕ) → take (length xs) (xs ++ ys) ≡ xs
-take-front [] ys = refl
-take-front (x ∷ xs) ys = ap (λ (t : List ℕ). x ∷ t) (take-front xs ys)
 
 -- the desk has the file and the marks of the model's program
 record Agrees (d : Desk) (b : Program) : Type 0 where
@@ -77,7 +75,7 @@ module _ (d : Desk) (b : Program) (g : Agrees d b) (k : ℕ) where
   goes e output h =
       let q = editedProgram e p in
       let x : bookProgram (withEdges b (bookEdges e (b .edges))) ≡ q = booked b e in
-      let w = take-front (written q) (drop (length (written q)) output) in
+      let w = take-append-seam (written q) (drop (length (written q)) output) in
       record {
         same-seen = rw (x, w);
         again = record { file = rw (x, w); marks = rw x; well-formed = rw x (applied-well-formed e p (g .well-formed) h) };

@@ -7,7 +7,6 @@ use mathlib.Core.List.{List, [], _∷_}
 use lib.Dec.{eqb}
 use lib.ListN.{length, take}
 use Rattle.program.specs.Program.{Program}
-use Rattle.program.specs.Reading.{readFile}
 use Rattle.program.specs.Writing.{written}
 use Rattle.reach.specs.Runs.{Occurs}
 use Rattle.reach.specs.Reachable.{Calls}
@@ -16,6 +15,7 @@ use Rattle.edit.specs.Edits.{oldEdge}
 use Rattle.edit.specs.Editing.{wantedEdit}
 use Rattle.edit.specs.declared.EditRead.{EditRead}
 use Rattle.edit.specs.declared.EditRead.the-variants.{Read, Refused}
+use Rattle.repair.specs.Desk.{Desk}
 use Rattle.repair.specs.Reanalyzed.{insideOutNumber}
 use Rattle.desk.specs.Entries.{Entry, repair-forward, repair-inside-out, Lent, Back, Gives}
 use Rattle.demands.specs.Book.{bookRefusal, bookAfter, bookProgram}
@@ -39,15 +39,6 @@ abbrev pub entry : Repair → Entry
 entry forward = repair-forward
 entry inside-out = repair-inside-out
 
--- what the desk keeps for the next call: a file and marks
-pub record Desk : Type 0 where
-  pub file : List ℕ
-  pub marks : List ℕ
-
--- at the start: an accepted file and its fresh marks
-abbrev pub started : List ℕ → Desk
-started file = record { file = file; marks = freshMarks (readFile file .program) }
-
 -- what is lent to a call
 abbrev pub lentTo : Desk → Call → Lent
 lentTo d c = record { file = d .file; marks = d .marks; edit = c .line; output = c .output; work = c .work; from = 0 }
@@ -56,7 +47,7 @@ lentTo d c = record { file = d .file; marks = d .marks; edit = c .line; output =
 abbrev pub wrote : Back → List ℕ
 wrote a = take (a .values .written) (a .output)
 
--- afterwards the marks are as the call left them, and the file is a copy of what an accepted call wrote; a refused one leaves the file
+-- what is kept for the next call: the marks as this one left them, and as its file a copy of what an accepted call wrote; a refused one leaves the file
 abbrev pub after : Desk → Back → Desk
 after d a = record { file = cond (eqb (a .refusal) 0) (wrote a) (d .file); marks = a .marks }
 

@@ -1,3 +1,4 @@
 pub mod Repairs
+pub mod Desk
 pub mod Reanalyzed
 pub mod Parts

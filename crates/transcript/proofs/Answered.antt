@@ -25,7 +25,7 @@ use Rattle.edit.specs.declared.EditRead.{EditRead}
 use Rattle.edit.specs.declared.EditRead.the-variants as read
 use Rattle.edit.proofs.Theorems.{wanted-applies, applied-well-formed}
 use Rattle.repair.specs.Repairs.{After, measured, foreign, repairedTo, wantedBy, repairedBy, repaired}
-use Rattle.repair.specs.Calls.{Desk, fileBy, after}
+use Rattle.repair.specs.Desk.{Desk, fileBy, after}
 use Rattle.repair.proofs.Answered.{passed}
 use Rattle.report.specs.Report.{blockOf, blockText, fileRefusal, refusedFile}
 use Rattle.transcript.specs.Transcript.{heldOf, noOutput, editOn, textBy}

@@ -12,9 +12,9 @@ use Rattle.writer.specs.declared.WriteAnswer.the-variants.{Refused}
 use Rattle.reach.specs.Marks.{freshMarks}
 use Rattle.reach.proofs.Kept.{marks-length}
 use Rattle.repair.specs.Repairs.{After}
-use Rattle.repair.specs.Calls.{Desk, started, after}
+use Rattle.repair.specs.Desk.{Desk, started, after}
 use Rattle.report.specs.Report.{fileSize, firstSize, blockText, editRefusal, fileRefusal, Printed}
-use Rattle.transcript.specs.Transcript.{heldOf, nothing, Gives, fileOf, begunBy, begun, lineAt, editOn, textBy, turned}
+use Rattle.transcript.specs.Transcript.{heldOf, nothing, TurnGives, fileOf, begunBy, begun, lineAt, editOn, textBy, turned}
 use Rattle.transcript.specs.Parts.{editedText}
 use Rattle.transcript.specs.declared.Held.{Held}
 use Rattle.transcript.specs.declared.Turn.{Turn}
@@ -22,19 +22,19 @@ use Rattle.transcript.proofs.Answered.{block-is, refusal-is, edited-tex
 
 module _ (input old : List ℕ) {new : List ℕ} where
   pub gives-too-long : {t : Turn} {size : ℕ} → 16384 < length input → Printed (editRefusal 18 180235) old new size
-      → (t .size ≡ size) × ((t .next ≡ length input) × (heldOf (t .held) ≡ nothing)) → Gives (begun input) old new t
+      → (t .size ≡ size) × ((t .next ≡ length input) × (heldOf (t .held) ≡ nothing)) → TurnGives (begun input) old new t
   unfolding begun
   gives-too-long h g k = rw (lt-ltb 16384 (length input) h) (record { printed = rw (k .0) g; next = k .1 .0; held = k .1 .1 })
 
-  pub gives-file : {t : Turn} → length input ≤ 16384 → Gives (begunBy (readFile (fileOf input) .verdict) (readFile (fileOf input) .program) input) old new t
-      → Gives (begun input) old new t
+  pub gives-file : {t : Turn} → length input ≤ 16384 → TurnGives (begunBy (readFile (fileOf input) .verdict) (readFile (fileOf input) .program) input) old new t
+      → TurnGives (begun input) old new t
   unfolding begun
   gives-file h g = rw (le-ltb 16384 (length input) h) g
 
   module _ {end : ℕ} (e : end ≡ fileSize (lines input)) where
     pub gives-refusal : {t : Turn} {size n line : ℕ} → readFile (take end input) .verdict ≡ verdict.Refused n line → Printed (fileRefusal n line 180235) old new size
         → (t .size ≡ size) × ((t .next ≡ length input) × (heldOf (t .held) ≡ nothing))
-        → Gives (begunBy (readFile (fileOf input) .verdict) (readFile (fileOf input) .program) input) old new t
+        → TurnGives (begunBy (readFile (fileOf input) .verdict) (readFile (fileOf input) .program) input) old new t
     gives-refusal {t} {size} {n} {line} v g k =
         let v′ : readFile (fileOf input) .verdict ≡ verdict.Refused n line = rw e at v in
         rw v′ (record { printed = rw (k .0, ← refusal-is (fileOf input) n line v′) g; next = k .1 .0; held = k .1 .1 })
@@ -43,7 +43,7 @@ module _ (input old : List ℕ) {new : List ℕ} where
         → marks ≡ freshMarks (readFile (take end input) .program)
         → heldOf h ≡ record { file = take end input; marks = marks }
         → Printed (blockText (heldOf h .file) (heldOf h .marks) 180235) old new size
-        → Gives (begunBy (readFile (fileOf input) .verdict) (readFile (fileOf input) .program) input) old new (record { size = size; next = end; held = h })
+        → TurnGives (begunBy (readFile (fileOf input) .verdict) (readFile (fileOf input) .program) input) old new (record { size = size; next = end; held = h })
     gives-block {h} {size} {marks} v m k g =
         let v′ : readFile (fileOf input) .verdict ≡ verdict.Accepted = rw e at v in
         let k′ : heldOf h ≡ started (fileOf input) = k ∙ rw (m, e) in
@@ -54,7 +54,7 @@ module _ (input old : List ℕ) {new : List ℕ} where
   pub gives-turn : (at : ℕ) (d : Desk) {h : Held} {size n : ℕ} {line : List ℕ} {answer : WriteAnswer} → n ≡ firstSize (lines (drop at input)) → line ≡ lineAt input at
       → (answer ≡ editOn line d .answer) × (heldOf h ≡ after (editOn line d) (d .file))
       → Printed (editedText answer (heldOf h)) old new size
-      → Gives (turned input at d) old new (record { size = size; next = at + n; held = h })
+      → TurnGives (turned input at d) old new (record { size = size; next = at + n; held = h })
   unfolding turned
   gives-turn at d {h} {size} {n} {line} {answer} e l k g =
       let a : After = editOn (lineAt input at) d in

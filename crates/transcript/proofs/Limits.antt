@@ -17,7 +17,7 @@ use Rattle.writer.specs.declared.WriteAnswer.the-variants.{Written, Refused}
 use Rattle.reach.specs.Marks.{freshMarks}
 use Rattle.reach.proofs.Kept.{marks-length}
 use Rattle.repair.specs.Repairs.{After}
-use Rattle.repair.specs.Calls.{Desk, after}
+use Rattle.repair.specs.Desk.{Desk, after}
 use Rattle.report.specs.Report.{blockOf, blockBy, blockText, refusedEdit, refusedFile, tooLong}
 use Rattle.report.proofs.Theorems.{block-limited}
 use Rattle.transcript.specs.Transcript.{fileOf, begunBy, begun, lineAt, editOn, turned, alone}

@@ -23,11 +23,11 @@ use Rattle.edit.specs.declared.EditRead.{EditRead}
 use Rattle.edit.specs.declared.EditRead.the-variants as read
 use Rattle.edit.proofs.Theorems.{wanted-applies, applied-well-formed, edited-read}
 use Rattle.repair.specs.Repairs.{wantedBy, measured, repaired}
-use Rattle.repair.specs.Calls.{Desk}
+use Rattle.repair.specs.Desk.{Desk}
 use Rattle.repair.proofs.Answered.{none-length}
 use Rattle.report.specs.Report.{firstSize, editText, programAfter, editsText, blockOf, tooLong, fileSize, fileText, inputText, benchText}
 use Rattle.report.proofs.Ends.{next-line}
-use Rattle.transcript.specs.Transcript.{heldOf, Shown, Gives, lineAt, noOutput, editOn, turnedBy, turned, Turns, over, turn, fileOf, alone, begunBy, begun}
+use Rattle.transcript.specs.Transcript.{heldOf, Shown, TurnGives, lineAt, noOutput, editOn, turnedBy, turned, Turns, over, turn, fileOf, alone, begunBy, begun}
 use Rattle.transcript.specs.declared.Turn.{Turn}
 use Rattle.transcript.proofs.Parts.{printed-front}
 use Rattle.transcript.proofs.Answered.{take-written}
@@ -77,7 +77,7 @@ turns-text {input} {t} p f e (turn {t′ = t′} {old = old} {new = new} {texts 
     let l : List ℕ = lineAt input at in
     let next : ℕ = at + firstSize (lines (drop at input)) in
     let q : Program = programAfter (wantedEdit p l) p in
-    let g′ = subst (λ (s : Shown). Gives s old new t′) (ap (turned input at) e ∙ is-turn input at p f) g in
+    let g′ = subst (λ (s : Shown). TurnGives s old new t′) (ap (turned input at) e ∙ is-turn input at p f) g in
     let front : take (t′ .size) new ≡ editText (wantedEdit p l) p = printed-front (editText (wantedEdit p l) p) old (g′ .printed) in
     let rest : flatten texts ≡ editsText q (lines (drop next input)) =
     turns-text q (still-well-formed p f l (wantedEdit p l) refl) (g′ .held) ts ∙ ap (λ (n : ℕ). editsText q (lines (drop n input))) (g′ .next) in
@@ -92,11 +92,11 @@ no-turns e (turn h g ts) = absurd (omega arith)
 -- ---- the first turn, and those after it
 
 module _ {input : List ℕ} {t : Turn} {texts : List (List ℕ)} (ts : Turns input t texts) where
-  alone-text : {old new : List ℕ} (s : List ℕ) → Gives (alone s input) old new t → flatten (take (t .size) new ∷ texts) ≡ s
+  alone-text : {old new : List ℕ} (s : List ℕ) → TurnGives (alone s input) old new t → flatten (take (t .size) new ∷ texts) ≡ s
   unfolding flatten
   alone-text {old} s g = (λ i. printed-front s old (g .printed) i ++ no-turns (omega (arith, g .next)) ts i) ∙ append-nil s
 
-  file-text : {old new : List ℕ} (v : Verdict) → readFile (fileOf input) .verdict ≡ v → Gives (begunBy v (readFile (fileOf input) .program) input) old new t
+  file-text : {old new : List ℕ} (v : Verdict) → readFile (fileOf input) .verdict ≡ v → TurnGives (begunBy v (readFile (fileOf input) .program) input) old new t
       → flatten (take (t .size) new ∷ texts) ≡ fileText v (readFile (fileOf input) .program) (lines (drop (fileSize (lines input)) input))
   unfolding flatten
   file-text (verdict.Refused n line) h g = alone-text _ g
@@ -106,12 +106,12 @@ module _ {input : List ℕ} {t : Turn} {texts : List (List ℕ)} (ts : Turns inp
       let rest = turns-text p (accepted-well-formed (fileOf input) h) own ts ∙ ap (λ (n : ℕ). editsText p (lines (drop n input))) (g .next) in
       λ i. printed-front (blockOf p (freshMarks p)) old (g .printed) i ++ rest i
 
-pub turns-print : {input old new : List ℕ} {t : Turn} {texts : List (List ℕ)} → Gives (begun input) old new t → Turns input t texts
+pub turns-print : {input old new : List ℕ} {t : Turn} {texts : List (List ℕ)} → TurnGives (begun input) old new t → Turns input t texts
     → flatten (take (t .size) new ∷ texts) ≡ benchText input
 unfolding begun benchText
 turns-print {input} {old} {new} {t} {texts} g ts = go (ltb 16384 (length input)) g
   where
-    go : (b : Bool) → Gives (cond b (alone tooLong input) (begunBy (readFile (fileOf input) .verdict) (readFile (fileOf input) .program) input)) old new t
+    go : (b : Bool) → TurnGives (cond b (alone tooLong input) (begunBy (readFile (fileOf input) .verdict) (readFile (fileOf input) .program) input)) old new t
         → flatten (take (t .size) new ∷ texts) ≡ cond b tooLong (inputText input (fileSize (lines input)))
     go true h = alone-text ts tooLong h
     go false h = file-text ts (readFile (fileOf input) .verdict) refl h

@@ -5,7 +5,7 @@ use mathlib.Core.List.{List}
 use lib.ListN.{length, take, drop}
 use Rattle.writer.specs.declared.WriteAnswer.{WriteAnswer}
 use Rattle.writer.specs.declared.WriteAnswer.the-variants.{Written, Refused}
-use Rattle.repair.specs.Calls.{Desk}
+use Rattle.repair.specs.Desk.{Desk}
 use Rattle.report.specs.Report.{blockText, refusedEdit}
 
 -- what is printed for a repair's answer and what is held after it, whatever that is

@@ -17,7 +17,7 @@ use Rattle.writer.specs.declared.WriteAnswer.the-variants.{Written, Refused}
 use Rattle.reach.specs.Configurations.{none-set}
 use Rattle.reach.specs.Marks.{freshMarks}
 use Rattle.repair.specs.Repairs.{After, repaired}
-use Rattle.repair.specs.Calls.{Desk, started, after}
+use Rattle.repair.specs.Desk.{Desk, started, after}
 use Rattle.report.specs.Report.{fileSize, firstSize, blockOf, tooLong, refusedFile, refusedEdit, Printed}
 use Rattle.transcript.specs.declared.Held.{Held}
 use Rattle.transcript.specs.declared.Turn.{Turn}
@@ -40,7 +40,7 @@ pub record Shown : Type 0 where
 
 -- what a turn's function promises: the text stands at the output's start, whose other bytes stay, and the answer has the text's length, the next position and what
 -- is held
-pub record Gives (s : Shown) (old new : List ℕ) (t : Turn) : Type 0 where
+pub record TurnGives (s : Shown) (old new : List ℕ) (t : Turn) : Type 0 where
   pub printed : Printed (s .text) old new (t .size)
   pub next : t .next ≡ s .next
   pub held : heldOf (t .held) ≡ s .held
@@ -97,5 +97,5 @@ turned input at d = turnedBy (editOn (lineAt input at) d) (d .file) (at + firstS
 -- its output
 pub data Turns (input : List ℕ) : Turn → List (List ℕ) → Type 0 where
   over : {t : Turn} → length input ≤ t .next → Turns input t []
-  turn : {t t′ : Turn} {old new : List ℕ} {texts : List (List ℕ)} → t .next < length input → Gives (turned input (t .next) (heldOf (t .held))) old new t′
+  turn : {t t′ : Turn} {old new : List ℕ} {texts : List (List ℕ)} → t .next < length input → TurnGives (turned input (t .next) (heldOf (t .held))) old new t′
       → Turns input t′ texts → Turns input t (take (t′ .size) new ∷ texts)

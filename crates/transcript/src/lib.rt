@@ -7,9 +7,9 @@ ghost use Prim.Native.Nat.{_≤_};
 ghost use lib.ListN.{length};
 ghost use Rattle.program.specs.Reading.{readFile};
 ghost use Rattle.repair.specs.Repairs.{After, repaired};
-ghost use Rattle.repair.specs.Calls.{fileBy, after};
+ghost use Rattle.repair.specs.Desk.{fileBy, after};
 ghost use Rattle.report.specs.Report.{blockText, Printed};
-ghost use Rattle.transcript.specs.Transcript.{heldOf, nothing, Gives, fileOf, begunBy, begun, lineAt, editOn, turned};
+ghost use Rattle.transcript.specs.Transcript.{heldOf, nothing, TurnGives, fileOf, begunBy, begun, lineAt, editOn, turned};
 ghost use Rattle.transcript.specs.Parts.{Within, editedText};
 
 // What is held between two turns: the first `used` bytes of the file, and its marks. The bytes past `used` are free.
@@ -87,7 +87,7 @@ fn put_held(held: Held, out: &mut [u8; 180235]) -> usize
 // The file: its refusal, or its block and the file to be held. An input that is longer is refused before: hence the `requires`.
 fn begin_file(input: &[u8], out: &mut [u8; 180235]) -> Turn
     requires { ⌜ length (now input) ≤ 16384 ⌝ }
-    ensures { λ r. ⌜ Gives (begunBy (readFile (fileOf (now (input .entry))) .verdict) (readFile (fileOf (now (input .entry))) .program) (now (input .entry)))
+    ensures { λ r. ⌜ TurnGives (begunBy (readFile (fileOf (now (input .entry))) .verdict) (readFile (fileOf (now (input .entry))) .program) (now (input .entry)))
         (now (out .entry)) (now (out .exit)) r ⌝ }
 {
     let end = report::file_size(input);
@@ -113,7 +113,7 @@ fn begin_file(input: &[u8], out: &mut [u8; 180235]) -> Turn
 
 // The first turn. More than 16,384 bytes of input are refused (18); else the file is read.
 pub fn begin(input: &[u8], out: &mut [u8; 180235]) -> Turn
-    ensures { λ r. ⌜ Gives (begun (now (input .entry))) (now (out .entry)) (now (out .exit)) r ⌝ }
+    ensures { λ r. ⌜ TurnGives (begun (now (input .entry))) (now (out .entry)) (now (out .exit)) r ⌝ }
 {
     if 16384 < input.len() {
         let size = report::edit_refusal(18, out);
@@ -208,7 +208,7 @@ pub fn edit_line(
     held: Held,
     out: &mut [u8; 180235],
 ) -> Turn
-    ensures { λ r. ⌜ Gives (turned (now (input .entry)) at (heldOf held)) (now (out .entry)) (now (out .exit)) r ⌝ }
+    ensures { λ r. ⌜ TurnGives (turned (now (input .entry)) at (heldOf held)) (now (out .entry)) (now (out .exit)) r ⌝ }
 {
     let past = at + report::line_size(input, at);
     let line = line_at(input, at);
