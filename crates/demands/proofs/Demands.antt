@@ -18,7 +18,7 @@ use Rattle.components.specs.Parts.{Member, Passed}
 use Rattle.report.specs.Report.{tooLong, benchText}
 use Rattle.transcript.specs.Transcript.{TurnGives, begun, Turns}
 use Rattle.transcript.specs.declared.Turn.{Turn}
-use Rattle.transcript.proofs.Theorems.{bench-text}
+use Rattle.transcript.proofs.Turning.{turns-print}
 use Rattle.desk.specs.Entries.{Entry, read, write, analyze, next-violation, prune, repair-forward, Lent, Back, programIn, Gives}
 use Rattle.demands.specs.Lists.{Call, wrote, Gave}
 use Rattle.demands.specs.Inputs.{SameInputs}
@@ -49,9 +49,9 @@ same-bytes = comes-back
 
 -- what `bench` prints: the texts that the functions of its turns give, the first for the file and then one for each edit line by either repair, are together
 -- the text of the input
-pub bench-prints : {input old new : List ℕ} {t : Turn} {texts : List (List ℕ)} → TurnGives (begun input) old new t → Turns input t texts
+pub bench-text : {input old new : List ℕ} {t : Turn} {texts : List (List ℕ)} → TurnGives (begun input) old new t → Turns input t texts
     → flatten (take (t .size) new ∷ texts) ≡ benchText input
-bench-prints = bench-text
+bench-text = turns-print
 
 -- `bench` prints refusal 18 alone exactly for more than 16,384 bytes of input
 pub demand-1-bench : (input : List ℕ) → (benchText input ≡ tooLong) ↔ (16384 < length input)
@@ -82,8 +82,8 @@ pub demand-3 : (file : List ℕ) → readFile file .verdict ≡ Accepted → (cs
 demand-3 = list-demanded
 
 -- the keeping, on any sheet: a 1 at each mark that has support back to a start through marked configurations, and 0 elsewhere
-pub keeping : (b : Lent) (a : Back) → Gives prune b a → a .refusal ≡ 0 → Shows (Kept (programIn b) (b .marks)) (a .marks)
-keeping = pruned
+pub prune-keeps : (b : Lent) (a : Back) → Gives prune b a → a .refusal ≡ 0 → Shows (Kept (programIn b) (b .marks)) (a .marks)
+prune-keeps = pruned
 
 -- what the keeping gives for the edited file and the old marks is what a forward drop leaves
 pub forward-drop : (b : Lent) (a k : Back) (s : Step) → Gives repair-forward b a → a .refusal ≡ 0 → wantedEdit (programIn b) (b .edit) ≡ Read (Drop s)

@@ -3,4 +3,3 @@ pub mod Answered
 pub mod Given
 pub mod Limits
 pub mod Turning
-pub mod Theorems

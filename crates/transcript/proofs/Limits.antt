@@ -1,12 +1,13 @@
--- How long a text is.
-use mathlib.Core.Path.{_≡_, refl, ap}
+-- How long a text is, and that each turn comes further.
+use mathlib.Core.Path.{_≡_, refl, ap, _∙_}
 use mathlib.Core.Bool.{Bool, true, false, cond, _&&_}
 use mathlib.Core.List.{List, []}
-use Prim.Native.Nat.{ℕ, _≤_}
+use Prim.Native.Nat.{ℕ, _<_, _≤_}
 use native.Mathlib.Omega.{arith}
 use lib.Dec.{eqb, ltb}
-use lib.ListN.{length, length-append}
+use lib.ListN.{length, drop, length-append, length-drop}
 use borrow.Author.Tests.{eqb-true}
+use Rattle.text.specs.Lines.{lines}
 use Rattle.text.proofs.RoundTrip.{length-hex}
 use Rattle.program.specs.Program.{Program}
 use Rattle.program.specs.Reading.{readFile}
@@ -18,9 +19,11 @@ use Rattle.reach.specs.Marks.{freshMarks}
 use Rattle.reach.proofs.Kept.{marks-length}
 use Rattle.repair.specs.Repairs.{After}
 use Rattle.repair.specs.Desk.{Desk, after}
-use Rattle.report.specs.Report.{blockOf, blockBy, blockText, refusedEdit, refusedFile, tooLong}
+use Rattle.report.specs.Report.{firstSize, blockOf, blockBy, blockText, refusedEdit, refusedFile, tooLong}
+use Rattle.report.proofs.Ends.{line-inside}
 use Rattle.report.proofs.Theorems.{block-limited}
-use Rattle.transcript.specs.Transcript.{fileOf, begunBy, begun, lineAt, editOn, turned, alone}
+use Rattle.transcript.specs.Transcript.{Shown, TurnGives, fileOf, begunBy, begun, lineAt, editOn, turned, alone}
+use Rattle.transcript.specs.declared.Turn.{Turn}
 use Rattle.transcript.specs.Parts.{editedText}
 use Rattle.transcript.proofs.Answered.{edited-text}
 
@@ -64,3 +67,14 @@ turned-short input at d =
     let a : After = editOn (lineAt input at) d in
     let e = edited-text (lineAt input at) d in
     omega (arith, ap length e, edited-limited (a .answer) (after a (d .file)))
+
+-- So an output that is as long keeps its length, and what is printed lies in it.
+pub text-within : {s : Shown} {old new : List ℕ} {t : Turn} → length (s .text) ≤ length old → TurnGives s old new t → (length new ≡ length old) × (t .size ≤ length new)
+text-within {s} {old} {new} h g =
+    let n : length new ≡ length old = ap length (g .printed .1) ∙ simp (length-append, length-drop) (omega arith) in
+    (n, omega (arith, g .printed .0))
+
+-- While a line is left, the next turn starts past it: so the turns end.
+pub turn-advances : (input : List ℕ) (d : Desk) {old new : List ℕ} {at : ℕ} {t : Turn} → at < length input → TurnGives (turned input at d) old new t → at < t .next
+unfolding turned
+turn-advances input d {at = at} h g = omega (arith, g .next, line-inside input at (firstSize (lines (drop at input))) h refl)

@@ -6,7 +6,7 @@ use Prim.Native.Nat.{ℕ, _≤_, _<_, _-_}
 use mathlib.Core.Path.{_≡_, _∙_}
 use lib.ListN.{length, length-replicate}
 use Rattle.transcript.specs.Transcript.{heldOf}
-use Rattle.transcript.proofs.Theorems.{begun-limited, turned-limited, text-within, turn-advances}
+use Rattle.transcript.proofs.Limits.{begun-short, turned-short, text-within, turn-advances}
 use Rattle.bench.proofs.print_turns.Statement.{statement}
 use Rattle.bench.proofs.print_turns.Tie as tie
 
@@ -30,7 +30,7 @@ loop-holds : tie.Need-loop-holds Inv-loop μ-loop
 loop-holds c =
     let a = c .before .before .before .args in
     let z = length-replicate {A = ℕ} 180235 0 in
-    let w = text-within (rw z (begun-limited (a .input .now))) (c .begin .ensures) in
+    let w = text-within (rw z (begun-short (a .input .now))) (c .begin .ensures) in
     (w .0 ∙ z, w .1)
 
 slice-aggregate-print : tie.Need-slice-aggregate-print Inv-loop μ-loop
@@ -55,7 +55,7 @@ loop-again : tie.Need-loop-again Inv-loop μ-loop
 loop-again c =
     let l = looped c in
     let e = l .loop .inv .0 in
-    let t = turned-limited (start l .args .input .now) (l .loop .turn .next) (heldOf (l .loop .turn .held)) in
+    let t = turned-short (start l .args .input .now) (l .loop .turn .next) (heldOf (l .loop .turn .held)) in
     let w = text-within (rw e t) (c .edit-line .ensures) in
     (w .0 ∙ e, w .1)
 
