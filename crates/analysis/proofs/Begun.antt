@@ -9,8 +9,8 @@ use lib.Seq.{drop-cons}
 use Rattle.program.specs.Program.{Program}
 use Rattle.program.specs.WellFormed.{WellFormed}
 use Rattle.reach.specs.Configurations.{number, none-set}
-use Rattle.reach.specs.Worklist.{Worklist, lowest, mark, work, opened, blank, analysis}
-use Rattle.reach.proofs.Kept.{Shape, opened-shape}
+use Rattle.reach.specs.Worklist.{Worklist, Shape, lowest, mark, work, opened, blank, analysis}
+use Rattle.reach.proofs.Kept.{opened-shape}
 use Rattle.reach.proofs.Bound.{analysis-ends}
 use Rattle.reach.proofs.Exact.{pending-clear}
 use Rattle.analysis.specs.Parts.{worklist, Becomes, NoneBelow, each, followed}

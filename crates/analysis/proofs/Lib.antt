@@ -9,6 +9,6 @@ pub mod Following
 pub mod Begun
 pub mod Filling
 pub mod Known
-pub mod Grown
+pub mod Awaited
 pub mod Answered
 pub mod Slice

@@ -4,7 +4,7 @@ use mathlib.Core.Path.{_≡_}
 use mathlib.Core.Bool.{cond, _&&_, not}
 use mathlib.Core.Option.{Option, some, none}
 use mathlib.Core.List.{List, map}
-use lib.Dec.{eqb, ltb}
+use lib.Dec.{eqb, ltb, leb}
 use lib.ListN.{length, getD, take}
 use Rattle.automaton.specs.Automaton.{Automaton, goes, moves, isRejecting}
 use Rattle.automaton.specs.Decoded.{transitionOf}
@@ -14,8 +14,7 @@ use Rattle.program.specs.WellFormed.{WellFormed}
 use Rattle.program.specs.Decoded.{edgeOf}
 use Rattle.reach.specs.Configurations.{number}
 use Rattle.reach.specs.Runs.{Step, stepOf}
-use Rattle.reach.specs.Worklist.{Worklist, lowest, mark, markWhen, wake, work}
-use Rattle.reach.proofs.Kept.{Shape}
+use Rattle.reach.specs.Worklist.{Worklist, Shape, lowest, mark, markWhen, wake, work}
 
 -- the worklist of these bytes
 abbrev pub worklist : List ℕ → List ℕ → List ℕ → ℕ → Worklist
@@ -46,10 +45,6 @@ markFlag flags place base x s = markWhen (not (eqb (getD flags (place + x) 0) 0)
 abbrev pub wakeAt : ℕ → ℕ → Worklist → Worklist
 wakeAt base x s = wake (base + 8 * x) s
 
--- the number base + x is woken
-abbrev pub wakeFrom : ℕ → ℕ → Worklist → Worklist
-wakeFrom base x s = wake (base + x) s
-
 -- every byte of a list is what a rule gives for its number
 pub record Filled (rule : ℕ → ℕ) (size : ℕ) (l : List ℕ) : Type 0 where
   pub len : length l ≡ size
@@ -62,6 +57,10 @@ exitAt i = i / 64 * 1024 + 64 + i % 64
 -- the known summaries are those of the marked exits
 abbrev pub Learnt : List ℕ → List ℕ → Type 0
 Learnt marks known = Filled (λ i. getD marks (exitAt i) 0) 1024 known
+
+-- what is pending at the start of a part: of the marked numbers from low up to high those that are no exits
+abbrev pub firstPending : ℕ → ℕ → ℕ → ℕ → ℕ
+firstPending low high mark i = cond (leb low i && ltb i high) (cond (eqb (i / 64 % 16) 1) 0 mark) 0
 
 -- the place of the answer to: may the automaton go from q to s on a?
 abbrev pub nextPlace : ℕ → ℕ → ℕ → ℕ

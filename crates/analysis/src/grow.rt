@@ -1,49 +1,33 @@
-// After edges were added to a program, its marks are completed to those of the program that it has become.
-use crate::count::clear;
-use crate::exits::summaries_of;
-use crate::marking::wake;
+// After edges were added to a program, what follows by them is marked.
+use crate::next::next_states;
 use crate::number::number_of;
-use crate::run::follow_program;
+use crate::part::follow_part;
+use automaton::in_use;
 use program::DecodedProgram;
 ghost use mathlib.Core.Path.{_≡_};
+ghost use Prim.Native.Nat.{_+_, _<_};
 ghost use lib.ListN.{length};
-ghost use Rattle.program.specs.Program.{Program};
 ghost use Rattle.program.specs.WellFormed.{WellFormed};
 ghost use Rattle.program.specs.Decoded.{programOf};
 ghost use Rattle.reach.specs.Configurations.{number, none-set};
-ghost use Rattle.reach.specs.Marks.{freshMarks};
-ghost use Rattle.reach.proofs.Growing.{Grown};
-ghost use Rattle.analysis.specs.Parts.{Becomes, Lowers, each, wakeFrom};
+ghost use Rattle.reach.specs.Reachable.{Derivable, Any};
+ghost use Rattle.reach.specs.Marks.{Marked, Shows, ClosedBut};
 
-// The marked configurations at node n of routine f become pending; their 64 numbers follow one another. Returns a number
-// below which nothing is pending, if nothing was before.
-fn wake_node(marks: &[u8], pending: &mut [u8], f: u8, n: u8) -> usize
-    requires { ⌜ (length (now marks) ≡ 16384) × (length (now pending) ≡ 16384) ⌝ }
-    ensures { λ r. ⌜ Becomes (each (wakeFrom (number f n 0 0)) 64 0) (now (marks .entry)) (now (pending .entry)) (now (marks .entry)) (now (pending .exit))
-        × Lowers (now (pending .entry)) 16384 (now (pending .exit)) r ⌝ }
-{
-    let base = number_of(f, n, 0, 0);
-    let mut low: usize = 16384;
-    let mut i: usize = 0;
-    while i < 64 {
-        low = wake(marks, pending, base + i, low);
-        i = i + 1;
-    }
-    low
-}
-
-// The marks of a program that had fewer edges, all the new ones leading from node n of routine f, become the marks of the
-// program as it is now. The old marks are closed under the old edges; to take the configurations at the new edges' source
-// lets these act, and what they add is followed as in the full analysis. From any other marks it would not come to the
-// program's own: hence the `requires`.
+// What follows from the marks by the edges of a program is marked, once edges were added that lead from node n of routine f.
+// What was marked before is closed under the edges that were there, so that only the configurations at that node, whose 64
+// numbers follow one another, can lead to something new; from any other marks what follows elsewhere would be missed: hence the
+// `requires`.
 pub fn follow_added(p: DecodedProgram, f: u8, n: u8, marks: &mut [u8], pending: &mut [u8])
-    requires { ⌜ WellFormed (programOf p) × (length (now pending) ≡ 16384) ⌝ }
-    requires { ⌜ ((old : Program) × Grown old (programOf p) f n × (now marks ≡ freshMarks old)) ⌝ }
-    ensures { λ _. ⌜ (now (marks .exit) ≡ freshMarks (programOf p)) × (now (pending .exit) ≡ none-set) ⌝ }
+    requires { ⌜ WellFormed (programOf p) × (f < 16) × (n < 16) × (length (now pending) ≡ 16384) ⌝ }
+    requires { ⌜ ClosedBut (programOf p) (number f n 0 0) (number f n 0 0 + 64) (now marks) ⌝ }
+    ensures { λ _. ⌜ Shows (Derivable (programOf p) (Marked (now (marks .entry))) Any) (now (marks .exit)) × (now (pending .exit) ≡ none-set) ⌝ }
 {
-    let exits = summaries_of(marks);
-    let mut known = exits.flags;
-    clear(pending);
-    let low = wake_node(marks, pending, f, n);
-    let _iterations = follow_program(p, marks, pending, &mut known, low);
+    let rule = p.automaton;
+    let edges = p.edges;
+    let keys = edges.keys;
+    let table = next_states(rule);
+    let next = table.flags;
+    let count = in_use(edges.count, 256);
+    let low = number_of(f, n, 0, 0);
+    follow_part(&keys[..count], &next, marks, pending, low, low + 64);
 }

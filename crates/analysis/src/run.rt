@@ -16,8 +16,7 @@ ghost use Rattle.program.specs.Program.{Program};
 ghost use Rattle.program.specs.WellFormed.{WellFormed};
 ghost use Rattle.program.specs.Decoded.{programOf};
 ghost use Rattle.reach.specs.Configurations.{none-set};
-ghost use Rattle.reach.specs.Worklist.{lowest, opened, analysis};
-ghost use Rattle.reach.proofs.Kept.{Shape};
+ghost use Rattle.reach.specs.Worklist.{Shape, lowest, opened, analysis};
 ghost use Rattle.analysis.specs.Parts.{worklist, Becomes, NoneBelow, within, followed, Ends};
 
 // The lowest pending number, or one past the end. Nothing below the start of the search is pending.

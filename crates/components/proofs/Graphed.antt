@@ -15,6 +15,7 @@ use Rattle.program.specs.WellFormed.{WellFormed}
 use Rattle.program.proofs.Judged.{both}
 use Rattle.reach.proofs.Flags.{dec-on}
 use Rattle.reach.proofs.Sizes.{sizes}
+use Rattle.analysis.specs.Parts.{Filled}
 use Rattle.components.specs.Components.{CallEdge, Leads, directly, through, Together}
 use Rattle.components.specs.Parts.{Flagged}
 use Rattle.components.specs.Graphs.{isSet, togetherFlag, rankFlag, rankBelow, rankOf}
@@ -84,7 +85,7 @@ one-where : (b : Bool) {v : ℕ} → v ≡ cond b 1 0 → (v ≢ 0) ↔ (b ≡ t
 one-where true e = (λ n. refl, λ t z. omega arith)
 one-where false e = (λ n. absurd (n e), λ t z. let u : _≡_ {A = ℕ} 0 1 = cc in omega arith)
 
-pub component-flag : {p : Program} {leads : List ℕ} → Flagged 16 16 (Leads p) leads → {f g v : ℕ} → f < 16 → g < 16
+component-flag : {p : Program} {leads : List ℕ} → Flagged 16 16 (Leads p) leads → {f g v : ℕ} → f < 16 → g < 16
     → v ≡ togetherFlag leads f g → (v ≢ 0) ↔ Together p f g
 component-flag {p} {leads} l {f} {g} {v} hf hg e =
     let a = isSet leads (f * 16 + g) in
@@ -99,6 +100,11 @@ component-flag {p} {leads} l {f} {g} {v} hf hg e =
         | inr y ↦ or-right (eqb f g) (a && b) (rw (lead-set l hf hg (y .0), lead-set l hg hf (y .1)))
       ]),
     )
+
+-- the flags of a component are set for exactly its routines
+pub component-members : {p : Program} {leads : List ℕ} → Flagged 16 16 (Leads p) leads → {f : ℕ} → f < 16 → {flags : List ℕ}
+    → Filled (togetherFlag leads f) 16 flags → (g : ℕ) → g < 16 → (getD flags g 0 ≢ 0) ↔ Together p f g
+component-members l hf w g hg = component-flag l hf hg (w .byte g hg)
 
 -- ---- ranks
 

@@ -1,7 +1,6 @@
 pub mod Worked
 pub mod Turned
 pub mod Only
-pub mod Closure
 pub mod Slice
 pub mod Rounds
 pub mod Passing

@@ -17,10 +17,9 @@ use Rattle.program.specs.declared.DecodedProgram.{DecodedProgram}
 use Rattle.program.proofs.Judged.{both}
 use Rattle.reach.specs.Configurations.{InRange, number}
 use Rattle.reach.specs.Runs.{Moves}
-use Rattle.reach.specs.Worklist.{summary}
 use Rattle.reach.specs.Marks.{Marked, Shows}
 use Rattle.reach.proofs.Flags.{On, none-on}
-use Rattle.reach.proofs.Numbers.{number-fits}
+use Rattle.reach.proofs.Numbers.{number-fits, summary-state}
 use Rattle.reach.proofs.Sizes.{sizes, call-stays, may-call}
 use Rattle.analysis.specs.Parts.{Filled, Learnt}
 use Rattle.analysis.proofs.Begun.{take-min}
@@ -53,9 +52,9 @@ entries-flagged marks w =
 
 pub exits-flagged : (marks : List ℕ) {flags : List ℕ} → Learnt marks flags
     → (f x q : ℕ) → f < 16 → x < 8 → q < 8 → (getD flags ((f * 8 + x) * 8 + q) 0 ≢ 0) ↔ Marked marks f 1 x q
-unfolding summary
-exits-flagged marks w f x q hf hx hq =
-    byte-tells marks (record { routine = hf; node = omega arith; root = hx; state = hq }) (exit-byte marks w f x q hf hx hq)
+exits-flagged marks {flags} w f x q hf hx hq =
+    byte-tells marks (record { routine = hf; node = omega arith; root = hx; state = hq })
+    (ap (λ (i : ℕ). getD flags i 0) (summary-state f x q) ∙ exit-byte marks w f x q hf hx hq)
 
 -- ---- the roots that occur
 

@@ -1,10 +1,10 @@
 -- Rounds over the routines of a component: each turn marks what follows by the edges of one routine, and once a round marks nothing, what is marked
 -- is exactly what follows by the edges of all of them.
-use Prim.Native.Nat.{ℕ, suc, zero, _+_, _-_, _≤_, _<_}
+use Prim.Native.Nat.{ℕ, suc, zero, _+_, _-_, _*_, _≤_, _<_}
 use mathlib.Core.Path.{_≡_, refl, sym, ap, subst, _∙_}
 use mathlib.Core.Logic.{_≢_}
 use mathlib.Core.Bool.{Bool, true, cond, not}
-use mathlib.Core.List.{List, [], _∷_}
+use mathlib.Core.List.{List, [], _∷_, map}
 use native.Mathlib.Omega.{arith}
 use native.Mathlib.Decide.{ℕ-discrete}
 use lib.Dec.{eqb}
@@ -12,15 +12,18 @@ use lib.ListN.{length, getD}
 use borrow.Author.Tests.{eqb-true, eqb-false, eq-eqb, ne-eqb, not-true}
 use Rattle.program.specs.Program.{Program}
 use Rattle.program.specs.WellFormed.{WellFormed}
-use Rattle.reach.specs.Configurations.{Set, number}
+use Rattle.program.specs.Decoded.{edgeOf}
+use Rattle.reach.specs.Configurations.{Set, InRange, number}
 use Rattle.reach.specs.Reachable.{Derivable, seeded, by-action, by-call, by-return, Any}
-use Rattle.reach.specs.Marks.{Marked, Shows, countSet}
-use Rattle.reach.proofs.Laws.{Sub, Within, grows}
+use Rattle.reach.specs.Marks.{Marked, Shows, Between, countSet}
+use Rattle.reach.proofs.Laws.{Sub, Within, grows, flat}
 use Rattle.reach.proofs.Numbers.{number-of, parts-in-range}
 use Rattle.reach.proofs.Sizes.{sizes, Proper, derivable-state, derivable-in-range}
 use Rattle.reach.proofs.Flags.{on-lt}
 use Rattle.reach.proofs.Shown.{one-of, shows-marked, count-small}
-use Rattle.components.specs.Passes.{onlyOf}
+use Rattle.analysis.specs.Parts.{Answers}
+use Rattle.analysis.specs.Slice.{Followable}
+use Rattle.components.specs.Passes.{onlyOf, edgesOf}
 use Rattle.components.specs.Parts.{memberOf, Member}
 use Rattle.components.specs.PassParts.{is, Ready, ByRoutine, ByMembers, Grows, Round, Turn}
 use Rattle.components.proofs.Only.{only-well-formed, only-step, only-routine, step-only, only-within}
@@ -32,14 +35,6 @@ member-true members f h = ap not (ne-eqb (getD members f 0) 0 h)
 
 pub true-member : (members : List ℕ) (f : ℕ) → memberOf members f ≡ true → Member members f
 true-member members f h = eqb-false (getD members f 0) 0 (not-true (eqb (getD members f 0) 0) h)
-
--- ---- what follows from what follows
-
-flat : {p : Program} {S T : Set} → Sub S (Derivable p T Any) → {f n r q : ℕ} → Derivable p S Any f n r q → Derivable p T Any f n r q
-flat i (seeded x y) = i .at x
-flat i (by-action d e v y) = by-action (flat i d) e v y
-flat i (by-call d e v y) = by-call (flat i d) e v y
-flat i (by-return d e v d′ v′ y) = by-return (flat i d) e v (flat i d′) v′ y
 
 -- ---- marks that show a set
 
@@ -97,6 +92,37 @@ module _ {p : Program} {members marks : List ℕ} (h : Ready p marks) where
         }
 
 -- ---- a turn
+
+-- the numbers of another routine
+other-routine : {f g n r q : ℕ} → InRange g n r q → ¬ (Between (f * 1024) (f * 1024 + 1024) (number g n r q)) → g ≢ f
+unfolding number
+other-routine h ne e =
+    let a = h .node in
+    let b = h .root in
+    let c = h .state in
+    ne (omega arith, omega arith)
+
+-- no edge of routine f leads from the configurations of another
+pub turn-followable : {p : Program} {steps next marks : List ℕ} (f : ℕ) → Ready p marks → edgesOf (is f) (p .edges) ≡ map edgeOf steps
+    → Answers (p .automaton) next → Followable (onlyOf (is f) p) steps next (f * 1024) (f * 1024 + 1024) marks
+turn-followable {p} f h e a =
+    record {
+      well-formed = only-well-formed (is f) p (h .well-formed);
+      edges = e;
+      answers = a;
+      closed = record {
+        marks-length = h .marks-length;
+        marks-bits = h .marks-bits;
+        states = h .states;
+        closed = λ {f = g} m ne.
+            let x = other-routine (m .0) ne in
+            record {
+              acts = λ s v. absurd (x (eqb-true g f (only-routine (is f) p s)));
+              calls = λ s v. absurd (x (eqb-true g f (only-routine (is f) p s)));
+              returns = λ s v m′ v′. absurd (x (eqb-true g f (only-routine (is f) p s)));
+            };
+      };
+    }
 
 module _ {p : Program} {members marks : List ℕ} (h : Ready p marks) (f : ℕ) where
   pub no-turn : getD members f 0 ≡ 0 → Turn p members f marks marks

@@ -1,19 +1,17 @@
 -- What the functions of the pass over a component promise of each other; nothing here has to be believed.
 use Prim.Native.Nat.{ℕ, _+_, _*_, _/_, _%_, _≤_, _<_}
 use mathlib.Core.Path.{_≡_}
-use mathlib.Core.Bool.{Bool, cond, _&&_, not}
-use mathlib.Core.List.{List, map}
+use mathlib.Core.Bool.{Bool, cond}
+use mathlib.Core.List.{List}
 use lib.Dec.{eqb}
 use lib.ListN.{length, getD}
 use Rattle.program.specs.Program.{Program}
 use Rattle.program.specs.WellFormed.{WellFormed}
-use Rattle.program.specs.Decoded.{edgeOf}
 use Rattle.reach.specs.Configurations.{Set}
 use Rattle.reach.specs.Reachable.{Derivable, Any}
 use Rattle.reach.specs.Marks.{Marked}
 use Rattle.reach.proofs.Laws.{Sub}
-use Rattle.analysis.specs.Parts.{Answers}
-use Rattle.components.specs.Passes.{onlyOf, edgesOf}
+use Rattle.components.specs.Passes.{onlyOf}
 use Rattle.components.specs.Parts.{memberOf, Member}
 
 -- the mark of number i at the start of a pass: of these routines, only their entries in their roots are marked
@@ -21,10 +19,6 @@ abbrev pub firstMark : List ℕ → List ℕ → ℕ → ℕ → ℕ
 firstMark members roots old i =
     cond (eqb (getD members (i / 1024) 0) 0) old
     (cond (eqb (i / 64 % 16) 0) (cond (eqb (i / 8 % 8) (i % 8)) (cond (eqb (getD roots (i / 1024 * 8 + i % 8) 0) 0) 0 1) 0) 0)
-
--- what is pending at the start, for routine f: its marked configurations that are no exits
-abbrev pub firstPending : ℕ → ℕ → ℕ → ℕ
-firstPending f old i = cond (eqb (i / 1024) f && not (eqb (i / 64 % 16) 1)) old 0
 
 abbrev pub is : ℕ → ℕ → Bool
 is f g = eqb g f
@@ -35,12 +29,6 @@ pub record Ready (p : Program) (marks : List ℕ) : Type 0 where
   pub marks-length : length marks ≡ 16384
   pub marks-bits : (i : ℕ) → getD marks i 0 ≤ 1
   pub states : {f n r q : ℕ} → Marked marks f n r q → q < p .automaton .states
-
--- and these are the edges of routine f of this program, and its automaton's answers
-pub record RoutineReady (p : Program) (f : ℕ) (steps next marks : List ℕ) : Type 0 where
-  pub ready : Ready p marks
-  pub edges : edgesOf (is f) (p .edges) ≡ map edgeOf steps
-  pub answers : Answers (p .automaton) next
 
 -- what follows from some marks by the edges of routine f
 abbrev pub ByRoutine : Program → ℕ → List ℕ → Set

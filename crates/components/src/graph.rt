@@ -4,15 +4,14 @@ use analysis::count::set_flag;
 use automaton::in_use;
 use program::DecodedProgram;
 ghost use mathlib.Core.Path.{_≡_};
-ghost use mathlib.Core.Logic.{_↔_, _≢_};
-ghost use Prim.Native.Nat.{ℕ, _<_, _≤_};
+ghost use Prim.Native.Nat.{_<_, _≤_};
 ghost use lib.Dec.{ltb};
-ghost use lib.ListN.{length, getD};
-ghost use Rattle.program.specs.Program.{Program};
+ghost use lib.ListN.{length};
 ghost use Rattle.program.specs.WellFormed.{WellFormed};
 ghost use Rattle.program.specs.Decoded.{programOf};
 ghost use Rattle.reach.specs.Marks.{countSet};
-ghost use Rattle.components.specs.Components.{Leads, Together};
+ghost use Rattle.analysis.specs.Parts.{Filled};
+ghost use Rattle.components.specs.Components.{Leads};
 ghost use Rattle.components.specs.Parts.{Flagged};
 ghost use Rattle.components.specs.Graphs.{isSet, inTurn, copyWhen, copyLead, leadsByEdge, leadsByEdges, togetherFlag, rankFlag, rankOf};
 
@@ -122,8 +121,7 @@ fn is_together(leads: &[u8], f: usize, g: usize) -> u8
 // The routines in one component with f. The flags have the size of `Graph`, and routines are below 16: hence the `requires`.
 pub fn component(leads: &[u8], f: usize) -> Routines
     requires { ⌜ (length (now leads) ≡ 256) × (f < 16) ⌝ }
-    ensures { λ r. ⌜ ((p : Program) → Flagged 16 16 (Leads p) (now (leads .entry)) → (g : ℕ) → g < 16
-        → (getD (r .flags) g 0 ≢ 0) ↔ Together p f g) ⌝ }
+    ensures { λ r. ⌜ Filled (togetherFlag (now (leads .entry)) f) 16 (r .flags) ⌝ }
 {
     let mut flags = [0u8; 16];
     let mut g: usize = 0;

@@ -1,22 +1,22 @@
 // The pass over a component (paper: working a group anew): its routines are worked by their own edges, from their roots and
 // the summaries of the routines that they call outside, in rounds until a round marks nothing.
+use analysis::count::clear;
 use analysis::count::count_marks;
-use analysis::exits::summaries_of;
 use analysis::next::next_states;
 use analysis::part::first_of;
-use analysis::run::follow_pending;
+use analysis::part::follow_part;
 use automaton::in_use;
 use program::DecodedProgram;
 ghost use mathlib.Core.Path.{_≡_};
 ghost use Prim.Native.Nat.{_<_};
 ghost use lib.ListN.{length, getD};
-ghost use Rattle.program.specs.Program.{Program};
 ghost use Rattle.program.specs.WellFormed.{WellFormed};
 ghost use Rattle.program.specs.Decoded.{programOf};
+ghost use Rattle.reach.specs.Configurations.{none-set};
 ghost use Rattle.reach.specs.Marks.{Shows};
 ghost use Rattle.analysis.specs.Parts.{Filled, Answers};
 ghost use Rattle.components.specs.Parts.{Passable, Passed};
-ghost use Rattle.components.specs.PassParts.{firstMark, firstPending, Ready, RoutineReady, ByRoutine, ByMembers, Round, Turn};
+ghost use Rattle.components.specs.PassParts.{firstMark, Ready, ByMembers, Round, Turn};
 
 // The mark of number i at the start: of the component's routines only the entries in their roots are marked.
 fn first_mark(members: &[u8], roots: &[u8], old: u8, i: usize) -> u8
@@ -50,41 +50,8 @@ fn reset(members: &[u8], roots: &[u8], marks: &mut [u8])
     }
 }
 
-fn first_pending(f: u32, old: u8, i: usize) -> u8
-    ensures { λ r. ⌜ r ≡ firstPending f old i ⌝ }
-{
-    if (i / 1024 == f as usize) & (i / 64 % 16 != 1) {
-        return old;
-    }
-    0
-}
-
-// The marked configurations of routine f are pending, but for its exits: these are known.
-fn await_routine(f: u32, marks: &[u8], pending: &mut [u8])
-    requires { ⌜ (length (now marks) ≡ 16384) × (length (now pending) ≡ 16384) ⌝ }
-    ensures { λ _. ⌜ Filled (λ i. firstPending f (getD (now (marks .entry)) i 0) i) 16384 (now (pending .exit)) ⌝ }
-{
-    let mut i: usize = 0;
-    while i < 16384 {
-        let b = first_pending(f, marks[i], i);
-        pending[i] = b;
-        i = i + 1;
-    }
-}
-
-// What follows by the edges of routine f is marked. `steps` is the part of the table of edges that is this routine's.
-fn routine_pass(steps: &[u32], f: u32, next: &[u8], marks: &mut [u8], pending: &mut [u8])
-    requires { ⌜ (length (now next) ≡ 2048) × (length (now pending) ≡ 16384) ⌝ }
-    requires { ⌜ ((p : Program) × RoutineReady p f (now steps) (now next) (now marks)) ⌝ }
-    ensures { λ _. ⌜ ((p : Program) → RoutineReady p f (now (steps .entry)) (now (next .entry)) (now (marks .entry)) → Shows (ByRoutine p f (now (marks .entry))) (now (marks .exit))) ⌝ }
-{
-    let exits = summaries_of(marks);
-    let mut known = exits.flags;
-    await_routine(f, marks, pending);
-    follow_pending(steps, steps.len(), next, marks, pending, &mut known, 0);
-}
-
-// The turn of routine f in a round, if it is one of the component.
+// The turn of routine f in a round, if it is one of the component: what follows by its edges, which are a part of the table, is
+// marked. Only its own configurations, whose numbers follow one another, can lead on by them.
 fn turn(
     p: DecodedProgram,
     members: &[u8],
@@ -105,7 +72,8 @@ fn turn(
     let count = in_use(edges.count, 256);
     let from = first_of(&keys, count, f);
     let to = first_of(&keys, count, f + 1);
-    routine_pass(&keys[from..to], f, next, marks, pending);
+    let low = f as usize * 1024;
+    follow_part(&keys[from..to], next, marks, pending, low, low + 1024);
 }
 
 fn round(p: DecodedProgram, members: &[u8], next: &[u8], marks: &mut [u8], pending: &mut [u8])
@@ -147,11 +115,12 @@ pub fn component_pass(
 )
     requires { ⌜ WellFormed (programOf p) × (length (now pending) ≡ 16384) ⌝ }
     requires { ⌜ Passable (programOf p) (now members) (now roots) (now marks) ⌝ }
-    ensures { λ _. ⌜ Passed (programOf p) (now (members .entry)) (now (roots .entry)) (now (marks .entry)) (now (marks .exit)) × (length (now (pending .exit)) ≡ 16384) ⌝ }
+    ensures { λ _. ⌜ Passed (programOf p) (now (members .entry)) (now (roots .entry)) (now (marks .entry)) (now (marks .exit)) × (now (pending .exit) ≡ none-set) ⌝ }
 {
     let rule = p.automaton;
     let table = next_states(rule);
     let next = table.flags;
     reset(members, roots, marks);
     rounds(p, members, &next, marks, pending);
+    clear(pending);
 }

@@ -13,7 +13,7 @@ use Rattle.automaton.specs.declared.Event.the-variants.{Action, Call, Return}
 use Rattle.program.specs.Program.{Program}
 use Rattle.reach.specs.Configurations.{number, routineOf, nodeOf, rootOf, stateOf, none-set}
 use Rattle.reach.specs.Runs.{Step, stepsOf}
-use Rattle.reach.specs.Worklist.{Worklist, lowest, mark, wake, markWhen, isKnown, onAction, onReturns, onLabel, labelWhen, onSteps, wakeRoots, calls, wakeWhen, wakeCallers, learn, takeFrom, takeAt, work, opened, blank, analysis}
+use Rattle.reach.specs.Worklist.{Worklist, Shape, lowest, mark, wake, markWhen, isKnown, onAction, onReturns, onLabel, labelWhen, onSteps, wakeRoots, calls, wakeWhen, wakeCallers, learn, takeFrom, takeAt, work, opened, blank, analysis}
 use Rattle.reach.proofs.Flags.{set-bits, zeros}
 
 -- number i is pending no more
@@ -123,14 +123,6 @@ module _ {P : Worklist → Type 0} (p : Program) (k : (i : ℕ) (s : Worklist) �
   work-kept (suc c) (some i) s e h = work-kept c (lowest (takeAt p i s .pending) 0) (takeAt p i s) refl (k i s e h)
 
 -- ---- lengths and bytes
-
-pub record Shape (s : Worklist) : Type 0 where
-  pub marks-length : length (s .marks) ≡ 16384
-  pub pending-length : length (s .pending) ≡ 16384
-  pub known-length : length (s .known) ≡ 1024
-  pub marks-bits : (i : ℕ) → getD (s .marks) i 0 ≤ 1
-  pub pending-bits : (i : ℕ) → getD (s .pending) i 0 ≤ 1
-  pub known-bits : (i : ℕ) → getD (s .known) i 0 ≤ 1
 
 marks-shape : (j : ℕ) (s : Worklist) → Shape s → Shape (record { marks = set (s .marks) j 1; pending = s .pending; known = s .known; iterations = s .iterations })
 marks-shape j s z =

@@ -32,6 +32,13 @@ grows i s w (by-call d e v y) = by-call (grows i s w d) (i .steps e) (i .moves _
 grows i s w (by-return d e v d′ v′ y) =
     by-return (grows i s w d) (i .steps e) (i .moves _ _ _ v) (grows i s w d′) (i .moves _ _ _ v′) (w .at y)
 
+-- what follows from what follows, follows
+pub flat : {p : Program} {S T : Set} → Sub S (Derivable p T Any) → {f n r q : ℕ} → Derivable p S Any f n r q → Derivable p T Any f n r q
+flat i (seeded x y) = i .at x
+flat i (by-action d e v y) = by-action (flat i d) e v y
+flat i (by-call d e v y) = by-call (flat i d) e v y
+flat i (by-return d e v d′ v′ y) = by-return (flat i d) e v (flat i d′) v′ y
+
 -- ---- the filter
 
 pub is-within : {p : Program} {S W : Set} {f n r q : ℕ} → Derivable p S W f n r q → W f n r q

@@ -15,4 +15,5 @@ pub mod Laws
 pub mod Occurs
 pub mod Shown
 pub mod Violations
+pub mod Awaiting
 pub mod Growing

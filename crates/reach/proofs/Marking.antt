@@ -15,11 +15,11 @@ use Rattle.program.specs.Program.{Program}
 use Rattle.program.proofs.Judged.{both}
 use Rattle.reach.specs.Configurations.{number}
 use Rattle.reach.specs.Runs.{Step, stepsOf, HasStep, Moves}
-use Rattle.reach.specs.Worklist.{Worklist, mark, markWhen, summary, isKnown, onAction, onReturns, onLabel, labelWhen, onSteps, opened}
+use Rattle.reach.specs.Worklist.{Worklist, Shape, mark, markWhen, summary, isKnown, onAction, onReturns, onLabel, labelWhen, onSteps, opened}
 use Rattle.reach.proofs.Numbers.{number-fits}
 use Rattle.reach.proofs.Sizes.{Sizes}
 use Rattle.reach.proofs.Flags.{On, eqb-on, eqb-off, on-eqb, set-on, on-set, set-inv}
-use Rattle.reach.proofs.Kept.{mark-by, when-kept, label-when-kept, Shape, shape-kept}
+use Rattle.reach.proofs.Kept.{mark-by, when-kept, label-when-kept, shape-kept}
 
 -- t is s with the numbers A marked; those that are new are pending
 pub record Marks (A : ℕ → Type 0) (s t : Worklist) : Type 0 where

@@ -4,8 +4,8 @@ use mathlib.Core.Option.{none, some, Option·none-ne-some}
 use Prim.Native.Nat.{ℕ, zero, suc, _+_, _<_}
 use native.Mathlib.Omega.{arith}
 use Rattle.program.specs.Program.{Program}
-use Rattle.reach.specs.Worklist.{Worklist, lowest, takeAt, work, opened, blank, analysis}
-use Rattle.reach.proofs.Kept.{Shape, opened-shape, take-shape, take-iterations, opened-iterations, work-step, work-done}
+use Rattle.reach.specs.Worklist.{Worklist, Shape, lowest, takeAt, work, opened, blank, analysis}
+use Rattle.reach.proofs.Kept.{opened-shape, take-shape, take-iterations, opened-iterations, work-step, work-done}
 
 -- s is on the way to t
 pub record Running (p : Program) (t s : Worklist) : Type 0 where

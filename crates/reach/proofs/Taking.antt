@@ -6,10 +6,10 @@ use borrow.Author.Tests.{eq-eqb, ne-eqb}
 use Rattle.program.specs.Program.{Program}
 use Rattle.reach.specs.Configurations.{routineOf, nodeOf, rootOf, stateOf}
 use Rattle.reach.specs.Runs.{stepsOf}
-use Rattle.reach.specs.Worklist.{Worklist, learn, takeFrom, takeAt}
+use Rattle.reach.specs.Worklist.{Worklist, Shape, learn, takeFrom, takeAt}
 use Rattle.reach.proofs.Numbers.{root-small, state-small}
 use Rattle.reach.proofs.Sizes.{Sizes}
-use Rattle.reach.proofs.Kept.{taking, Shape, taking-shape, learn-shape}
+use Rattle.reach.proofs.Kept.{taking, taking-shape, learn-shape}
 use Rattle.reach.proofs.Marking.{Marks, ByStep, on-steps}
 use Rattle.reach.proofs.Waking.{Wakes, Caller, wake-callers}
 

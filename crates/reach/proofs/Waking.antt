@@ -11,11 +11,11 @@ use Rattle.automaton.specs.declared.Event.the-variants.{Action, Call, Return}
 use Rattle.program.specs.Program.{Program}
 use Rattle.reach.specs.Configurations.{InRange, number}
 use Rattle.reach.specs.Runs.{Step, stepsOf, HasStep}
-use Rattle.reach.specs.Worklist.{Worklist, wake, wakeRoots, calls, wakeWhen, wakeCallers}
+use Rattle.reach.specs.Worklist.{Worklist, Shape, wake, wakeRoots, calls, wakeWhen, wakeCallers}
 use Rattle.reach.proofs.Numbers.{number-fits}
 use Rattle.reach.proofs.Sizes.{Sizes}
 use Rattle.reach.proofs.Flags.{On, eqb-on, eqb-off, set-on, on-set, set-inv}
-use Rattle.reach.proofs.Kept.{wake-by, wake-when-kept, Shape, shape-kept}
+use Rattle.reach.proofs.Kept.{wake-by, wake-when-kept, shape-kept}
 use Rattle.reach.proofs.Marking.{Within, within-none, within-split, within-here, within-there, step}
 
 -- t is s with those of the numbers A that are marked pending
@@ -26,10 +26,10 @@ pub record Wakes (A : ℕ → Type 0) (s t : Worklist) : Type 0 where
   pub woken : {j : ℕ} → A j → On (s .marks) j → On (t .pending) j
   pub waits : {j : ℕ} → On (t .pending) j → On (s .pending) j ⊎ (A j × On (s .marks) j)
 
-pub wakes-none : {A : ℕ → Type 0} → ((j : ℕ) → ¬ (A j)) → (s : Worklist) → Wakes A s s
+wakes-none : {A : ℕ → Type 0} → ((j : ℕ) → ¬ (A j)) → (s : Worklist) → Wakes A s s
 wakes-none h s = record { marks = refl; known = refl; wait = λ x. x; woken = λ {j} x y. absurd (h j x); waits = λ x. inl x }
 
-pub wakes-join : {A B C : ℕ → Type 0} {s t u : Worklist} → ((j : ℕ) → C j → A j ⊎ B j) → ((j : ℕ) → A j → C j) → ((j : ℕ) → B j → C j)
+wakes-join : {A B C : ℕ → Type 0} {s t u : Worklist} → ((j : ℕ) → C j → A j ⊎ B j) → ((j : ℕ) → A j → C j) → ((j : ℕ) → B j → C j)
     → Wakes A s t → Wakes B t u → Wakes C s u
 wakes-join c ca cb a b =
     record {
@@ -44,7 +44,7 @@ wakes-join c ca cb a b =
           ];
     }
 
-pub wake-one : (i : ℕ) (s : Worklist) → i < 16384 → Shape s → Wakes (λ j. j ≡ i) s (wake i s)
+wake-one : (i : ℕ) (s : Worklist) → i < 16384 → Shape s → Wakes (λ j. j ≡ i) s (wake i s)
 wake-one i s h z =
     wake-by (λ t. Wakes (λ j. j ≡ i) s t) i s
     (λ e. record { marks = refl; known = refl; wait = λ x. x; woken = λ x y. absurd (eqb-off (s .marks) i e (rw x at y)); waits = λ x. inl x })

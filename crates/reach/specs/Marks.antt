@@ -1,5 +1,5 @@
 -- The fresh marks of a program (paper: the sheet), the counts and the violations (paper: findings).
-use Prim.Native.Nat.{ℕ, zero, suc, _+_, _≤_}
+use Prim.Native.Nat.{ℕ, zero, suc, _+_, _≤_, _<_}
 use mathlib.Core.Path.{_≡_}
 use mathlib.Core.Logic.{_↔_, _≢_}
 use mathlib.Core.Bool.{Bool, true, false, cond, _&&_, not}
@@ -10,6 +10,7 @@ use lib.ListN.{length, getD}
 use Rattle.automaton.specs.Automaton.{isRejecting}
 use Rattle.program.specs.Program.{Program}
 use Rattle.reach.specs.Configurations.{Set, InRange, number, stateOf}
+use Rattle.reach.specs.Reachable.{ClosedAt}
 use Rattle.reach.specs.Worklist.{analysis}
 
 -- ---- sets of configurations as bytes
@@ -23,6 +24,18 @@ pub record Shows (S : Set) (l : List ℕ) : Type 0 where
   pub len : length l ≡ 16384
   pub bit : (i : ℕ) → getD l i 0 ≤ 1
   pub shown : {f n r q : ℕ} → InRange f n r q → (getD l (number f n r q) 0 ≡ 1) ↔ S f n r q
+
+-- a number from low up to high
+abbrev pub Between : ℕ → ℕ → ℕ → Type 0
+Between low high i = (low ≤ i) × (i < high)
+
+-- marks in states of the automaton, closed but for the numbers from low up to high: what follows at once from a marked
+-- configuration of any other number is marked
+pub record ClosedBut (p : Program) (low high : ℕ) (marks : List ℕ) : Type 0 where
+  pub marks-length : length marks ≡ 16384
+  pub marks-bits : (i : ℕ) → getD marks i 0 ≤ 1
+  pub states : {f n r q : ℕ} → Marked marks f n r q → q < p .automaton .states
+  pub closed : {f n r q : ℕ} → Marked marks f n r q → ¬ (Between low high (number f n r q)) → ClosedAt p (Marked marks) f n r q
 
 -- ---- the fresh marks
 

@@ -40,3 +40,9 @@ pub record Calls (p : Program) (S : Set) (f g s : ℕ) : Type 0 where
   pub holds : S f node root state
   pub calls : HasStep p f node (Call g) target
   pub moves : Moves p state (Call g) s
+
+-- what follows at once from a configuration of S is in S: by an action, by a call, and by a return over an exit of S
+pub record ClosedAt (p : Program) (S : Set) (f n r q : ℕ) : Type 0 where
+  pub acts : {a m s : ℕ} → HasStep p f n (Action a) m → Moves p q (Action a) s → S f m r s
+  pub calls : {g m s : ℕ} → HasStep p f n (Call g) m → Moves p q (Call g) s → S g 0 s s
+  pub returns : {g m s x t : ℕ} → HasStep p f n (Call g) m → Moves p q (Call g) s → S g 1 s x → Moves p x (Return g) t → S f m r t

@@ -1,10 +1,11 @@
 -- The full analysis (paper: working afresh), lowest number first. A configuration is marked, pending (paper: waiting) or
 -- neither, a byte each; a summary (paper: a known pair) is a byte too; the iterations (paper: takings) are counted.
-use Prim.Native.Nat.{ℕ, zero, suc, _+_, _*_}
+use Prim.Native.Nat.{ℕ, zero, suc, _+_, _*_, _≤_}
+use mathlib.Core.Path.{_≡_}
 use mathlib.Core.Bool.{Bool, true, false, _&&_, not}
 use mathlib.Core.Option.{Option, none, some}
 use mathlib.Core.List.{List, [], _∷_}
-use lib.ListN.{getD, set, replicate}
+use lib.ListN.{length, getD, set, replicate}
 use lib.Dec.{eqb}
 use Rattle.automaton.specs.Automaton.{moves}
 use Rattle.automaton.specs.declared.Event.{Event}
@@ -18,6 +19,15 @@ pub record Worklist : Type 0 where
   pub pending : List ℕ
   pub known : List ℕ
   pub iterations : ℕ
+
+-- a byte for each configuration and for each summary, 0 or 1
+pub record Shape (s : Worklist) : Type 0 where
+  pub marks-length : length (s .marks) ≡ 16384
+  pub pending-length : length (s .pending) ≡ 16384
+  pub known-length : length (s .known) ≡ 1024
+  pub marks-bits : (i : ℕ) → getD (s .marks) i 0 ≤ 1
+  pub pending-bits : (i : ℕ) → getD (s .pending) i 0 ≤ 1
+  pub known-bits : (i : ℕ) → getD (s .known) i 0 ≤ 1
 
 -- the lowest pending number, from i on
 unfoldable pub lowest : List ℕ → ℕ → Option ℕ

@@ -2,7 +2,7 @@
 use mathlib.Core.Path.{_≡_, refl, sym, ap, subst, _∙_}
 use mathlib.Core.Bool.{Bool, true, false, cond}
 use mathlib.Core.List.{List, _++_}
-use Prim.Native.Nat.{ℕ, _≤_, _<_}
+use Prim.Native.Nat.{ℕ, _+_, _≤_, _<_}
 use native.Mathlib.Omega.{arith}
 use lib.Dec.{ltb, eqb}
 use lib.ListN.{length, drop, length-replicate}
@@ -16,9 +16,10 @@ use Rattle.program.specs.Reading.{Outcome, readFile}
 use Rattle.program.specs.declared.Verdict.{Verdict}
 use Rattle.program.specs.declared.Verdict.the-variants as verdict
 use Rattle.program.proofs.Theorems.{accepted-well-formed, written-limited}
-use Rattle.reach.specs.Configurations.{none-set}
-use Rattle.reach.specs.Marks.{Shows, freshMarks}
-use Rattle.reach.proofs.Growing.{Grown}
+use Rattle.reach.specs.Configurations.{number, none-set}
+use Rattle.reach.specs.Reachable.{Derivable, Any}
+use Rattle.reach.specs.Marks.{Marked, Shows, ClosedBut, freshMarks}
+use Rattle.reach.proofs.Growing.{Grown, grown-closed, grown-marks}
 use Rattle.reach.proofs.Kept.{marks-length}
 use Rattle.analysis.specs.Answers.{same}
 use Rattle.prune.specs.Keeping.{Kept}
@@ -51,8 +52,19 @@ module _ (s : Step) (p p′ : Program) (w : WellFormed p) where
     pub added-grown : Grown p p′ (s .routine) (s .source)
     added-grown = subst (λ (x : Program). Grown p x (s .routine) (s .source)) (sym is-added) (add-grown s p w a)
 
-    pub added : {marks work : List ℕ} → (marks ≡ freshMarks p′) × (work ≡ none-set) → Repaired (Add s) p p′ marks work
-    added h = record { is-edited = is-added; own = h .0; clear = h .1 }
+    module _ {old : List ℕ} (o : old ≡ freshMarks p) where
+      -- what is marked is closed but for the configurations at the source of the new step
+      pub added-closed : ClosedBut p′ (number (s .routine) (s .source) 0 0) (number (s .routine) (s .source) 0 0 + 64) old
+      added-closed = rw o (grown-closed p p′ (s .routine) (s .source) added-grown)
+
+      pub added : {marks work : List ℕ} → Shows (Derivable p′ (Marked old) Any) marks × (work ≡ none-set) → Repaired (Add s) p p′ marks work
+      added {marks} h =
+          record {
+            is-edited = is-added;
+            own = grown-marks p p′ (s .routine) (s .source) added-grown added-well-formed
+                (subst (λ (l : List ℕ). Shows (Derivable p′ (Marked l) Any) marks) o (h .0));
+            clear = h .1;
+          }
 
   module _ (a : Applies (Drop s) p) (e : p′ ≡ withEdges p (without (edgeOfStep s) (p .edges))) where
     is-dropped : p′ ≡ editedProgram (Drop s) p

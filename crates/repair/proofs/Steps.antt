@@ -120,7 +120,6 @@ module _ (s : edit.Step) (p : Program) (w : WellFormed p) where
             ];
         routine = z .routine h;
         source = z .source h;
-        node = z .no-exit h;
       }
 
   pub drop-within : Within (editedProgram (Drop s) p) p

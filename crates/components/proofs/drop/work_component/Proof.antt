@@ -2,7 +2,7 @@
 use mathlib.Core.Path.{_≡_}
 use lib.ListN.{length}
 use borrow.Author.Needs.{needs}
-use Rattle.program.specs.Decoded.{programOf}
+use Rattle.components.proofs.Graphed.{component-members}
 use Rattle.components.proofs.Turning.{may-pass, component-kept, component-worked}
 use Rattle.components.proofs.drop.work_component.Statement.{statement}
 use Rattle.components.proofs.drop.work_component.Tie as tie
@@ -31,7 +31,7 @@ component-pass-requires c κs =
     let t = z .pre .1 .1 in
     let o = s .component .ok in
     let len : length (s .component .result .flags) ≡ 16 = search (needs, o) in
-    let is = s .component .ensures (programOf (z .args .p)) (t .graph) in
+    let is = component-members (t .graph) (z .pre .0 .0) (s .component .ensures) in
     ((t .drop .well-formed, z .pre .0 .2), may-pass (z .args .f) t (z .pre .0 .0) (z .pre .0 .3) len is)
 
 slice-aggregate-join : tie.Need-slice-aggregate-join
@@ -73,7 +73,7 @@ returns c =
     let o = s .component .ok in
     let len : length (s .component .result .flags) ≡ 16 = search (needs, o) in
     λ old t.
-    component-worked (z .args .f) t (z .pre .0 .0) (z .pre .0 .3) len (s .component .ensures (programOf (z .args .p)) (t .graph))
+    component-worked (z .args .f) t (z .pre .0 .0) (z .pre .0 .3) len (component-members (t .graph) (z .pre .0 .0) (s .component .ensures))
     (c .before .before .before .before .before .before .before .before .before .before .before .before .before .before .before .before .before .before .before .is-reopened .ensures .if-yes (c .before .before .before .before .before .before .before .before .before .before .before .before .before .before .before .before .before .before .if1 .taken)) (c .before .before .before .before .before .before .before .before .before .before .before .before .before .before .component-pass .ensures .0) (c .before .before .before .before .before .before .before .join .ensures) (c .before .before .join2 .ensures)
 
 slice-aggregate-join-3 : tie.Need-slice-aggregate-join-3
@@ -99,7 +99,7 @@ returns-2 c =
     let o = s .component .ok in
     let len : length (s .component .result .flags) ≡ 16 = search (needs, o) in
     λ old t.
-    component-kept (z .args .f) t (z .pre .0 .0) (z .pre .0 .3) len (s .component .ensures (programOf (z .args .p)) (t .graph))
+    component-kept (z .args .f) t (z .pre .0 .0) (z .pre .0 .3) len (component-members (t .graph) (z .pre .0 .0) (s .component .ensures))
     (c .before .before .before .before .before .before .is-reopened .ensures .if-no (c .before .before .before .before .before .if1 .left)) (c .before .before .join3 .ensures)
 
 pub work-component-spec : {M : Type 1} → statement M

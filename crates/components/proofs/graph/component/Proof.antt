@@ -1,6 +1,5 @@
 -- `components::graph::component` meets its contract. The loop's invariant: the flags below `g` are those of the
 -- component.
-use Rattle.components.proofs.Graphed.{component-flag}
 use Rattle.components.specs.Graphs.{togetherFlag}
 use Rattle.analysis.proofs.Filling.{Filling, filling-none, filling-more, filling-all}
 use borrow.Author.Needs.{needs}
@@ -35,8 +34,7 @@ loop-again : tie.Need-loop-again Inv-loop μ-loop
 loop-again c = filling-more (c .before .before .loop .inv) (omega arith) (c .is-together .ensures)
 
 returns : tie.Need-returns Inv-loop μ-loop
-returns c = λ p l g h.
-    component-flag l (omega (arith, c .before .before .before .pre)) h (filling-all (c .before .loop .inv) (omega arith) .byte g h)
+returns c = filling-all (c .before .loop .inv) (omega arith)
 
 pub component-spec : {M : Type 1} → statement M
 component-spec =

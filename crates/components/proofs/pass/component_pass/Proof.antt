@@ -1,7 +1,9 @@
 -- `components::pass::component_pass` meets its contract.
 use Rattle.components.proofs.Passing.{first-ready, passed}
-use mathlib.Core.Path.{_≡_, sym, _∙_}
-use lib.ListN.{length}
+use Rattle.reach.specs.Configurations.{none-set}
+use Prim.Native.Nat.{ℕ}
+use mathlib.Core.Path.{_≡_, sym, ap, _∙_}
+use lib.ListN.{length, replicate}
 use borrow.Author.Needs.{needs}
 use Rattle.components.proofs.pass.component_pass.Statement.{statement}
 use Rattle.components.proofs.pass.component_pass.Tie as tie
@@ -24,16 +26,21 @@ rounds-requires c κs =
     let flags : length (c .before .before .before .before .before .before .before .before .next-states .result .flags) ≡ 2048 = search (needs, o) in
     ((z .1 .members-length, flags, z .0 .1), (first-ready (z .0 .0) (z .1) (c .before .before .before .before .before .reset .ensures), c .before .before .before .before .before .before .before .before .next-states .ensures))
 
+clear-requires : tie.Need-clear-requires
+clear-requires c κs = search needs
+
 same-length : tie.Need-same-length
-same-length c = c .before .before .before .before .rounds .ensures .len ∙ sym (c .before .before .before .before .before .before .before .before .before .before .before .before .before .before .before .before .before .before .before .pre .1 .marks-length)
+same-length c = c .before .before .before .before .before .before .before .before .rounds .ensures .len ∙ sym (c .before .before .before .before .before .before .before .before .before .before .before .before .before .before .before .before .before .before .before .before .before .before .before .pre .1 .marks-length)
 
 same-length-2 : tie.Need-same-length-2
-same-length-2 c = c .before .before .before .before .rounds .kept .1 .1 .1 .1 .0
+same-length-2 c = search needs
 
 returns : tie.Need-returns
+unfolding none-set
 returns c =
-    let z = c .before .before .before .before .before .before .before .before .before .before .before .before .before .before .before .before .before .before .before .pre in
-    (passed (z .0 .0) (z .1) (c .before .before .before .before .before .before .before .before .before .before .reset .ensures) (c .before .before .before .before .rounds .ensures), c .before .before .before .before .rounds .kept .1 .1 .1 .1 .0 ∙ z .0 .1)
+    let z = c .before .before .before .before .before .before .before .before .before .before .before .before .before .before .before .before .before .before .before .before .before .before .before .pre in
+    let r = c .before .before .before .before .before .before .before .before .rounds in
+    (passed (z .0 .0) (z .1) (c .before .before .before .before .before .before .before .before .before .before .before .before .before .before .reset .ensures) (r .ensures), c .before .before .clear .ensures ∙ ap (λ (n : ℕ). replicate n 0) (r .kept .1 .1 .1 .1 .0 ∙ z .0 .1))
 
 pub component-pass-spec : {M : Type 1} → statement M
 component-pass-spec =
@@ -43,6 +50,7 @@ component-pass-spec =
     reset-requires
     slice-aggregate-rounds
     rounds-requires
+    clear-requires
     same-length
     same-length-2
     returns)

@@ -1,8 +1,7 @@
 -- `components::pass::turn` meets its contract: the part of the table that is handed on has the edges of routine `f`.
-use Rattle.program.specs.Decoded.{programOf}
 use Rattle.analysis.proofs.Slice.{part-starts}
 use Rattle.components.proofs.Slice.{routine-edges}
-use Rattle.components.proofs.Rounds.{no-turn, turn-shown}
+use Rattle.components.proofs.Rounds.{no-turn, turn-followable, turn-shown}
 use native.Mathlib.Omega.{arith}
 use mathlib.Core.Path.{_≡_}
 use lib.ListN.{length}
@@ -43,30 +42,36 @@ first-of-requires-2 c κs =
     let u = c .before .before .before .in-use .ensures in
     omega (arith, h, u)
 
-mul-routine-pass : tie.Need-mul-routine-pass
-mul-routine-pass c = search needs
+mul-low : tie.Need-mul-low
+mul-low c = search needs
 
-sub-routine-pass : tie.Need-sub-routine-pass
-sub-routine-pass c = part-starts (c .before .before .first-of .ensures) (c .first-of2 .ensures)
+mul-follow-part : tie.Need-mul-follow-part
+mul-follow-part c = search needs
 
-part-routine-pass-start : tie.Need-part-routine-pass-start
-part-routine-pass-start c =
+sub-follow-part : tie.Need-sub-follow-part
+sub-follow-part c = part-starts (c .before .before .first-of .ensures) (c .first-of2 .ensures)
+
+part-follow-part-start : tie.Need-part-follow-part-start
+part-follow-part-start c =
     let x = part-starts (c .before .before .before .first-of .ensures) (c .before .first-of2 .ensures) in
     omega (arith, x)
 
-part-routine-pass-end : tie.Need-part-routine-pass-end
-part-routine-pass-end c =
+part-follow-part-end : tie.Need-part-follow-part-end
+part-follow-part-end c =
     let h = room (c .before .before .before .before .before .before .before .before .before .before .before .before .before .before) in
     let u = c .before .before .before .before .before .in-use .ensures in
     let x = part-starts (c .before .before .before .first-of .ensures) (c .before .first-of2 .ensures) in
     let y = c .before .first-of2 .ensures .within in
     omega (arith, h, u, x, y)
 
-routine-pass-requires : tie.Need-routine-pass-requires
-routine-pass-requires c κs =
+add-follow-part : tie.Need-add-follow-part
+add-follow-part c = search needs
+
+follow-part-requires : tie.Need-follow-part-requires
+follow-part-requires c κs =
     let z = c .before .before .before .before .before .before .before .before .before .before .before .before .before .before .before .before .before in
     let e = routine-edges (z .args .p .edges .count) (room z) (c .before .before .before .before .before .before .before .before .in-use .ensures) (c .before .before .before .before .before .before .first-of .ensures) (c .before .before .before .before .first-of2 .ensures) (z .pre .1 .0 .well-formed .edges-ascend) in
-    ((z .pre .0 .2, z .pre .0 .3), (programOf (z .args .p), record { ready = z .pre .1 .0; edges = e; answers = z .pre .1 .1 }))
+    ((z .pre .0 .2, z .pre .0 .3, omega (arith, z .pre .0 .1)), (_, turn-followable (z .args .f) (z .pre .1 .0) e (z .pre .1 .1)))
 
 same-length : tie.Need-same-length
 same-length c = search needs
@@ -78,7 +83,7 @@ returns-2 : tie.Need-returns-2
 returns-2 c =
     let z = c .before .before .before .before .before .before .before .before .before .before .before .before .before .before .before .before .before .before .before .before .before .before in
     let e = routine-edges (z .args .p .edges .count) (room z) (c .before .before .before .before .before .before .before .before .before .before .before .before .before .in-use .ensures) (c .before .before .before .before .before .before .before .before .before .before .before .first-of .ensures) (c .before .before .before .before .before .before .before .before .before .first-of2 .ensures) (z .pre .1 .0 .well-formed .edges-ascend) in
-    turn-shown (z .pre .1 .0) _ (c .before .before .before .before .before .before .before .before .before .before .before .before .before .before .before .before .if1 .left) (c .before .before .before .before .routine-pass .ensures (programOf (z .args .p)) (record { ready = z .pre .1 .0; edges = e; answers = z .pre .1 .1 }))
+    turn-shown (z .pre .1 .0) _ (c .before .before .before .before .before .before .before .before .before .before .before .before .before .before .before .before .if1 .left) (c .before .before .before .before .follow-part .ensures .0 _ (turn-followable (z .args .f) (z .pre .1 .0) e (z .pre .1 .1)))
 
 pub turn-spec : {M : Type 1} → statement M
 turn-spec =
@@ -92,11 +97,13 @@ turn-spec =
     slice-aggregate-first-of-2
     add-first-of
     first-of-requires-2
-    mul-routine-pass
-    sub-routine-pass
-    part-routine-pass-start
-    part-routine-pass-end
-    routine-pass-requires
+    mul-low
+    mul-follow-part
+    sub-follow-part
+    part-follow-part-start
+    part-follow-part-end
+    add-follow-part
+    follow-part-requires
     same-length
     same-length-2
     returns-2)

@@ -1,4 +1,4 @@
-use Rattle.repair.proofs.Answered.{added-well-formed, added-grown, added}
+use Rattle.repair.proofs.Answered.{added-well-formed, added-grown, added-closed, added}
 use Rattle.edit.proofs.Theorems.{add-ready}
 use Rattle.program.specs.Decoded.{programOf}
 use borrow.Author.Needs.{needs}
@@ -15,7 +15,10 @@ follow-added-requires c κs =
     let z = c .before .before .before .before .before in
     let p = programOf (z .args .p) in
     let e = c .before .before .with-step .ensures in
-    ((added-well-formed (z .args .s) p _ (z .pre .0 .0) (z .pre .0 .1) e, z .pre .1 .1), (p, added-grown (z .args .s) p _ (z .pre .0 .0) (z .pre .0 .1) e, z .pre .1 .0))
+    let g = added-grown (z .args .s) p _ (z .pre .0 .0) (z .pre .0 .1) e in (
+      (added-well-formed (z .args .s) p _ (z .pre .0 .0) (z .pre .0 .1) e, g .routine, g .source, z .pre .1 .1),
+      added-closed (z .args .s) p _ (z .pre .0 .0) (z .pre .0 .1) e (z .pre .1 .0),
+    )
 
 same-length : tie.Need-same-length
 same-length c = search needs
@@ -26,7 +29,7 @@ same-length-2 c = search needs
 returns : tie.Need-returns
 returns c =
     let z = c .before .before .before .before .before .before .before .before .before .before in
-    added (z .args .s) (programOf (z .args .p)) _ (z .pre .0 .0) (z .pre .0 .1) (c .before .before .before .before .before .before .before .with-step .ensures) (c .before .before .before .before .follow-added .ensures)
+    added (z .args .s) (programOf (z .args .p)) _ (z .pre .0 .0) (z .pre .0 .1) (c .before .before .before .before .before .before .before .with-step .ensures) (z .pre .1 .0) (c .before .before .before .before .follow-added .ensures)
 
 pub add-step-spec : {M : Type 1} → statement M
 add-step-spec =
