@@ -35,7 +35,7 @@ fn lowest_pending(pending: &[u8], from: usize) -> usize
 }
 
 // Takes the lowest pending configuration while there is one, and returns the count of iterations. It starts from any marks
-// for which the procedure comes to an end, so that a repair can use it too: hence the `requires`.
+// for which the procedure comes to an end, so that `follow_part` can use it too: hence the `requires`.
 pub fn follow_pending(
     keys: &[u32],
     count: usize,

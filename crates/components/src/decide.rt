@@ -8,7 +8,7 @@ ghost use lib.ListN.{length};
 ghost use Rattle.program.specs.WellFormed.{WellFormed};
 ghost use Rattle.program.specs.Decoded.{edgeOf, programOf};
 ghost use Rattle.components.specs.Parts.{Member};
-ghost use Rattle.components.specs.Turns.{Joined, Differs, Says, DifferingEdge, SomeDiffering, CallsDiffering};
+ghost use Rattle.components.specs.Turns.{Differs, Says, DifferingEdge, SomeDiffering, CallsDiffering};
 
 // Whether the summaries of routine g on the sheet are others than before. Its 64 exits follow one another, and so do their
 // flags.
@@ -96,18 +96,4 @@ pub fn is_reopened(
         return true;
     }
     calls_differ(p, members, before, marks)
-}
-
-// One set of routines joins another. A set has 16 flags, as `Routines` has: hence the `requires`.
-pub fn join(flags: &mut [u8], more: &[u8])
-    requires { ⌜ (length (now flags) ≡ 16) × (length (now more) ≡ 16) ⌝ }
-    ensures { λ _. ⌜ Joined (now (flags .entry)) (now (more .entry)) (now (flags .exit)) ⌝ }
-{
-    let mut f: usize = 0;
-    while f < 16 {
-        if more[f] != 0 {
-            flags[f] = 1;
-        }
-        f = f + 1;
-    }
 }

@@ -1,13 +1,13 @@
 // The inside-out repair after a drop: component by component, callees first, each worked anew only if it has to be.
 use crate::decide::is_reopened;
-use crate::decide::join;
-use crate::graph::Routines;
 use crate::graph::call_graph;
 use crate::graph::component;
 use crate::graph::rank;
 use crate::pass::component_pass;
 use crate::roots::cut_to_live;
 use crate::roots::old_roots;
+use crate::routines::Routines;
+use crate::routines::join;
 use analysis::count::clear;
 use analysis::exits::summaries_of;
 use program::DecodedProgram;

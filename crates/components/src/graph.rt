@@ -1,4 +1,5 @@
 // The call graph: which routine leads to which by calls, its components, and their order.
+use crate::routines::Routines;
 use analysis::count::count_marks;
 use analysis::count::set_flag;
 use automaton::in_use;
@@ -18,10 +19,6 @@ ghost use Rattle.components.specs.Graphs.{isSet, inTurn, copyWhen, copyL
 // leads[f * 16 + g]: f leads to g by one call or more.
 pub struct Graph {
     pub leads: [u8; 256],
-}
-
-pub struct Routines {
-    pub flags: [u8; 16],
 }
 
 // A place past the end is no flag's.

@@ -1,7 +1,7 @@
 // The inside-out repair of the marks after a drop.
-pub mod bits;
-pub mod decide;
+mod decide;
 pub mod drop;
-pub mod graph;
-pub mod pass;
-pub mod roots;
+mod graph;
+mod pass;
+mod roots;
+pub mod routines;

@@ -3,9 +3,9 @@
 // marks are the program's own (refusals 12 to 17): hence each `requires`.
 use crate::forward::add_step;
 use crate::forward::repair_marks;
-use components::decide::join;
 use components::drop::drop_inside_out;
-use components::graph::Routines;
+use components::routines::Routines;
+use components::routines::join;
 use edit::Edit;
 use edit::Label;
 use edit::Step;

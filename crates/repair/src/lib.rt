@@ -3,7 +3,7 @@ mod forward;
 mod inside_out;
 
 use analysis::own::is_own;
-use components::bits::bits_of;
+use components::routines::bits_of;
 use edit::Edit;
 use edit::EditRead;
 use edit::wanted_edit;

@@ -1,9 +1,9 @@
--- `components::bits::bits_of` meets its contract. The loop's invariant: the flags from `i` on are the bits of `n`.
+-- `components::routines::bits_of` meets its contract. The loop's invariant: the flags from `i` on are the bits of `n`.
 use Rattle.components.proofs.Bitted.{Bitted, bitted-start, bitted-small, bitted-turn, bitted-end}
 use borrow.Author.Needs.{needs}
 use native.Mathlib.Omega.{arith}
-use Rattle.components.proofs.bits.bits_of.Statement.{statement}
-use Rattle.components.proofs.bits.bits_of.Tie as tie
+use Rattle.components.proofs.routines.bits_of.Statement.{statement}
+use Rattle.components.proofs.routines.bits_of.Tie as tie
 
 abbrev Inv-loop : tie.InvT-loop
 Inv-loop flags n₀ i₀ n i = Bitted flags i n

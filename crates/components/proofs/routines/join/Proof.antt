@@ -3,8 +3,8 @@ use Rattle.components.proofs.Deciding.{Joining, joining-start, joining-
 use borrow.Author.Needs.{needs}
 use native.Mathlib.Omega.{arith}
 use Prim.Native.Nat.{_-_}
-use Rattle.components.proofs.decide.join.Statement.{statement}
-use Rattle.components.proofs.decide.join.Tie as tie
+use Rattle.components.proofs.routines.join.Statement.{statement}
+use Rattle.components.proofs.routines.join.Tie as tie
 
 abbrev Inv-loop : tie.InvT-loop
 Inv-loop flags₀ more f₀ flags f = Joining flags₀ more f flags

@@ -1,8 +1,8 @@
--- `components::bits::bit_of` meets its contract.
+-- `components::routines::bit_of` meets its contract.
 use borrow.Author.Tests.{eq-eqb, ne-eqb}
 use native.Mathlib.Omega.{arith}
-use Rattle.components.proofs.bits.bit_of.Statement.{statement}
-use Rattle.components.proofs.bits.bit_of.Tie as tie
+use Rattle.components.proofs.routines.bit_of.Statement.{statement}
+use Rattle.components.proofs.routines.bit_of.Tie as tie
 
 returns : tie.Need-returns
 returns c = (rw (eq-eqb _ _ (c .if1 .taken)), omega arith)
