@@ -31,6 +31,15 @@ module _ {rule : ℕ → ℕ} {size : ℕ} {l₀ l : List ℕ} {i : ℕ} (w : Fi
         left = λ j k. getD-set-other l i j v 0 (λ d. omega arith) ∙ w .left j (omega arith);
       }
 
+  -- a byte that is already what the rule gives
+  pub filling-kept : getD l₀ i 0 ≡ rule i → Filling rule size l₀ l (i + 1)
+  filling-kept e =
+      record {
+        len = w .len;
+        written = λ j k. elim (ℕ-discrete j i) [ yes d ↦ rw d (w .left i (omega arith) ∙ e) | no d ↦ w .written j (omega arith) ];
+        left = λ j k. w .left j (omega arith);
+      }
+
   pub filling-all : size ≤ i → Filled rule size l
   filling-all h = record { len = w .len; byte = λ j k. w .written j (omega arith) }
 

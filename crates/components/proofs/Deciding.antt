@@ -1,17 +1,17 @@
 -- The loops that decide whether a component is worked anew, and the joining of sets.
-use mathlib.Core.Path.{_≡_, refl, subst, _∙_}
+use mathlib.Core.Path.{_≡_, refl, sym, subst, _∙_}
 use mathlib.Core.Logic.{_⊎_, inl, inr, _↔_, _≢_}
-use mathlib.Core.Bool.{Bool, true, false, not, _&&_, _||_}
+use mathlib.Core.Bool.{Bool, true, false, cond, not, _&&_, _||_}
 use mathlib.Core.List.{List}
-use Prim.Native.Nat.{ℕ, _+_, _-_, _*_, _/_, _%_, _≤_, _<_}
+use Prim.Native.Nat.{ℕ, _+_, _-_, _*_, _/_, _%_, _<_}
 use native.Mathlib.Omega.{arith}
 use native.Mathlib.Decide.{ℕ-discrete}
 use lib.Dec.{eqb}
-use lib.ListN.{length, getD, set, length-set}
-use lib.Seq.{getD-set-same, getD-set-other}
+use lib.ListN.{length, getD}
 use borrow.Author.Tests.{eqb-true, eqb-false}
 use Rattle.reach.specs.Configurations.{InRange, number}
-use Rattle.components.specs.Parts.{Member}
+use Rattle.analysis.specs.Parts.{Filled}
+use Rattle.components.specs.Parts.{Member, joinedFlag}
 use Rattle.components.specs.Turns.{Joined, Differs, Says}
 
 -- ---- a test that is true or false
@@ -99,41 +99,9 @@ none-more {P} i k n j h x = elim (ℕ-discrete j i) [ yes e ↦ n (subst P e x) 
 
 -- ---- joining
 
-pub record Joining (a b : List ℕ) (f : ℕ) (c : List ℕ) : Type 0 where
-  pub len : length c ≡ length a
-  pub done : (g : ℕ) → g < f → Member c g ↔ (Member a g ⊎ Member b g)
-  pub rest : (g : ℕ) → f ≤ g → getD c g 0 ≡ getD a g 0
-
-pub joining-start : (a b : List ℕ) → Joining a b 0 a
-joining-start a b = record { len = refl; done = λ g h. absurd (omega arith); rest = λ g h. refl }
-
-module _ {a b c : List ℕ} {f : ℕ} (j : Joining a b f c) where
-  pub joining-off : getD b f 0 ≡ 0 → Joining a b (f + 1) c
-  joining-off e =
-      record {
-        len = j .len;
-        done = λ g h.
-            elim (ℕ-discrete g f) [
-              | yes z ↦ (λ m. inl (rw (j .rest g (omega arith)) at m), λ m. elim m [ inl x ↦ rw (j .rest g (omega arith)) x | inr x ↦ absurd (x (rw z e)) ])
-              | no z ↦ j .done g (omega arith)
-            ];
-        rest = λ g h. j .rest g (omega arith);
-      }
-
-  pub joining-on : f < length c → getD b f 0 ≢ 0 → Joining a b (f + 1) (set c f 1)
-  joining-on l n =
-      record {
-        len = length-set c f 1 ∙ j .len;
-        done = λ g h.
-            elim (ℕ-discrete g f) [
-              | yes z ↦ (λ m. inr (rw z n), λ m. rw (z, getD-set-same c f 1 0 l) (λ e. omega arith))
-              | no z ↦
-                  let d = j .done g (omega arith) in
-                  let s = getD-set-other c f g 1 0 z in
-                  (λ m. d .0 (rw s at m), λ m. rw s (d .1 m))
-            ];
-        rest = λ g h. getD-set-other c f g 1 0 (λ z. absurd (omega arith)) ∙ j .rest g (omega arith);
-      }
-
-pub joining-end : {a b c : List ℕ} {f : ℕ} → 16 ≤ f → Joining a b f c → Joined a b c
-joining-end h j = record { len = j .len; joined = λ g k. j .done g (omega arith) }
+pub joined-members : {a b c : List ℕ} → length a ≡ 16 → Filled (joinedFlag a b) 16 c → Joined a b c
+joined-members {a} {b} {c} len w = record { len = w .len ∙ sym len; joined = λ f h. go f (eqb (getD b f 0) 0) refl (w .byte f h) }
+  where
+    go : (f : ℕ) (t : Bool) → eqb (getD b f 0) 0 ≡ t → getD c f 0 ≡ cond t (getD a f 0) 1 → Member c f ↔ (Member a f ⊎ Member b f)
+    go f true t e = (λ m. inl (rw e at m), λ m. elim m [ inl x ↦ rw e x | inr x ↦ absurd (x (eqb-true (getD b f 0) 0 t)) ])
+    go f false t e = (λ m. inr (eqb-false (getD b f 0) 0 t), λ m z. omega arith)

@@ -2,7 +2,7 @@
 use Prim.Native.Nat.{ℕ, _+_, _*_, _≤_, _<_}
 use mathlib.Core.Path.{_≡_}
 use mathlib.Core.Logic.{_↔_, _≢_}
-use mathlib.Core.Bool.{Bool, not}
+use mathlib.Core.Bool.{Bool, cond, not}
 use mathlib.Core.List.{List}
 use lib.Dec.{eqb}
 use lib.ListN.{length, getD}
@@ -25,6 +25,10 @@ memberOf members f = not (eqb (getD members f 0) 0)
 
 abbrev pub Member : List ℕ → ℕ → Type 0
 Member members f = getD members f 0 ≢ 0
+
+-- the flag of a routine in the union of two sets
+abbrev pub joinedFlag : List ℕ → List ℕ → ℕ → ℕ
+joinedFlag a b f = cond (eqb (getD b f 0) 0) (getD a f 0) 1
 
 -- a set of roots as 128 flags, 8 a routine
 abbrev pub RootOf : List ℕ → ℕ → ℕ → Type 0

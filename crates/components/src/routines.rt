@@ -5,8 +5,9 @@ ghost use Prim.Native.Nat.{_≤_};
 ghost use mathlib.Core.Bool.{cond};
 ghost use lib.Dec.{eqb};
 ghost use lib.ListN.{length, getD};
+ghost use Rattle.analysis.specs.Parts.{Filled};
 ghost use Rattle.components.specs.Components.{Bits};
-ghost use Rattle.components.specs.Turns.{Joined};
+ghost use Rattle.components.specs.Parts.{joinedFlag};
 
 // flags[f]: routine f is one of the set.
 pub struct Routines {
@@ -16,7 +17,7 @@ pub struct Routines {
 // One set of routines joins another. A set has 16 flags, as `Routines` has: hence the `requires`.
 pub fn join(flags: &mut [u8], more: &[u8])
     requires { ⌜ (length (now flags) ≡ 16) × (length (now more) ≡ 16) ⌝ }
-    ensures { λ _. ⌜ Joined (now (flags .entry)) (now (more .entry)) (now (flags .exit)) ⌝ }
+    ensures { λ _. ⌜ Filled (joinedFlag (now (flags .entry)) (now (more .entry))) 16 (now (flags .exit)) ⌝ }
 {
     let mut f: usize = 0;
     while f < 16 {

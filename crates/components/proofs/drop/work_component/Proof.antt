@@ -3,6 +3,7 @@ use mathlib.Core.Path.{_≡_}
 use lib.ListN.{length}
 use borrow.Author.Needs.{needs}
 use Rattle.components.proofs.Graphed.{component-members}
+use Rattle.components.proofs.Deciding.{joined-members}
 use Rattle.components.proofs.Turning.{may-pass, component-kept, component-worked}
 use Rattle.components.proofs.drop.work_component.Statement.{statement}
 use Rattle.components.proofs.drop.work_component.Tie as tie
@@ -74,7 +75,7 @@ returns c =
     let len : length (s .component .result .flags) ≡ 16 = search (needs, o) in
     λ old t.
     component-worked (z .args .f) t (z .pre .0 .0) (z .pre .0 .3) len (component-members (t .graph) (z .pre .0 .0) (s .component .ensures))
-    (c .before .before .before .before .before .before .before .before .before .before .before .before .before .before .before .before .before .before .before .is-reopened .ensures .if-yes (c .before .before .before .before .before .before .before .before .before .before .before .before .before .before .before .before .before .before .if1 .taken)) (c .before .before .before .before .before .before .before .before .before .before .before .before .before .before .component-pass .ensures .0) (c .before .before .before .before .before .before .before .join .ensures) (c .before .before .join2 .ensures)
+    (c .before .before .before .before .before .before .before .before .before .before .before .before .before .before .before .before .before .before .before .is-reopened .ensures .if-yes (c .before .before .before .before .before .before .before .before .before .before .before .before .before .before .before .before .before .before .if1 .taken)) (c .before .before .before .before .before .before .before .before .before .before .before .before .before .before .component-pass .ensures .0) (joined-members (t .working .reopened-length) (c .before .before .before .before .before .before .before .join .ensures)) (joined-members (t .working .done-length) (c .before .before .join2 .ensures))
 
 slice-aggregate-join-3 : tie.Need-slice-aggregate-join-3
 slice-aggregate-join-3 c = search needs
@@ -100,7 +101,7 @@ returns-2 c =
     let len : length (s .component .result .flags) ≡ 16 = search (needs, o) in
     λ old t.
     component-kept (z .args .f) t (z .pre .0 .0) (z .pre .0 .3) len (component-members (t .graph) (z .pre .0 .0) (s .component .ensures))
-    (c .before .before .before .before .before .before .is-reopened .ensures .if-no (c .before .before .before .before .before .if1 .left)) (c .before .before .join3 .ensures)
+    (c .before .before .before .before .before .before .is-reopened .ensures .if-no (c .before .before .before .before .before .if1 .left)) (joined-members (t .working .done-length) (c .before .before .join3 .ensures))
 
 pub work-component-spec : {M : Type 1} → statement M
 work-component-spec =
