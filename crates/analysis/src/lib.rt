@@ -8,6 +8,7 @@ pub mod next;
 pub mod number;
 pub mod own;
 pub mod part;
+mod pending;
 pub mod run;
 mod take;
 

@@ -1,7 +1,7 @@
 // A part of the table of edges: where that of one routine begins, and what follows by the edges of a part.
 use crate::count::clear;
 use crate::exits::summaries_of;
-use crate::run::follow_pending;
+use crate::pending::follow_pending;
 ghost use mathlib.Core.Path.{_≡_};
 ghost use mathlib.Core.Bool.{cond};
 ghost use Prim.Native.Nat.{_/_, _%_, _≤_};

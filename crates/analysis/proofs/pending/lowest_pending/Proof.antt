@@ -3,8 +3,8 @@ use Rattle.analysis.specs.Parts.{NoneBelow}
 use native.Mathlib.Omega.{arith}
 use Prim.Native.Nat.{_-_}
 use borrow.Author.Needs.{needs}
-use Rattle.analysis.proofs.run.lowest_pending.Statement.{statement}
-use Rattle.analysis.proofs.run.lowest_pending.Tie as tie
+use Rattle.analysis.proofs.pending.lowest_pending.Statement.{statement}
+use Rattle.analysis.proofs.pending.lowest_pending.Tie as tie
 
 abbrev Inv-loop : tie.InvT-loop
 Inv-loop pending from i₀ i = NoneBelow pending i

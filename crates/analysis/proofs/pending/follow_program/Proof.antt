@@ -5,8 +5,8 @@ use native.Mathlib.Omega.{arith}
 use mathlib.Core.List.{map}
 use mathlib.Core.Path.{_≡_, ap, sym}
 use borrow.Author.Needs.{needs}
-use Rattle.analysis.proofs.run.follow_program.Statement.{statement}
-use Rattle.analysis.proofs.run.follow_program.Tie as tie
+use Rattle.analysis.proofs.pending.follow_program.Statement.{statement}
+use Rattle.analysis.proofs.pending.follow_program.Tie as tie
 
 next-states-requires : tie.Need-next-states-requires
 next-states-requires c κs = search needs

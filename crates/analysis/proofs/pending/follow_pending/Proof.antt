@@ -3,8 +3,8 @@ use native.Mathlib.Omega.{arith}
 use mathlib.Core.Path.{sym, _∙_}
 use Prim.Native.Nat.{_-_}
 use borrow.Author.Needs.{needs}
-use Rattle.analysis.proofs.run.follow_pending.Statement.{statement}
-use Rattle.analysis.proofs.run.follow_pending.Tie as tie
+use Rattle.analysis.proofs.pending.follow_pending.Statement.{statement}
+use Rattle.analysis.proofs.pending.follow_pending.Tie as tie
 
 abbrev Inv-loop : tie.InvT-loop
 Inv-loop keys count next marks₀ pending₀ known₀ from iterations₀ at₀ marks pending known iterations at =
