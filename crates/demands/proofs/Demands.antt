@@ -25,6 +25,7 @@ use Rattle.demands.specs.Inputs.{SameInputs}
 use Rattle.demands.specs.Demands.{Demand1, Acceptance, Demand2, Safe, Next, Procedure, Demand3, keepingOf}
 use Rattle.demands.specs.Cases.{Case, Holds, table}
 use Rattle.demands.proofs.Returning.{gives-demanded}
+use Rattle.demands.proofs.Fixed.{given-once}
 use Rattle.demands.proofs.Accepted.{file-acceptance, comes-back}
 use Rattle.demands.proofs.Bench.{too-long}
 use Rattle.demands.proofs.Analyzing.{analyzed-exact, count-safe, next-given, procedure-ends}
@@ -38,6 +39,10 @@ use Rattle.demands.proofs.Cases.{every-row}
 -- for every function that is called from outside, whatever is lent to it
 pub demand-1 : (e : Entry) (b : Lent) (a : Back) → Gives e b a → Demand1 e b a
 demand-1 = gives-demanded
+
+-- what a function promises fixes its answer: every number and every lent byte afterwards
+pub one-answer : (e : Entry) (b : Lent) (a c : Back) → Gives e b a → Gives e b c → a ≡ c
+one-answer = given-once
 
 -- which files are accepted
 pub accepted-files : (b : Lent) (a : Back) → Gives read b a → Acceptance b a

@@ -1,6 +1,7 @@
 pub mod Filed
 pub mod Edited
 pub mod Returning
+pub mod Fixed
 pub mod Accepted
 pub mod Analyzing
 pub mod Keeping
