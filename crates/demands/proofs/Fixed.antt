@@ -52,7 +52,7 @@ same-number (suc w) n m a b h =
     div-one : (k : ℕ) → k / 2 ^ 0 ≡ k
     div-one k = omega arith
 
-one-number : {R : ℕ → Type 0} {n m : ℕ} → Bits R n → Bits R m → n ≡ m
+pub one-number : {R : ℕ → Type 0} {n m : ℕ} → Bits R n → Bits R m → n ≡ m
 one-number {n = n} {m = m} x y =
     same-number 16 n m (x .small) (y .small)
     (λ f h. let a = x .bit f h in let b = y .bit f h in (λ e. b .1 (a .0 e), λ e. a .1 (b .0 e)))

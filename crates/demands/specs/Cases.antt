@@ -4,19 +4,12 @@ use mathlib.Core.Option.{Option, none, some}
 use mathlib.Core.List.{List, [], _∷_, _++_}
 use Prim.Native.Nat.{ℕ}
 use Prim.Native.String.{String}
-use lib.Dec.{eqb}
 use lib.ListN.{length, drop, set, replicate}
-use Rattle.program.specs.Program.{Program}
-use Rattle.program.specs.Reading.{readFile}
-use Rattle.program.specs.declared.Verdict.the-variants.{Accepted}
 use Rattle.program.specs.Sample.{bytes, lineBytes, header, edges, transitions, F}
-use Rattle.writer.specs.Answers.{outputSize, refusal, writtenLength}
+use Rattle.writer.specs.Answers.{outputSize}
 use Rattle.reach.specs.Configurations.{none-set}
-use Rattle.reach.specs.Worklist.{analysis}
-use Rattle.reach.specs.Marks.{freshMarks, violations}
-use Rattle.edit.specs.Editing.{wantedEdit}
-use Rattle.repair.specs.Repairs.{After, repaired}
-use Rattle.repair.specs.Reanalyzed.{insideOutNumber}
+use Rattle.reach.specs.Marks.{violations}
+use Rattle.desk.specs.Entries.{analyze, repair-forward, repair-inside-out, Lent, Back, programIn, Gives}
 
 -- ---- what a row says
 
@@ -55,39 +48,39 @@ abbrev pub Said : {A : Type 0} → (A → Type 0) → Option A → Type 0
 Said P none = Unit {0}
 Said P (some x) = P x
 
-abbrev pub programIn : List String → Program
-programIn file = readFile (bytes file) .program
+-- what is lent: a file by its lines, marks, an edit line, an output and a working buffer of zeros
+abbrev pub lentWith : List String → List ℕ → List ℕ → Lent
+lentWith file marks line = record { file = bytes file; marks = marks; edit = line; output = replicate outputSize 0; work = none-set; from = 0 }
 
--- the file is accepted, and the full analysis of its program gives what is expected
-pub record Analyzed (c : Fresh) : Type 0 where
-  pub accepted : readFile (bytes (c .file)) .verdict ≡ Accepted
-  pub marks : Said (λ is. freshMarks (programIn (c .file)) ≡ marksAt is) (c .configurations)
-  pub violating : Said (λ is. violations (programIn (c .file)) ≡ is) (c .violating)
-  pub iterations : Said (λ n. analysis (programIn (c .file)) .iterations ≡ n) (c .iterations)
+abbrev pub lentFresh : Fresh → Lent
+lentFresh c = lentWith (c .file) none-set []
 
--- the output before the call
-abbrev pub blank : List ℕ
-blank = replicate outputSize 0
+-- what a full analysis gives back is as expected: the file is accepted, and so on
+pub record Analyzed (c : Fresh) (a : Back) : Type 0 where
+  pub accepted : a .refusal ≡ 0
+  pub marks : Said (λ is. a .marks ≡ marksAt is) (c .configurations)
+  pub violating : Said (λ is. (violations (programIn (lentFresh c)) ≡ is) × (a .values .violations ≡ length is)) (c .violating)
+  pub iterations : Said (λ n. a .values .iterations ≡ n) (c .iterations)
 
--- the answer of either repair, and the lent bytes afterwards, as both promise them
-abbrev pub repairOf : Edited → After
-repairOf c = repaired (bytes (c .file)) (marksAt (c .before)) (lineBytes (c .line)) blank none-set
+abbrev pub lentEdit : Edited → Lent
+lentEdit c = lentWith (c .file) (marksAt (c .before)) (lineBytes (c .line))
 
--- what the inside-out repair promises, besides, of the number for the reanalyzed routines
-abbrev pub Reopens : Edited → ℕ → Type 0
-Reopens c n = insideOutNumber (eqb (refusal (repairOf c .answer)) 0) (wantedEdit (programIn (c .file)) (lineBytes (c .line))) (programIn (c .file)) n
+-- what a repair gives back is as expected: the refusal and the marks; the lines that are written stand at the start of the output, whose other bytes stay
+pub record Repaired (c : Edited) (a : Back) : Type 0 where
+  pub refused : a .refusal ≡ c .refused
+  pub marks : a .marks ≡ marksAt (c .after)
+  pub size : a .values .written ≡ length (bytes (c .wrote))
+  pub output : a .output ≡ bytes (c .wrote) ++ drop (length (bytes (c .wrote))) (lentEdit c .output)
 
--- the refusal and the marks are as expected; the lines that are written stand at the start of the output, whose other bytes stay
-pub record Repaired (c : Edited) : Type 0 where
-  pub refused : refusal (repairOf c .answer) ≡ c .refused
-  pub marks : repairOf c .marks ≡ marksAt (c .after)
-  pub size : writtenLength (repairOf c .answer) ≡ length (bytes (c .wrote))
-  pub output : repairOf c .output ≡ bytes (c .wrote) ++ drop (length (bytes (c .wrote))) blank
-  pub reopened : Said (Reopens c) (c .reopened)
+-- both repairs, and of the inside-out one the reanalyzed routines too
+pub record RepairedBoth (c : Edited) : Type 0 where
+  pub forward : (a : Back) → Gives repair-forward (lentEdit c) a → Repaired c a
+  pub inside-out : (a : Back) → Gives repair-inside-out (lentEdit c) a → Repaired c a
+  pub reopened : (a : Back) → Gives repair-inside-out (lentEdit c) a → Said (λ n. a .values .reanalyzed ≡ n) (c .reopened)
 
 abbrev pub Holds : Case → Type 0
-Holds (fresh c) = Analyzed c
-Holds (edited c) = Repaired c
+Holds (fresh c) = (a : Back) → Gives analyze (lentFresh c) a → Analyzed c a
+Holds (edited c) = RepairedBoth c
 
 -- ---- the rows
 
