@@ -105,7 +105,8 @@ fn rounds(p: DecodedProgram, members: &[u8], next: &[u8], marks: &mut [u8], pend
 }
 
 // The routines of a component are worked anew from their roots, by their own edges and the summaries of the routines that
-// they call outside. The caller has the roots and the marks of the others: hence the `requires`.
+// they call outside. Each turn leaves nothing pending, but where there is none the buffer is as it came: so it is cleared. The
+// caller has the roots and the marks of the others: hence the `requires`.
 pub fn component_pass(
     p: DecodedProgram,
     members: &[u8],
