@@ -13,7 +13,7 @@ use Rattle.program.specs.WellFormed.{WellFormed}
 use Rattle.program.specs.Reading.{Outcome, accepted, readFile}
 use Rattle.program.specs.Writing.{written}
 use Rattle.program.specs.declared.Verdict.the-variants as verdict
-use Rattle.program.proofs.Theorems.{accepted-well-formed, written-back, read-again}
+use Rattle.program.proofs.Theorems.{accepted-well-formed}
 use Rattle.reach.specs.Marks.{freshMarks}
 use Rattle.reach.proofs.Kept.{marks-length}
 use Rattle.analysis.specs.Answers.{same}
@@ -22,7 +22,7 @@ use Rattle.edit.specs.Editing.{withEdges, editedProgram, wantedEdit, Applies}
 use Rattle.edit.specs.declared.Edit.{Edit}
 use Rattle.edit.specs.declared.EditRead.{EditRead}
 use Rattle.edit.specs.declared.EditRead.the-variants as read
-use Rattle.edit.proofs.Theorems.{wanted-applies, applied-well-formed}
+use Rattle.edit.proofs.Theorems.{wanted-applies, applied-well-formed, edited-read}
 use Rattle.repair.specs.Repairs.{After, untouched, repairedTo, wantedBy, repairedBy, measured, repaired}
 use Rattle.repair.specs.Desk.{Desk, started}
 use Rattle.repair.specs.Reanalyzed.{insideOutNumber}
@@ -34,19 +34,19 @@ use Rattle.demands.specs.Demands.{Demand3}
 use Rattle.demands.proofs.Booked.{book-well-formed, wanted-sorted, booked}
 use Rattle.demands.proofs.Local.{local-change}
 
--- the desk has the file and the marks of the model's program
+-- the desk has a file that is read as the model's program, and the marks of that program
 record Agrees (d : Desk) (b : Program) : Type 0 where
-  file : d .file ≡ written (bookProgram b)
+  file : readFile (d .file) ≡ accepted (bookProgram b)
   marks : d .marks ≡ freshMarks (bookProgram b)
   well-formed : WellFormed (bookProgram b)
 
--- they do at the start: an accepted file is its program, written
+-- they do at the start
 agreed : (file : List ℕ) → readFile file .verdict ≡ verdict.Accepted → Agrees (started file) (readFile file .program)
 agreed file h =
     let w = accepted-well-formed file h in
     let e = book-well-formed (readFile file .program) w in
     record {
-      file = sym (ap written e ∙ written-back file h);
+      file = (λ i. record { verdict = h i; program = readFile file .program }) ∙ ap accepted (sym e);
       marks = ap freshMarks (sym e);
       well-formed = subst WellFormed (sym e) w;
     }
@@ -78,7 +78,7 @@ module _ (d : Desk) (b : Program) (g : Agrees d b) (k : ℕ) where
       let w = take-append-seam (written q) (drop (length (written q)) output) in
       record {
         same-seen = rw (x, w);
-        again = record { file = rw (x, w); marks = rw x; well-formed = rw x (applied-well-formed e p (g .well-formed) h) };
+        again = record { file = rw (x, w) (edited-read e p (g .well-formed) h); marks = rw x; well-formed = rw x (applied-well-formed e p (g .well-formed) h) };
       }
 
   wanted : (w : EditRead) (line output work : List ℕ) → wantedEdit p line ≡ w
@@ -93,13 +93,10 @@ module _ (d : Desk) (b : Program) (g : Agrees d b) (k : ℕ) where
   zero-when (read.Read e) line h = refl
   zero-when (read.Refused n) line h = rw (ne-eqb n 0 (λ z. absurd (omega (arith, wanted-number p line n h))))
 
-  is-read : readFile (d .file) ≡ accepted p
-  is-read = ap readFile (g .file) ∙ read-again (bookProgram b) (g .well-formed)
-
   one-call : (c : Call) → Step d (repairBack (repaired (d .file) (d .marks) (c .line) (c .output) (c .work)) k) (bookRefuses b c) (bookCall b c)
   unfolding repaired measured bookRefusal bookAfter
   one-call c =
-      rw (is-read, m) (go (ltb (length (c .output)) 5328) (eqb (length (c .work)) 16384) (wantedEdit b (c .line)) (wanted-sorted b (c .line)))
+      rw (g .file, m) (go (ltb (length (c .output)) 5328) (eqb (length (c .work)) 16384) (wantedEdit b (c .line)) (wanted-sorted b (c .line)))
     where
       m : length (d .marks) ≡ 16384
       m = ap length (g .marks) ∙ marks-length (bookProgram b)
@@ -131,7 +128,7 @@ module _ (d : Desk) (b : Program) (g : Agrees d b) (c : Call) (a : Back) (x : Gi
   by-model y =
       let n = a .values .reanalyzed in
       let z = subst (λ (t : ℕ). insideOutNumber (eqb t 0) (wantedEdit (readFile (d .file) .program) (c .line)) (readFile (d .file) .program) n) (ap (λ (s : Seen). s .refused) (step .same-seen)) y in
-      let w = subst (λ (o : Outcome). insideOutNumber (eqb (bookRefuses b c) 0) (wantedEdit (o .program) (c .line)) (o .program) n) (is-read d b g n) z in
+      let w = subst (λ (o : Outcome). insideOutNumber (eqb (bookRefuses b c) 0) (wantedEdit (o .program) (c .line)) (o .program) n) (g .file) z in
       subst (λ (e : EditRead). insideOutNumber (eqb (bookRefuses b c) 0) e (bookProgram b) n) (wanted-sorted b (c .line)) w
 
   routines : RoutinesBy (c .repair) (bookRefuses b c) b (c .line) (a .values .reanalyzed)
