@@ -130,13 +130,30 @@ fn repair_file(
 }
 
 // The answer without the routines, for those who ask for the marks and the file only.
-pub fn without_routines(a: RepairAnswer) -> WriteAnswer
+fn without_routines(a: RepairAnswer) -> WriteAnswer
     ensures { λ r. ⌜ r ≡ plain a ⌝ }
 {
     match a {
         RepairAnswer::Repaired(size, _) => WriteAnswer::Written(size),
         RepairAnswer::Refused(n, at) => WriteAnswer::Refused(n, at),
     }
+}
+
+// Either repair, for those who ask for the marks and the file only: the inside-out one where that is asked for, else the
+// forward one.
+pub fn repair_with(
+    inside_out: bool,
+    file: &[u8],
+    marks: &mut [u8],
+    line: &[u8],
+    output: &mut [u8],
+    work: &mut [u8],
+) -> WriteAnswer
+    ensures { λ r. ⌜ _≡_ {A = After} (record { answer = r; marks = now (marks .exit); output = now (output .exit); work = now (work .exit) })
+        (repaired (now (file .entry)) (now (marks .entry)) (now (line .entry)) (now (output .entry)) (now (work .entry))) ⌝ }
+{
+    let a = repair_file(inside_out, file, marks, line, output, work);
+    without_routines(a)
 }
 
 // The forward repair. The marks must be the file's own. A refusal leaves the marks and the output alone, and the working
@@ -151,8 +168,7 @@ pub fn repair_forward(
     ensures { λ r. ⌜ _≡_ {A = After} (record { answer = r; marks = now (marks .exit); output = now (output .exit); work = now (work .exit) })
         (repaired (now (file .entry)) (now (marks .entry)) (now (line .entry)) (now (output .entry)) (now (work .entry))) ⌝ }
 {
-    let a = repair_file(false, file, marks, line, output, work);
-    without_routines(a)
+    repair_with(false, file, marks, line, output, work)
 }
 
 // The inside-out repair: as the forward one, and the answer says which routines were reanalyzed.

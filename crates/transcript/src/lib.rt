@@ -1,12 +1,12 @@
 // What bench prints for an input, a turn after the other: one for the file, and then one for each edit line. Each turn puts its text at
 // the start of an output of 180,235 bytes, which every text fits.
 use analysis::AnalyzeAnswer;
+use repair::repair_with;
 use writer::WriteAnswer;
 ghost use mathlib.Core.Path.{_≡_};
 ghost use Prim.Native.Nat.{_≤_};
 ghost use lib.ListN.{length};
 ghost use Rattle.program.specs.Reading.{readFile};
-ghost use Rattle.repair.specs.Repairs.{After, repaired};
 ghost use Rattle.repair.specs.Desk.{fileBy, after};
 ghost use Rattle.report.specs.Report.{blockText, Printed};
 ghost use Rattle.transcript.specs.Transcript.{heldOf, nothing, TurnGives, fileOf, begunBy, begun, lineAt, editOn, turned};
@@ -129,25 +129,6 @@ fn line_at(input: &[u8], at: usize) -> &[u8]
     let from = within(at, input);
     let next = from + report::line_size(input, from);
     &input[from..next]
-}
-
-// The repair that is asked for. Which routines were reanalyzed is not printed.
-fn repair_with(
-    inside_out: bool,
-    file: &[u8],
-    marks: &mut [u8],
-    line: &[u8],
-    output: &mut [u8],
-    work: &mut [u8],
-) -> WriteAnswer
-    ensures { λ r. ⌜ _≡_ {A = After} (record { answer = r; marks = now (marks .exit); output = now (output .exit); work = now (work .exit) })
-        (repaired (now (file .entry)) (now (marks .entry)) (now (line .entry)) (now (output .entry)) (now (work .entry))) ⌝ }
-{
-    if inside_out {
-        let answer = repair::repair_inside_out(file, marks, line, output, work);
-        return repair::without_routines(answer);
-    }
-    repair::repair_forward(file, marks, line, output, work)
 }
 
 // The next file is a copy of what an accepted repair wrote; after a refused one it stays.
