@@ -6,30 +6,31 @@ use repair::RepairAnswer;
 use writer::WriteAnswer;
 ghost use mathlib.Core.Path.{_≡_};
 ghost use mathlib.Core.List.{[]};
-ghost use Prim.Native.Nat.{_<_, _^_};
 ghost use Rattle.program.specs.Reading.{refusal, refusalLine};
 ghost use Rattle.writer.specs.Answers.{refusal as writeRefusal, refusalLine as writeLine, writtenLength};
 ghost use Rattle.analysis.specs.Answers.{analyzeRefusal, analyzeLine, configurationCount, violationCount, iterationCount, nextRefusal, nextLine, nextFound};
-ghost use Rattle.repair.specs.Repairs.{plain, reanalyzed as reanalyzedNumber};
-ghost use Rattle.desk.specs.Entries.{Gives, read, write, analyze, next-violation, prune, repair-forward, repair-inside-out, noValues, writing, counts, finding, repairing};
+ghost use Rattle.repair.specs.Repairs.{reanalyzed as reanalyzedNumber};
+ghost use Rattle.desk.specs.Entries.{Gives, read, write, analyze, next-violation, prune, repair-forward, repair-inside-out, noValues, writing, counts, finding, repairing, VerdictFits, WriteFits, AnalyzeFits, NextFits};
 
-fn refusal_of(v: Verdict) -> u32
-    ensures { λ r. ⌜ r ≡ refusal v ⌝ }
-{
-    match v {
-        Verdict::Accepted => 0,
-        Verdict::Refused(n, _) => n as u32,
-    }
+struct VerdictNumbers {
+    refusal: u32,
+    line: u32,
 }
 
 // No file is refused at a line above 547, so that each line fits.
-fn line_of(v: Verdict) -> u32
-    requires { ⌜ refusalLine v < 2 ^ 32 ⌝ }
-    ensures { λ r. ⌜ r ≡ refusalLine v ⌝ }
+fn verdict_numbers(v: Verdict) -> VerdictNumbers
+    requires { ⌜ VerdictFits v ⌝ }
+    ensures { λ r. ⌜ (r .refusal ≡ refusal v) × (r .line ≡ refusalLine v) ⌝ }
 {
     match v {
-        Verdict::Accepted => 0,
-        Verdict::Refused(_, at) => at as u32,
+        Verdict::Accepted => VerdictNumbers {
+            refusal: 0,
+            line: 0,
+        },
+        Verdict::Refused(n, at) => VerdictNumbers {
+            refusal: n as u32,
+            line: at as u32,
+        },
     }
 }
 
@@ -41,37 +42,33 @@ pub extern "C" fn palthrenni_read(file: &[u8], line: &mut u32) -> u32
 {
     let r = reader::read(file);
     let v = r.verdict;
-    *line = line_of(v);
-    refusal_of(v)
+    let numbers = verdict_numbers(v);
+    *line = numbers.line;
+    numbers.refusal
 }
 
-fn write_refusal_of(a: WriteAnswer) -> u32
-    ensures { λ r. ⌜ r ≡ writeRefusal a ⌝ }
-{
-    match a {
-        WriteAnswer::Written(_) => 0,
-        WriteAnswer::Refused(n, _) => n as u32,
-    }
-}
-
-fn write_line_of(a: WriteAnswer) -> u32
-    requires { ⌜ writeLine a < 2 ^ 32 ⌝ }
-    ensures { λ r. ⌜ r ≡ writeLine a ⌝ }
-{
-    match a {
-        WriteAnswer::Written(_) => 0,
-        WriteAnswer::Refused(_, at) => at as u32,
-    }
+struct WriteNumbers {
+    refusal: u32,
+    line: u32,
+    written: u32,
 }
 
 // No program is written as more than 5,328 bytes, so that each length fits.
-fn written_of(a: WriteAnswer) -> u32
-    requires { ⌜ writtenLength a < 2 ^ 32 ⌝ }
-    ensures { λ r. ⌜ r ≡ writtenLength a ⌝ }
+fn write_numbers(a: WriteAnswer) -> WriteNumbers
+    requires { ⌜ WriteFits a ⌝ }
+    ensures { λ r. ⌜ (r .refusal ≡ writeRefusal a) × (r .line ≡ writeLine a) × (r .written ≡ writtenLength a) ⌝ }
 {
     match a {
-        WriteAnswer::Written(n) => n as u32,
-        WriteAnswer::Refused(_, _) => 0,
+        WriteAnswer::Written(size) => WriteNumbers {
+            refusal: 0,
+            line: 0,
+            written: size as u32,
+        },
+        WriteAnswer::Refused(n, at) => WriteNumbers {
+            refusal: n as u32,
+            line: at as u32,
+            written: 0,
+        },
     }
 }
 
@@ -87,58 +84,40 @@ pub extern "C" fn palthrenni_write(
         (record { refusal = r; line = now (line .exit); values = writing (now (written .exit)); marks = []; output = now (output .exit); work = [] }) ⌝ }
 {
     let a = writer::write(file, output);
-    *line = write_line_of(a);
-    *written = written_of(a);
-    write_refusal_of(a)
+    let numbers = write_numbers(a);
+    *line = numbers.line;
+    *written = numbers.written;
+    numbers.refusal
 }
 
-fn analyze_refusal_of(a: AnalyzeAnswer) -> u32
-    ensures { λ r. ⌜ r ≡ analyzeRefusal a ⌝ }
-{
-    match a {
-        AnalyzeAnswer::Counts(_, _, _) => 0,
-        AnalyzeAnswer::Refused(n, _) => n as u32,
-    }
-}
-
-fn analyze_line_of(a: AnalyzeAnswer) -> u32
-    requires { ⌜ analyzeLine a < 2 ^ 32 ⌝ }
-    ensures { λ r. ⌜ r ≡ analyzeLine a ⌝ }
-{
-    match a {
-        AnalyzeAnswer::Counts(_, _, _) => 0,
-        AnalyzeAnswer::Refused(_, at) => at as u32,
-    }
+struct AnalyzeNumbers {
+    refusal: u32,
+    line: u32,
+    configurations: u32,
+    violations: u32,
+    iterations: u32,
 }
 
 // There are 16,384 configurations and at most 2,113,536 iterations, so that each count fits.
-fn configurations_of(a: AnalyzeAnswer) -> u32
-    requires { ⌜ configurationCount a < 2 ^ 32 ⌝ }
-    ensures { λ r. ⌜ r ≡ configurationCount a ⌝ }
+fn analyze_numbers(a: AnalyzeAnswer) -> AnalyzeNumbers
+    requires { ⌜ AnalyzeFits a ⌝ }
+    ensures { λ r. ⌜ (r .refusal ≡ analyzeRefusal a) × (r .line ≡ analyzeLine a) × (r .configurations ≡ configurationCount a) × (r .violations ≡ violationCount a) × (r .iterations ≡ iterationCount a) ⌝ }
 {
     match a {
-        AnalyzeAnswer::Counts(c, _, _) => c as u32,
-        AnalyzeAnswer::Refused(_, _) => 0,
-    }
-}
-
-fn violations_of(a: AnalyzeAnswer) -> u32
-    requires { ⌜ violationCount a < 2 ^ 32 ⌝ }
-    ensures { λ r. ⌜ r ≡ violationCount a ⌝ }
-{
-    match a {
-        AnalyzeAnswer::Counts(_, v, _) => v as u32,
-        AnalyzeAnswer::Refused(_, _) => 0,
-    }
-}
-
-fn iterations_of(a: AnalyzeAnswer) -> u32
-    requires { ⌜ iterationCount a < 2 ^ 32 ⌝ }
-    ensures { λ r. ⌜ r ≡ iterationCount a ⌝ }
-{
-    match a {
-        AnalyzeAnswer::Counts(_, _, i) => i as u32,
-        AnalyzeAnswer::Refused(_, _) => 0,
+        AnalyzeAnswer::Counts(c, v, i) => AnalyzeNumbers {
+            refusal: 0,
+            line: 0,
+            configurations: c as u32,
+            violations: v as u32,
+            iterations: i as u32,
+        },
+        AnalyzeAnswer::Refused(n, at) => AnalyzeNumbers {
+            refusal: n as u32,
+            line: at as u32,
+            configurations: 0,
+            violations: 0,
+            iterations: 0,
+        },
     }
 }
 
@@ -164,42 +143,40 @@ pub extern "C" fn palthrenni_analyze(
         }) ⌝ }
 {
     let a = analysis::analyze(file, marks, work);
-    *line = analyze_line_of(a);
-    *configurations = configurations_of(a);
-    *violations = violations_of(a);
-    *iterations = iterations_of(a);
-    analyze_refusal_of(a)
+    let numbers = analyze_numbers(a);
+    *line = numbers.line;
+    *configurations = numbers.configurations;
+    *violations = numbers.violations;
+    *iterations = numbers.iterations;
+    numbers.refusal
 }
 
-fn next_refusal_of(a: NextAnswer) -> u32
-    ensures { λ r. ⌜ r ≡ nextRefusal a ⌝ }
-{
-    match a {
-        NextAnswer::Found(_) => 0,
-        NextAnswer::Nothing => 0,
-        NextAnswer::Refused(n, _) => n as u32,
-    }
+struct NextNumbers {
+    refusal: u32,
+    line: u32,
+    found: u32,
 }
 
-fn next_line_of(a: NextAnswer) -> u32
-    requires { ⌜ nextLine a < 2 ^ 32 ⌝ }
-    ensures { λ r. ⌜ r ≡ nextLine a ⌝ }
+fn next_numbers(a: NextAnswer) -> NextNumbers
+    requires { ⌜ NextFits a ⌝ }
+    ensures { λ r. ⌜ (r .refusal ≡ nextRefusal a) × (r .line ≡ nextLine a) × (r .found ≡ nextFound a) ⌝ }
 {
     match a {
-        NextAnswer::Found(_) => 0,
-        NextAnswer::Nothing => 0,
-        NextAnswer::Refused(_, at) => at as u32,
-    }
-}
-
-fn found_of(a: NextAnswer) -> u32
-    requires { ⌜ nextFound a < 2 ^ 32 ⌝ }
-    ensures { λ r. ⌜ r ≡ nextFound a ⌝ }
-{
-    match a {
-        NextAnswer::Found(i) => i as u32,
-        NextAnswer::Nothing => 4294967295,
-        NextAnswer::Refused(_, _) => 0,
+        NextAnswer::Found(i) => NextNumbers {
+            refusal: 0,
+            line: 0,
+            found: i as u32,
+        },
+        NextAnswer::Nothing => NextNumbers {
+            refusal: 0,
+            line: 0,
+            found: 4294967295,
+        },
+        NextAnswer::Refused(n, at) => NextNumbers {
+            refusal: n as u32,
+            line: at as u32,
+            found: 0,
+        },
     }
 }
 
@@ -217,9 +194,10 @@ pub extern "C" fn palthrenni_next_violation(
         (record { refusal = r; line = now (line .exit); values = finding (now (found .exit)); marks = now (marks .entry); output = []; work = now (work .exit) }) ⌝ }
 {
     let a = analysis::next_violation(file, marks, work, from as usize);
-    *line = next_line_of(a);
-    *found = found_of(a);
-    next_refusal_of(a)
+    let numbers = next_numbers(a);
+    *line = numbers.line;
+    *found = numbers.found;
+    numbers.refusal
 }
 
 // Of the marks those stay that have support back to a start through marked configurations. The line of a refusal is set.
@@ -234,8 +212,9 @@ pub extern "C" fn palthrenni_prune(
         (record { refusal = r; line = now (line .exit); values = noValues; marks = now (marks .exit); output = []; work = now (work .exit) }) ⌝ }
 {
     let v = prune::prune(file, marks, work);
-    *line = line_of(v);
-    refusal_of(v)
+    let numbers = verdict_numbers(v);
+    *line = numbers.line;
+    numbers.refusal
 }
 
 // The forward repair: the marks become those of the edited program, which is written. The line of a refusal and the count
@@ -254,38 +233,10 @@ pub extern "C" fn palthrenni_repair_forward(
         (record { refusal = r; line = now (line .exit); values = writing (now (written .exit)); marks = now (marks .exit); output = now (output .exit); work = now (work .exit) }) ⌝ }
 {
     let a = repair::repair_forward(file, marks, edit, output, work);
-    *line = write_line_of(a);
-    *written = written_of(a);
-    write_refusal_of(a)
-}
-
-fn repair_refusal_of(a: RepairAnswer) -> u32
-    ensures { λ r. ⌜ r ≡ writeRefusal (plain a) ⌝ }
-{
-    match a {
-        RepairAnswer::Repaired(_, _) => 0,
-        RepairAnswer::Refused(n, _) => n as u32,
-    }
-}
-
-fn repair_line_of(a: RepairAnswer) -> u32
-    requires { ⌜ writeLine (plain a) < 2 ^ 32 ⌝ }
-    ensures { λ r. ⌜ r ≡ writeLine (plain a) ⌝ }
-{
-    match a {
-        RepairAnswer::Repaired(_, _) => 0,
-        RepairAnswer::Refused(_, at) => at as u32,
-    }
-}
-
-fn repair_written_of(a: RepairAnswer) -> u32
-    requires { ⌜ writtenLength (plain a) < 2 ^ 32 ⌝ }
-    ensures { λ r. ⌜ r ≡ writtenLength (plain a) ⌝ }
-{
-    match a {
-        RepairAnswer::Repaired(n, _) => n as u32,
-        RepairAnswer::Refused(_, _) => 0,
-    }
+    let numbers = write_numbers(a);
+    *line = numbers.line;
+    *written = numbers.written;
+    numbers.refusal
 }
 
 fn reanalyzed_of(a: RepairAnswer) -> u32
@@ -320,8 +271,9 @@ pub extern "C" fn palthrenni_repair_inside_out(
         }) ⌝ }
 {
     let a = repair::repair_inside_out(file, marks, edit, output, work);
-    *line = repair_line_of(a);
-    *written = repair_written_of(a);
+    let numbers = write_numbers(repair::without_routines(a));
+    *line = numbers.line;
+    *written = numbers.written;
     *reanalyzed = reanalyzed_of(a);
-    repair_refusal_of(a)
+    numbers.refusal
 }
