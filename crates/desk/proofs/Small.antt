@@ -29,7 +29,7 @@ use Rattle.edit.specs.declared.EditRead.the-variants as read
 use Rattle.edit.proofs.Theorems.{wanted-applies, applied-well-formed}
 use Rattle.repair.specs.Repairs.{After, measuredBy, wantedBy, repairedBy, measured, repaired}
 use Rattle.repair.proofs.Answered.{well-formed as measured-well-formed}
-use Rattle.desk.specs.Entries.{VerdictFits, WriteFits, AnalyzeFits, NextFits}
+use Rattle.desk.specs.Parts.{VerdictFits, WriteFits, AnalyzeFits, NextFits}
 
 either : {A : Type 0} (P : A → Type 0) (t : Bool) {x y : A} → P x → P y → P (cond t x y)
 either P true h k = h

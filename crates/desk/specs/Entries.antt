@@ -1,5 +1,5 @@
 -- The functions that are called from outside: what is lent to them, and what they give back.
-use Prim.Native.Nat.{ℕ, _<_, _^_}
+use Prim.Native.Nat.{ℕ}
 use mathlib.Core.Path.{_≡_}
 use mathlib.Core.Bool.{Bool, true, false}
 use mathlib.Core.List.{List}
@@ -84,20 +84,6 @@ repairing size routines = record { written = size; configurations = 0; violation
 
 abbrev pub writing : ℕ → Values
 writing size = repairing size 0
-
--- ---- the numbers of an answer fit 32 bits
-
-abbrev pub VerdictFits : Verdict → Type 0
-VerdictFits v = refusalLine v < 2 ^ 32
-
-abbrev pub WriteFits : WriteAnswer → Type 0
-WriteFits a = (writeLine a < 2 ^ 32) × (writtenLength a < 2 ^ 32)
-
-abbrev pub AnalyzeFits : AnalyzeAnswer → Type 0
-AnalyzeFits a = (analyzeLine a < 2 ^ 32) × (configurationCount a < 2 ^ 32) × (violationCount a < 2 ^ 32) × (iterationCount a < 2 ^ 32)
-
-abbrev pub NextFits : NextAnswer → Type 0
-NextFits a = (nextLine a < 2 ^ 32) × (nextFound a < 2 ^ 32)
 
 -- ---- what each function promises: every number and every lent byte; a buffer that it does not have is not changed
 

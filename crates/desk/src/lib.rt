@@ -10,7 +10,8 @@ ghost use Rattle.program.specs.Reading.{refusal, refusalLine};
 ghost use Rattle.writer.specs.Answers.{refusal as writeRefusal, refusalLine as writeLine, writtenLength};
 ghost use Rattle.analysis.specs.Answers.{analyzeRefusal, analyzeLine, configurationCount, violationCount, iterationCount, nextRefusal, nextLine, nextFound};
 ghost use Rattle.repair.specs.Repairs.{reanalyzed as reanalyzedNumber};
-ghost use Rattle.desk.specs.Entries.{Gives, read, write, analyze, next-violation, prune, repair-forward, repair-inside-out, noValues, writing, counts, finding, repairing, VerdictFits, WriteFits, AnalyzeFits, NextFits};
+ghost use Rattle.desk.specs.Entries.{Gives, read, write, analyze, next-violation, prune, repair-forward, repair-inside-out, noValues, writing, counts, finding, repairing};
+ghost use Rattle.desk.specs.Parts.{VerdictFits, WriteFits, AnalyzeFits, NextFits};
 
 struct VerdictNumbers {
     refusal: u32,

@@ -130,7 +130,7 @@ fn repair_file(
 }
 
 // The answer without the routines, for those who ask for the marks and the file only.
-fn without_routines(a: RepairAnswer) -> WriteAnswer
+pub fn without_routines(a: RepairAnswer) -> WriteAnswer
     ensures { λ r. ⌜ r ≡ plain a ⌝ }
 {
     match a {
