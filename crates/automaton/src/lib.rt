@@ -1,9 +1,9 @@
 // The automaton by value, and the questions that are asked of it.
 ghost use mathlib.Core.Path.{_≡_};
-ghost use mathlib.Core.List.{[], _∷_, _++_, map};
+ghost use mathlib.Core.List.{[], _∷_, _++_};
 ghost use Prim.Native.Nat.{min, _<_, _+_};
-ghost use Rattle.automaton.specs.Automaton.{listed, moves, member, isInitial, isRejecting};
-ghost use Rattle.automaton.specs.Decoded.{keysOf, statesOf, transitionOf, automatonOf};
+ghost use Rattle.automaton.specs.Automaton.{member, isInitial};
+ghost use Rattle.automaton.specs.Decoded.{keysOf, statesOf, automatonOf};
 
 // What the automaton sees of a run.
 pub enum Event {
@@ -80,26 +80,6 @@ pub fn with_state(s: States, q: u8) -> States
     longer
 }
 
-// Whether the transition from q to s on a is in a table.
-fn has_transition(t: Table, q: u8, a: u8, s: u8) -> bool
-    ensures { λ y. ⌜ y ≡ listed q a s (map transitionOf (keysOf t)) ⌝ }
-{
-    let keys = t.keys;
-    let count = t.count;
-    let mut i: usize = 0;
-    while i < 256 {
-        if count <= i {
-            return false;
-        }
-        let k = keys[i];
-        if (k / 0x10000 == q as u32) & (k / 0x100 % 256 == a as u32) & (k % 256 == s as u32) {
-            return true;
-        }
-        i = i + 1;
-    }
-    false
-}
-
 // Whether a state is in a list.
 fn has_state(s: States, q: u8) -> bool
     ensures { λ y. ⌜ y ≡ member q (statesOf s) ⌝ }
@@ -119,28 +99,9 @@ fn has_state(s: States, q: u8) -> bool
     false
 }
 
-// Whether the automaton may go from one state to another by an event.
-pub fn allows(r: DecodedAutomaton, q: u8, e: Event, s: u8) -> bool
-    ensures { λ y. ⌜ y ≡ moves (automatonOf r) q e s ⌝ }
-{
-    let transitions = r.transitions;
-    match e {
-        Event::Action(a) => has_transition(transitions, q, a, s),
-        Event::Call(_) => (q < r.states) & (q == s),
-        Event::Return(_) => (q < r.states) & (q == s),
-    }
-}
-
 pub fn is_initial(r: DecodedAutomaton, q: u8) -> bool
     ensures { λ y. ⌜ y ≡ isInitial (automatonOf r) q ⌝ }
 {
     let initial = r.initial;
     has_state(initial, q)
-}
-
-pub fn is_rejecting(r: DecodedAutomaton, q: u8) -> bool
-    ensures { λ y. ⌜ y ≡ isRejecting (automatonOf r) q ⌝ }
-{
-    let rejecting = r.rejecting;
-    has_state(rejecting, q)
 }
