@@ -10,6 +10,7 @@ use lib.Dec.{eqb, ltb, leb}
 use lib.ListN.{length, getD, take, replicate, length-replicate, List·getD-eq-default}
 use lib.Seq.{take-length}
 use borrow.Author.Tests.{eqb-false, ne-eqb, lt-ltb, le-leb, ltb-true, leb-true}
+use Rattle.automaton.specs.Flags.{Answers}
 use Rattle.program.specs.Program.{Program}
 use Rattle.program.specs.WellFormed.{WellFormed}
 use Rattle.program.specs.Decoded.{edgeOf, programOf}
@@ -20,7 +21,7 @@ use Rattle.reach.specs.Worklist.{Worklist}
 use Rattle.reach.specs.Marks.{Marked, Shows, Between, ClosedBut}
 use Rattle.reach.proofs.Flags.{on-lt, zeros}
 use Rattle.reach.proofs.Awaiting.{Awaits, awaits-ends, awaits-shows, awaits-clear}
-use Rattle.analysis.specs.Parts.{worklist, NoneBelow, Filled, firstPending, Learnt, Answers, followed, Ends}
+use Rattle.analysis.specs.Parts.{worklist, NoneBelow, Filled, firstPending, Learnt, followed, Ends}
 use Rattle.analysis.specs.Slice.{Followable}
 use Rattle.analysis.proofs.Filling.{Filling, filled-bits}
 use Rattle.analysis.proofs.Slice.{in-use-same}

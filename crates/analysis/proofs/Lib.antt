@@ -2,7 +2,6 @@ pub mod Steps
 pub mod Branches
 pub mod Meaning
 pub mod Taken
-pub mod Table
 pub mod Counts
 pub mod Lowest
 pub mod Following

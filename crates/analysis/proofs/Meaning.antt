@@ -9,6 +9,7 @@ use lib.ListN.{length, getD, take, drop}
 use lib.Seq.{drop-cons}
 use borrow.Author.Tests.{lt-ltb, le-ltb, ltb-true, ltb-false, leb-true, eqb-true, eqb-false, eq-eqb, ne-eqb}
 use Rattle.automaton.specs.Automaton.{moves}
+use Rattle.automaton.specs.Flags.{Answers}
 use Rattle.automaton.specs.declared.Event.{Event}
 use Rattle.automaton.specs.declared.Event.the-variants.{Action, Call, Return}
 use Rattle.program.specs.Program.{Program, labelFits}
@@ -18,7 +19,7 @@ use Rattle.reach.specs.Runs.{labelOf, stepOf}
 use Rattle.reach.specs.Worklist.{Worklist, mark, wake, markWhen, summary, isKnown, onAction, onReturns, onLabel, labelWhen, onSteps, wakeRoots, calls, wakeWhen, wakeCallers}
 use Rattle.reach.proofs.Numbers.{number-state, number-root, summary-state}
 use Rattle.reach.proofs.Kept.{mark-by}
-use Rattle.analysis.specs.Parts.{each, markFlag, wakeAt, Answers, stepsIn, labelStep, edgeStep, callerStep}
+use Rattle.analysis.specs.Parts.{each, markFlag, wakeAt, stepsIn, labelStep, edgeStep, callerStep}
 
 -- ---- marking leaves the summaries alone
 

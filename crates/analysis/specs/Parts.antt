@@ -1,14 +1,12 @@
 -- What the private functions of the analysis promise of each other; nothing here has to be believed.
 use Prim.Native.Nat.{ℕ, zero, suc, _<_, _+_, _-_, _*_, _/_, _%_}
 use mathlib.Core.Path.{_≡_}
-use mathlib.Core.Bool.{cond, _&&_, not}
+use mathlib.Core.Bool.{cond, _&&_}
 use mathlib.Core.Option.{Option, some, none}
 use mathlib.Core.List.{List, map}
 use lib.Dec.{eqb, ltb, leb}
 use lib.ListN.{length, getD, take}
-use Rattle.automaton.specs.Automaton.{Automaton, goes, moves, isRejecting}
-use Rattle.automaton.specs.Decoded.{transitionOf}
-use Rattle.automaton.specs.declared.Event.the-variants.{Action}
+use Rattle.automaton.specs.Flags.{isSet, Answers}
 use Rattle.program.specs.Program.{Program}
 use Rattle.program.specs.WellFormed.{WellFormed}
 use Rattle.program.specs.Decoded.{edgeOf}
@@ -39,7 +37,7 @@ each f (suc k) x s = each f k (suc x) (f x s)
 
 -- the number base + x is marked where the flag place + x is set
 abbrev pub markFlag : List ℕ → ℕ → ℕ → ℕ → Worklist → Worklist
-markFlag flags place base x s = markWhen (not (eqb (getD flags (place + x) 0) 0)) (base + x) s
+markFlag flags place base x s = markWhen (isSet flags (place + x)) (base + x) s
 
 -- the number base + 8 x is woken
 abbrev pub wakeAt : ℕ → ℕ → Worklist → Worklist
@@ -61,22 +59,6 @@ Learnt marks known = Filled (λ i. getD marks (exitAt i) 0) 1024 known
 -- what is pending at the start of a part: of the marked numbers from low up to high those that are no exits
 abbrev pub firstPending : ℕ → ℕ → ℕ → ℕ → ℕ
 firstPending low high mark i = cond (leb low i && ltb i high) (cond (eqb (i / 64 % 16) 1) 0 mark) 0
-
--- the place of the answer to: may the automaton go from q to s on a?
-abbrev pub nextPlace : ℕ → ℕ → ℕ → ℕ
-nextPlace q a s = (q * 32 + a) * 8 + s
-
--- the answers are those of this automaton
-pub record Answers (r : Automaton) (next : List ℕ) : Type 0 where
-  pub answers : (q a s : ℕ) → q < 8 → a < 32 → s < 8 → not (eqb (getD next (nextPlace q a s) 0) 0) ≡ moves r q (Action a) s
-
--- the flag of a key's transition is at this place; of one that has no flag, at none
-pub record Placed (key place : ℕ) : Type 0 where
-  pub placed : (q a s : ℕ) → q < 8 → a < 32 → s < 8 → eqb place (nextPlace q a s) ≡ goes q a s (transitionOf key)
-
--- the flags are those of the rejecting states of this automaton
-pub record Rejects (r : Automaton) (flags : List ℕ) : Type 0 where
-  pub rejects : (q : ℕ) → q < 8 → not (eqb (getD flags q 0) 0) ≡ isRejecting r q
 
 -- the steps of the keys in use
 abbrev pub stepsIn : List ℕ → ℕ → List Step

@@ -3,11 +3,11 @@ use Prim.Native.Nat.{ℕ, _/_, _≤_, _<_}
 use mathlib.Core.Path.{_≡_}
 use mathlib.Core.List.{List, map}
 use lib.ListN.{getD}
+use Rattle.automaton.specs.Flags.{Answers}
 use Rattle.program.specs.Program.{Program}
 use Rattle.program.specs.WellFormed.{WellFormed}
 use Rattle.program.specs.Decoded.{edgeOf}
 use Rattle.reach.specs.Marks.{ClosedBut}
-use Rattle.analysis.specs.Parts.{Answers}
 
 -- the first edge, of the keys in use, whose routine is not below f
 pub record FirstOf (keys : List ℕ) (count f at : ℕ) : Type 0 where

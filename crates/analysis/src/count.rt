@@ -1,17 +1,11 @@
-// Passes over bytes, each of which is a flag: clearing, setting, counting, and the search for a violation.
-use automaton::DecodedAutomaton;
+// Passes over bytes, each of which is a flag: clearing, counting, and the search for a violation.
 ghost use mathlib.Core.Path.{_≡_};
 ghost use Prim.Native.Nat.{ℕ, _<_};
-ghost use lib.ListN.{length, getD, replicate, set};
-ghost use Rattle.automaton.specs.Decoded.{automatonOf};
+ghost use lib.ListN.{length, getD, replicate};
+ghost use Rattle.automaton.specs.Flags.{Rejects};
 ghost use Rattle.program.specs.Program.{Program};
 ghost use Rattle.reach.specs.Marks.{countSet, violates, violationsFrom, firstFrom};
-ghost use Rattle.analysis.specs.Parts.{Rejects, within};
-
-// Which of the 8 states are rejecting: asked once, so that a pass over the marks reads one byte.
-pub struct RejectingStates {
-    pub flags: [u8; 8],
-}
+ghost use Rattle.analysis.specs.Parts.{within};
 
 pub fn clear(bytes: &mut [u8])
     ensures { λ r. ⌜ now (bytes .exit) ≡ replicate (length (now (bytes .entry))) 0 ⌝ }
@@ -20,15 +14,6 @@ pub fn clear(bytes: &mut [u8])
     while i < bytes.len() {
         bytes[i] = 0;
         i = i + 1;
-    }
-}
-
-// A place past the end is no flag's, and sets none.
-pub fn set_flag(flags: &mut [u8], at: usize)
-    ensures { λ r. ⌜ now (flags .exit) ≡ set (now (flags .entry)) at 1 ⌝ }
-{
-    if at < flags.len() {
-        flags[at] = 1;
     }
 }
 
@@ -44,25 +29,6 @@ pub fn count_marks(marks: &[u8]) -> usize
         i = i + 1;
     }
     n
-}
-
-pub fn rejecting_flags(r: DecodedAutomaton) -> RejectingStates
-    ensures { λ y. ⌜ Rejects (automatonOf r) (y .flags) ⌝ }
-{
-    let states = r.rejecting;
-    let list = states.list;
-    let count = states.count;
-    let mut flags = [0u8; 8];
-    let mut i: usize = 0;
-    while i < 8 {
-        if count <= i {
-            return RejectingStates { flags };
-        }
-        let q = list[i] as usize;
-        set_flag(&mut flags, q);
-        i = i + 1;
-    }
-    RejectingStates { flags }
 }
 
 // Whether the configuration of number i is marked and its present state is rejecting.

@@ -1,8 +1,8 @@
 // After edges were added to a program, what follows by them is marked.
-use crate::next::next_states;
 use crate::number::number_of;
 use crate::part::follow_part;
 use automaton::in_use;
+use automaton::next::next_states;
 use program::DecodedProgram;
 ghost use mathlib.Core.Path.{_≡_};
 ghost use Prim.Native.Nat.{_+_, _<_};

@@ -1,7 +1,7 @@
 // What is pending is followed, lowest number first, until nothing is.
-use crate::next::next_states;
 use crate::take::take;
 use automaton::in_use;
+use automaton::next::next_states;
 use program::DecodedProgram;
 ghost use mathlib.Core.Path.{_≡_};
 ghost use mathlib.Core.Option.{none};

@@ -1,4 +1,7 @@
 // The automaton by value, and the questions that are asked of it.
+pub mod flags;
+pub mod next;
+
 ghost use mathlib.Core.Path.{_≡_};
 ghost use mathlib.Core.List.{[], _∷_, _++_};
 ghost use Prim.Native.Nat.{min, _<_, _+_};

@@ -10,6 +10,7 @@ use native.Mathlib.Decide.{ℕ-discrete}
 use lib.Dec.{eqb}
 use lib.ListN.{getD}
 use borrow.Author.Tests.{eqb-true, eqb-false, eq-eqb, ne-eqb, not-true}
+use Rattle.automaton.specs.Flags.{isSet}
 use Rattle.program.specs.Program.{Program}
 use Rattle.program.specs.WellFormed.{WellFormed}
 use Rattle.program.proofs.Judged.{both}
@@ -18,7 +19,7 @@ use Rattle.reach.proofs.Sizes.{sizes}
 use Rattle.analysis.specs.Parts.{Filled}
 use Rattle.components.specs.Components.{CallEdge, Leads, directly, through, Together}
 use Rattle.components.specs.Parts.{Flagged}
-use Rattle.components.specs.Graphs.{isSet, togetherFlag, rankFlag, rankBelow, rankOf}
+use Rattle.components.specs.Graphs.{togetherFlag, rankFlag, rankBelow, rankOf}
 
 -- ---- leads and components
 

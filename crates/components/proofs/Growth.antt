@@ -11,11 +11,12 @@ use native.Mathlib.Numerals.{add-one}
 use lib.Dec.{eqb, ltb}
 use lib.ListN.{length, getD, set, length-set}
 use borrow.Author.Tests.{ltb-true, ltb-false, not-true}
+use Rattle.automaton.specs.Flags.{isSet}
 use Rattle.program.proofs.Judged.{both}
 use Rattle.reach.specs.Marks.{countSet}
 use Rattle.reach.proofs.Flags.{On, eqb-on, on-eqb, set-on, on-set, set-inv}
 use Rattle.reach.proofs.Shown.{count-small}
-use Rattle.components.specs.Graphs.{isSet, inTurn, copyWhen}
+use Rattle.components.specs.Graphs.{inTurn, copyWhen}
 
 -- what is set stays set
 pub record Grows (l k : List ℕ) : Type 0 where

@@ -11,6 +11,7 @@ use lib.Seq.{getD-take, length-take-le}
 use borrow.Author.Tests.{eqb-false, ne-eqb, ltb-true, lt-ltb, not-true}
 use Rattle.automaton.specs.Automaton.{moves}
 use Rattle.automaton.specs.declared.Event.the-variants.{Call}
+use Rattle.automaton.specs.Flags.{isSet}
 use Rattle.program.specs.Program.{Program}
 use Rattle.program.specs.Decoded.{programOf}
 use Rattle.program.specs.declared.DecodedProgram.{DecodedProgram}
@@ -27,7 +28,7 @@ use Rattle.analysis.proofs.Filling.{filled-bits}
 use Rattle.analysis.proofs.Known.{exit-byte}
 use Rattle.components.specs.Passes.{Live, begun, called}
 use Rattle.components.specs.Parts.{Flagged}
-use Rattle.components.specs.Graphs.{isSet, inTurn, copyRoot, callerOf, sourceOf, isCall, calledBy, rootsByEdge, rootsByEdges, rootsOfMain, keptByte}
+use Rattle.components.specs.Graphs.{inTurn, copyRoot, callerOf, sourceOf, isCall, calledBy, rootsByEdge, rootsByEdges, rootsOfMain, keptByte}
 use Rattle.components.proofs.Growth.{Obeys, Copy, One, obeys-set, obeys-copy, obeys-when, obeys-turns, Growing, growing-start}
 use Rattle.components.proofs.Graphed.{bit-small}
 use Rattle.components.proofs.Keyed.{at-in, place-of, KeysOf, key-step, step-key}

@@ -10,6 +10,7 @@ use native.Mathlib.Decide.{ℕ-discrete}
 use lib.Dec.{eqb}
 use lib.ListN.{length, getD}
 use borrow.Author.Tests.{eqb-true, eqb-false, eq-eqb, ne-eqb, not-true}
+use Rattle.automaton.specs.Flags.{Answers}
 use Rattle.program.specs.Program.{Program}
 use Rattle.program.specs.WellFormed.{WellFormed}
 use Rattle.program.specs.Decoded.{edgeOf}
@@ -21,7 +22,6 @@ use Rattle.reach.proofs.Numbers.{number-of, parts-in-range}
 use Rattle.reach.proofs.Sizes.{sizes, Proper, derivable-state, derivable-in-range}
 use Rattle.reach.proofs.Flags.{on-lt}
 use Rattle.reach.proofs.Shown.{one-of, shows-marked, count-small}
-use Rattle.analysis.specs.Parts.{Answers}
 use Rattle.analysis.specs.Slice.{Followable}
 use Rattle.components.specs.Passes.{onlyOf, edgesOf}
 use Rattle.components.specs.Parts.{memberOf, Member}

@@ -1,14 +1,12 @@
 -- What the functions over call graphs and roots promise of each other; nothing here has to be believed.
 use Prim.Native.Nat.{ℕ, zero, suc, _+_, _-_, _*_, _/_, _%_}
-use mathlib.Core.Bool.{Bool, true, cond, _&&_, _||_, not}
+use mathlib.Core.Bool.{Bool, true, cond, _&&_, _||_}
 use mathlib.Core.List.{List}
 use lib.Dec.{eqb, ltb, leb}
 use lib.ListN.{getD, set}
+use Rattle.automaton.specs.Flags.{isSet}
 
 -- ---- flags that are set in turn
-
-abbrev pub isSet : List ℕ → ℕ → Bool
-isSet flags at = not (eqb (getD flags at 0) 0)
 
 -- a step for each number, k of them from x on
 unfoldable pub inTurn : (ℕ → List ℕ → List ℕ) → ℕ → ℕ → List ℕ → List ℕ

@@ -1,20 +1,21 @@
 // The call graph: which routine leads to which by calls, its components, and their order.
 use crate::routines::Routines;
 use analysis::count::count_marks;
-use analysis::count::set_flag;
+use automaton::flags::set_flag;
 use automaton::in_use;
 use program::DecodedProgram;
 ghost use mathlib.Core.Path.{_≡_};
 ghost use Prim.Native.Nat.{_<_, _≤_};
 ghost use lib.Dec.{ltb};
 ghost use lib.ListN.{length};
+ghost use Rattle.automaton.specs.Flags.{isSet};
 ghost use Rattle.program.specs.WellFormed.{WellFormed};
 ghost use Rattle.program.specs.Decoded.{programOf};
 ghost use Rattle.reach.specs.Marks.{countSet};
 ghost use Rattle.analysis.specs.Parts.{Filled};
 ghost use Rattle.components.specs.Components.{Leads};
 ghost use Rattle.components.specs.Parts.{Flagged};
-ghost use Rattle.components.specs.Graphs.{isSet, inTurn, copyWhen, copyLead, leadsByEdge, leadsByEdges, togetherFlag, rankFlag, rankOf};
+ghost use Rattle.components.specs.Graphs.{inTurn, copyWhen, copyLead, leadsByEdge, leadsByEdges, togetherFlag, rankFlag, rankOf};
 
 // leads[f * 16 + g]: f leads to g by one call or more.
 pub struct Graph {

@@ -2,19 +2,20 @@
 // the summaries of the routines that they call outside, in rounds until a round marks nothing.
 use analysis::count::clear;
 use analysis::count::count_marks;
-use analysis::next::next_states;
 use analysis::part::first_of;
 use analysis::part::follow_part;
 use automaton::in_use;
+use automaton::next::next_states;
 use program::DecodedProgram;
 ghost use mathlib.Core.Path.{_≡_};
 ghost use Prim.Native.Nat.{_<_};
 ghost use lib.ListN.{length, getD};
+ghost use Rattle.automaton.specs.Flags.{Answers};
 ghost use Rattle.program.specs.WellFormed.{WellFormed};
 ghost use Rattle.program.specs.Decoded.{programOf};
 ghost use Rattle.reach.specs.Configurations.{none-set};
 ghost use Rattle.reach.specs.Marks.{Shows};
-ghost use Rattle.analysis.specs.Parts.{Filled, Answers};
+ghost use Rattle.analysis.specs.Parts.{Filled};
 ghost use Rattle.components.specs.Parts.{Passable, Passed};
 ghost use Rattle.components.specs.PassParts.{firstMark, Ready, ByMembers, Round, Turn};
 

@@ -2,8 +2,8 @@
 use crate::graph::copy_when;
 use crate::graph::is_set;
 use analysis::count::count_marks;
-use analysis::count::set_flag;
 use automaton::States;
+use automaton::flags::set_flag;
 use automaton::in_use;
 use program::DecodedProgram;
 ghost use mathlib.Core.Path.{_≡_};

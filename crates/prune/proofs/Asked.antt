@@ -6,9 +6,9 @@ use Prim.Native.Nat.{ℕ, zero, suc, _+_, _-_, _≤_, _<_}
 use native.Mathlib.Omega.{arith}
 use native.Mathlib.Decide.{ℕ-discrete}
 use lib.ListN.{length, List·getD-eq-default}
+use Rattle.automaton.specs.Flags.{isSet}
 use Rattle.automaton.proofs.Entries.{Asks}
 use Rattle.reach.proofs.Sizes.{either}
-use Rattle.analysis.proofs.Table.{isSet}
 use Rattle.prune.specs.Parts.{anyFrom, anyKey}
 
 pub never : {A : Type 0} {b : Bool} → b ≡ true → b ≡ false → A

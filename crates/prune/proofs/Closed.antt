@@ -13,6 +13,7 @@ use lib.Seq.{take-length, drop-length}
 use borrow.Author.Tests.{eqb-true, eq-eqb, not-false}
 use Rattle.automaton.specs.Automaton.{Automaton, member, isInitial}
 use Rattle.automaton.specs.Decoded.{keysOf, transitionOf}
+use Rattle.automaton.specs.Flags.{isSet}
 use Rattle.automaton.specs.declared.Table.{Table}
 use Rattle.program.specs.Program.{Program}
 use Rattle.program.specs.WellFormed.{WellFormed}
@@ -26,7 +27,6 @@ use Rattle.reach.proofs.Sizes.{Sizes, sizes, initial-proper, derivable-state, c
 use Rattle.reach.proofs.Flags.{On, set-on, on-set, set-inv, set-bits, zeros}
 use Rattle.reach.proofs.Shown.{shows-marked}
 use Rattle.analysis.proofs.Begun.{take-min}
-use Rattle.analysis.proofs.Table.{isSet}
 use Rattle.prune.specs.Keeping.{Kept}
 use Rattle.prune.specs.Parts.{supports, keepsAt, Keeps, same, more, Settled, Tables, Sound, Started}
 use Rattle.prune.proofs.Asked.{never}

@@ -10,6 +10,7 @@ use lib.ListN.{getD, take}
 use borrow.Author.Tests.{eqb-true, eqb-false, ltb-true, ltb-false, not-true, eq-eqb, ne-eqb, le-ltb}
 use Rattle.automaton.specs.Automaton.{Transition, goes, listed, moves}
 use Rattle.automaton.specs.Decoded.{transitionOf}
+use Rattle.automaton.specs.Flags.{isSet}
 use Rattle.automaton.specs.declared.Event.{Event}
 use Rattle.automaton.specs.declared.Event.the-variants.{Action, Call}
 use Rattle.program.specs.Program.{Edge, Program, transitionFits}
@@ -20,7 +21,6 @@ use Rattle.reach.specs.Runs.{Step, labelOf, stepOf, HasStep, Moves}
 use Rattle.reach.specs.Marks.{Marked}
 use Rattle.reach.proofs.Numbers.{number-state, number-root}
 use Rattle.reach.proofs.Sizes.{Sizes, sizes, all-in, either, listed-in, map-in, label-call}
-use Rattle.analysis.proofs.Table.{isSet}
 use Rattle.prune.specs.Parts.{anyFrom, anyKey, rootKept, returnKept, entrySupports, returnSupports, callSupports, lineSupports, linesToTry, actionSupports, edgeSupports, supports, Tables}
 use Rattle.prune.proofs.Asked.{never, found-from, any-from, found-key, any-key, in-map}
 

@@ -7,6 +7,7 @@ use mathlib.Core.List.{List, [], _∷_, map, List·Memᴰ}
 use lib.Dec.{eqb, ltb}
 use lib.ListN.{length, getD, set, take}
 use Rattle.automaton.specs.Decoded.{transitionOf}
+use Rattle.automaton.specs.Flags.{isSet}
 use Rattle.program.specs.Program.{Program}
 use Rattle.program.specs.WellFormed.{WellFormed}
 use Rattle.program.specs.Decoded.{edgeOf}
@@ -14,7 +15,6 @@ use Rattle.reach.specs.Configurations.{number, routineOf, nodeOf, rootOf, state
 use Rattle.reach.specs.Marks.{Marked, countSet}
 use Rattle.reach.proofs.Numbers.{At}
 use Rattle.reach.proofs.Flags.{On}
-use Rattle.analysis.proofs.Table.{isSet}
 use Rattle.prune.specs.Keeping.{Kept}
 
 -- ---- whether one of several meets a test

@@ -18,6 +18,7 @@ ghost use mathlib.Core.List.{map};
 ghost use Prim.Native.Nat.{_+_, _*_, _/_, _<_, _≤_};
 ghost use lib.ListN.{length, set, take};
 ghost use Rattle.automaton.specs.Decoded.{keysOf, transitionOf, automatonOf};
+ghost use Rattle.automaton.specs.Flags.{isSet};
 ghost use Rattle.program.specs.Program.{Program};
 ghost use Rattle.program.specs.Frames.{edgeKey};
 ghost use Rattle.program.specs.WellFormed.{Ascending, WellFormed};
@@ -26,7 +27,6 @@ ghost use Rattle.program.specs.Reading.{readFile};
 ghost use Rattle.reach.specs.Configurations.{none-set};
 ghost use Rattle.reach.specs.Marks.{Shows};
 ghost use Rattle.analysis.specs.Answers.{checked, workAfter};
-ghost use Rattle.analysis.proofs.Table.{isSet};
 ghost use Rattle.prune.specs.Keeping.{Kept, Pruned};
 ghost use Rattle.prune.specs.Parts.{keepsAt, PartOf, Passed, Settled, Sound, Started};
 

@@ -3,7 +3,7 @@ use analysis::number::number_of;
 ghost use mathlib.Core.Path.{_≡_};
 ghost use Prim.Native.Nat.{_<_, _≤_};
 ghost use lib.ListN.{length};
-ghost use Rattle.analysis.proofs.Table.{isSet};
+ghost use Rattle.automaton.specs.Flags.{isSet};
 ghost use Rattle.prune.specs.Parts.{rootKept, returnKept, entrySupports, returnSupports, callSupports, lineSupports, linesToTry, supports, PartOf};
 
 // A number past the end has no byte, so that its configuration is not kept.

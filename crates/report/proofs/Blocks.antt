@@ -13,6 +13,7 @@ use borrow.Author.Tests.{lt-ltb, le-ltb, leb-true, leb-false, eqb-true}
 use Rattle.text.specs.Hex.{hexLine}
 use Rattle.text.specs.declared.Line.{Line}
 use Rattle.text.proofs.RoundTrip.{length-hex}
+use Rattle.automaton.specs.Flags.{Rejects}
 use Rattle.program.specs.Program.{Program}
 use Rattle.program.specs.Reading.{Outcome, readFile}
 use Rattle.program.specs.declared.Verdict.{Verdict}
@@ -20,7 +21,6 @@ use Rattle.program.specs.declared.Verdict.the-variants as verdict
 use Rattle.program.proofs.Judged.{both}
 use Rattle.reach.specs.Configurations.{stateOf}
 use Rattle.reach.specs.Marks.{countSet, violates, frontWhen, violationsFrom}
-use Rattle.analysis.specs.Parts.{Rejects}
 use Rattle.writer.specs.Parts.{Put}
 use Rattle.writer.proofs.Written.{put-none, put-both}
 use Rattle.report.specs.Report.{violationFrame, countFrame, blockOf, blockSize, blockBy, blockText, lineWithin, Printed}

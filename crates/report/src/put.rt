@@ -1,7 +1,7 @@
 // Putting the lines of a block into an output.
 use analysis::count::count_marks;
 use analysis::count::count_violations;
-use analysis::count::rejecting_flags;
+use automaton::flags::rejecting_flags;
 use program::DecodedProgram;
 use text::Line;
 use text::put_line;
@@ -10,10 +10,10 @@ ghost use mathlib.Core.List.{[], _∷_, map};
 ghost use Prim.Native.Nat.{_+_, _<_, _≤_};
 ghost use lib.ListN.{length, getD};
 ghost use Rattle.text.specs.Lines.{lineOf};
+ghost use Rattle.automaton.specs.Flags.{Rejects};
 ghost use Rattle.program.specs.Program.{Program};
 ghost use Rattle.program.specs.Decoded.{programOf};
 ghost use Rattle.reach.specs.Marks.{violates, frontWhen, violationsFrom};
-ghost use Rattle.analysis.specs.Parts.{Rejects};
 ghost use Rattle.writer.specs.Parts.{Put};
 ghost use Rattle.report.specs.Report.{violationFrame, countFrame, blockOf, blockSize, Printed};
 

@@ -6,7 +6,7 @@ use native.Mathlib.Omega.{arith}
 use lib.ListN.{length}
 use borrow.Author.Needs.{needs}
 use Rattle.program.specs.Program.{Program}
-use Rattle.analysis.specs.Parts.{Rejects}
+use Rattle.automaton.specs.Flags.{Rejects}
 use Rattle.analysis.proofs.Counts.{Sought, sought-none, sought-here, sought-more, sought-all}
 use Rattle.analysis.proofs.count.first_violation.Statement.{statement}
 use Rattle.analysis.proofs.count.first_violation.Tie as tie

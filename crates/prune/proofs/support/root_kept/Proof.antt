@@ -1,7 +1,7 @@
 -- `prune::support::root_kept` meets its contract. The loop's invariant: the roots from `x` on decide.
 use mathlib.Core.Path.{sym, _∙_}
 use Prim.Native.Nat.{_+_, _-_, _*_}
-use Rattle.analysis.proofs.Table.{isSet}
+use Rattle.automaton.specs.Flags.{isSet}
 use Rattle.prune.specs.Parts.{rootKept}
 use Rattle.prune.proofs.Asked.{Trying, try-all, try-found, try-next, try-none}
 use borrow.Author.Needs.{needs}

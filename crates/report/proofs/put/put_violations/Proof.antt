@@ -6,7 +6,7 @@ use native.Mathlib.Omega.{arith}
 use lib.ListN.{length}
 use borrow.Author.Needs.{needs}
 use Rattle.program.specs.Program.{Program}
-use Rattle.analysis.specs.Parts.{Rejects}
+use Rattle.automaton.specs.Flags.{Rejects}
 use Rattle.report.proofs.Blocks.{Listed, none-listed, one-listed, all-listed}
 use Rattle.report.proofs.put.put_violations.Statement.{statement}
 use Rattle.report.proofs.put.put_violations.Tie as tie

@@ -1,9 +1,9 @@
--- `analysis::next::place_of` meets its contract.
+-- `automaton::next::place_of` meets its contract.
 use native.Mathlib.Omega.{arith}
 use borrow.Author.Needs.{needs}
-use Rattle.analysis.proofs.Table.{no-place, its-place}
-use Rattle.analysis.proofs.next.place_of.Statement.{statement}
-use Rattle.analysis.proofs.next.place_of.Tie as tie
+use Rattle.automaton.proofs.Flagged.{no-place, its-place}
+use Rattle.automaton.proofs.next.place_of.Statement.{statement}
+use Rattle.automaton.proofs.next.place_of.Tie as tie
 
 returns : tie.Need-returns
 returns c = no-place _ (λ u v w. omega arith)

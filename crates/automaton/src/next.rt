@@ -1,8 +1,8 @@
 // The automaton's transitions as a table: may it go from one state to another on an action?
-use crate::count::set_flag;
-use automaton::DecodedAutomaton;
+use crate::DecodedAutomaton;
+use crate::flags::set_flag;
 ghost use Rattle.automaton.specs.Decoded.{automatonOf};
-ghost use Rattle.analysis.specs.Parts.{Answers, Placed};
+ghost use Rattle.automaton.specs.Flags.{Answers, Placed};
 
 pub struct NextStates {
     pub flags: [u8; 2048],

@@ -1,12 +1,12 @@
--- `analysis::next::next_states` meets its contract. The loop's invariant: each flag, with the keys from `i` on, decides.
+-- `automaton::next::next_states` meets its contract. The loop's invariant: each flag, with the keys from `i` on, decides.
 use mathlib.Core.Path.{_≡_, refl, sym}
 use Prim.Native.Nat.{_-_}
 use native.Mathlib.Omega.{arith}
 use lib.ListN.{length}
 use borrow.Author.Needs.{needs}
-use Rattle.analysis.proofs.Table.{Transitions, transitions-none, transitions-more, transitions-all}
-use Rattle.analysis.proofs.next.next_states.Statement.{statement}
-use Rattle.analysis.proofs.next.next_states.Tie as tie
+use Rattle.automaton.proofs.Flagged.{Transitions, transitions-none, transitions-more, transitions-all}
+use Rattle.automaton.proofs.next.next_states.Statement.{statement}
+use Rattle.automaton.proofs.next.next_states.Tie as tie
 
 abbrev Inv-loop : tie.InvT-loop
 Inv-loop keys count flags₀ i₀ flags i = Transitions keys count i flags

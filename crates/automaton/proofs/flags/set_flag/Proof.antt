@@ -1,9 +1,9 @@
--- `analysis::count::set_flag` meets its contract: past the end a store changes nothing.
+-- `automaton::flags::set_flag` meets its contract: past the end a store changes nothing.
 use mathlib.Core.Path.{sym}
 use lib.Seq.{set-out}
 use borrow.Author.Needs.{needs}
-use Rattle.analysis.proofs.count.set_flag.Statement.{statement}
-use Rattle.analysis.proofs.count.set_flag.Tie as tie
+use Rattle.automaton.proofs.flags.set_flag.Statement.{statement}
+use Rattle.automaton.proofs.flags.set_flag.Tie as tie
 
 slice-write-flags : tie.Need-slice-write-flags
 slice-write-flags c = search needs

@@ -1,12 +1,12 @@
--- `analysis::count::rejecting_flags` meets its contract. The loop's invariant: each flag, with the states from `i` on, decides.
+-- `automaton::flags::rejecting_flags` meets its contract. The loop's invariant: each flag, with the states from `i` on, decides.
 use mathlib.Core.Path.{_≡_, refl, sym}
 use Prim.Native.Nat.{_-_}
 use native.Mathlib.Omega.{arith}
 use lib.ListN.{length}
 use borrow.Author.Needs.{needs}
-use Rattle.analysis.proofs.Table.{Members, members-none, members-more, members-all}
-use Rattle.analysis.proofs.count.rejecting_flags.Statement.{statement}
-use Rattle.analysis.proofs.count.rejecting_flags.Tie as tie
+use Rattle.automaton.proofs.Flagged.{Members, members-none, members-more, members-all}
+use Rattle.automaton.proofs.flags.rejecting_flags.Statement.{statement}
+use Rattle.automaton.proofs.flags.rejecting_flags.Tie as tie
 
 abbrev Inv-loop : tie.InvT-loop
 Inv-loop list count flags₀ i₀ flags i = Members list count i flags

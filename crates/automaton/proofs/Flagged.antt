@@ -1,6 +1,6 @@
 -- Tables of flags that a loop fills: it takes entries in turn and sets one flag for each.
 use mathlib.Core.Path.{_≡_, refl, sym, _∙_}
-use mathlib.Core.Bool.{Bool, true, false, _&&_, _||_, not, or-true, or-false, or-assoc}
+use mathlib.Core.Bool.{Bool, true, false, _&&_, _||_, or-true, or-false, or-assoc}
 use mathlib.Core.List.{List, map}
 use Prim.Native.Nat.{ℕ, suc, min, _+_, _/_, _%_, _≤_, _<_}
 use native.Mathlib.Numerals.{add-one}
@@ -9,14 +9,10 @@ use lib.Dec.{eqb}
 use lib.ListN.{length, take, drop, getD, set, replicate, length-take, length-set, length-replicate, getD-replicate, drop-of-length-le}
 use lib.Seq.{drop-cons, getD-take, getD-set-same, getD-set-other}
 use borrow.Author.Tests.{eqb-true, eqb-false, eq-eqb, ne-eqb}
 use Rattle.automaton.specs.Automaton.{Automaton, listed, moves, member}
 use Rattle.automaton.specs.Decoded.{transitionOf}
+use Rattle.automaton.specs.Flags.{isSet, nextPlace, Placed, Answers, Rejects}
 use Rattle.automaton.proofs.Entries.{Asks, asks-listed, asks-member}
-use Rattle.program.proofs.Judged.{both}
-use Rattle.analysis.specs.Parts.{nextPlace, Placed, Answers, Rejects}
-
-abbrev pub isSet : List ℕ → ℕ → Bool
-isSet flags at = not (eqb (getD flags at 0) 0)
 
 -- a store sets its own flag, and leaves the others
 set-sets : (flags : List ℕ) (j at : ℕ) → at < length flags → isSet (set flags j 1) at ≡ isSet flags at || eqb j at
@@ -51,17 +47,13 @@ module _ {f : List ℕ → Bool} {p : ℕ → Bool} {xs : List ℕ} {n i : ℕ} 
 -- a number is the place for (q, a, s) just where the parts x, y, z are q, a, s
 module _ (x y z q a s at : ℕ) (to : at ≡ nextPlace q a s → (x ≡ q) × (y ≡ a) × (z ≡ s)) (from : x ≡ q → y ≡ a → z ≡ s → at ≡ nextPlace q a s) where
   same-place : eqb at (nextPlace q a s) ≡ eqb x q && eqb y a && eqb z s
-  same-place = go (eqb x q && eqb y a && eqb z s) refl
+  same-place = go (eqb x q) (eqb y a) (eqb z s) refl refl refl
     where
-      go : (b : Bool) → eqb x q && eqb y a && eqb z s ≡ b → eqb at (nextPlace q a s) ≡ b
-      go true e =
-          let u = both (eqb x q && eqb y a) (eqb z s) e in
-          let v = both (eqb x q) (eqb y a) (u .0) in
-          eq-eqb at (nextPlace q a s) (from (eqb-true x q (v .0)) (eqb-true y a (v .1)) (eqb-true z s (u .1)))
-      go false e = ne-eqb at (nextPlace q a s) (λ d.
-          let w = to d in
-          let t = rw (eq-eqb x q (w .0), eq-eqb y a (w .1), eq-eqb z s (w .2)) at e in
-          let c : _≡_ {A = ℕ} 0 1 = cc in omega arith)
+      go : (b c d : Bool) → eqb x q ≡ b → eqb y a ≡ c → eqb z s ≡ d → eqb at (nextPlace q a s) ≡ b && c && d
+      go true true true e f g = eq-eqb at (nextPlace q a s) (from (eqb-true x q e) (eqb-true y a f) (eqb-true z s g))
+      go false c d e f g = ne-eqb at (nextPlace q a s) (λ h. eqb-false x q e (to h .0))
+      go true false d e f g = ne-eqb at (nextPlace q a s) (λ h. eqb-false y a f (to h .1))
+      go true true false e f g = ne-eqb at (nextPlace q a s) (λ h. eqb-false z s g (to h .2))
 
 -- the parts of a key
 module _ (key : ℕ) where

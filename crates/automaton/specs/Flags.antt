@@ -1,0 +1,30 @@
+-- What is asked of the automaton, as tables of flags: the answers are looked up instead of sought.
+use Prim.Native.Nat.{ℕ, _+_, _*_, _<_}
+use mathlib.Core.Path.{_≡_}
+use mathlib.Core.Bool.{Bool, not}
+use mathlib.Core.List.{List}
+use lib.Dec.{eqb}
+use lib.ListN.{getD}
+use Rattle.automaton.specs.Automaton.{Automaton, goes, moves, isRejecting}
+use Rattle.automaton.specs.Decoded.{transitionOf}
+use Rattle.automaton.specs.declared.Event.the-variants.{Action}
+
+-- a byte other than 0 says yes; past the end there is no flag
+abbrev pub isSet : List ℕ → ℕ → Bool
+isSet flags at = not (eqb (getD flags at 0) 0)
+
+-- the place of the answer to: may the automaton go from q to s on a?
+abbrev pub nextPlace : ℕ → ℕ → ℕ → ℕ
+nextPlace q a s = (q * 32 + a) * 8 + s
+
+-- the answers are those of this automaton
+pub record Answers (r : Automaton) (next : List ℕ) : Type 0 where
+  pub answers : (q a s : ℕ) → q < 8 → a < 32 → s < 8 → isSet next (nextPlace q a s) ≡ moves r q (Action a) s
+
+-- the flag of a key's transition is at this place; of one that has no flag, at none
+pub record Placed (key place : ℕ) : Type 0 where
+  pub placed : (q a s : ℕ) → q < 8 → a < 32 → s < 8 → eqb place (nextPlace q a s) ≡ goes q a s (transitionOf key)
+
+-- the flags are those of the rejecting states of this automaton (paper: forbidden states)
+pub record Rejects (r : Automaton) (flags : List ℕ) : Type 0 where
+  pub rejects : (q : ℕ) → q < 8 → isSet flags q ≡ isRejecting r q
