@@ -39,7 +39,7 @@ fn is_violation(marks: &[u8], rejecting: &[u8], i: usize) -> bool
     (marks[i] != 0) & (rejecting[i % 8] != 0)
 }
 
-// The flags have the size of `RejectingStates`: hence the `requires`.
+// The flags have the size of `StateFlags`: hence the `requires`.
 pub fn count_violations(marks: &[u8], rejecting: &[u8]) -> usize
     requires { ⌜ length (now rejecting) ≡ 8 ⌝ }
     ensures { λ r. ⌜ ((p : Program) → Rejects (p .automaton) (now (rejecting .entry)) → r ≡ length (violationsFrom p (now (marks .entry)) 0)) ⌝ }
@@ -56,7 +56,7 @@ pub fn count_violations(marks: &[u8], rejecting: &[u8]) -> usize
 }
 
 // The first violation that is not below `from`; a number past the marks where there is none. The caller has measured the
-// marks (refusal 9), and the flags have the size of `RejectingStates`: hence the `requires`.
+// marks (refusal 9), and the flags have the size of `StateFlags`: hence the `requires`.
 pub fn first_violation(marks: &[u8], rejecting: &[u8], from: usize) -> usize
     requires { ⌜ (length (now marks) ≡ 16384) × (length (now rejecting) ≡ 8) ⌝ }
     ensures { λ r. ⌜ ((p : Program) → Rejects (p .automaton) (now (rejecting .entry)) → firstFrom from (violationsFrom p (now (marks .entry)) 0) ≡ within 16384 r) ⌝ }

@@ -11,7 +11,7 @@ use lib.Seq.{drop-cons, getD-take, getD-set-same, getD-set-other}
 use borrow.Author.Tests.{eqb-true, eqb-false, eq-eqb, ne-eqb}
 use Rattle.automaton.specs.Automaton.{Automaton, listed, moves, member}
 use Rattle.automaton.specs.Decoded.{transitionOf}
-use Rattle.automaton.specs.Flags.{isSet, nextPlace, Placed, Answers, Rejects}
+use Rattle.automaton.specs.Flags.{isSet, nextPlace, Placed, Answers, Lists}
 use Rattle.automaton.proofs.Entries.{Asks, asks-listed, asks-member}
 
 -- a store sets its own flag, and leaves the others
@@ -73,11 +73,10 @@ module _ (key : ℕ) where
             same-place x y z q a s 2048 (λ d. absurd (omega arith)) (λ u v w. absurd (out (omega arith) (omega arith) (omega arith)));
       }
 
-  pub its-place : x < 8 → y < 32 → z < 8 → Placed key (nextPlace x y z)
-  its-place hx hy hz =
+  pub its-place : {at : ℕ} → at ≡ nextPlace x y z → x < 8 → y < 32 → z < 8 → Placed key at
+  its-place {at} e hx hy hz =
       record {
-        placed = λ q a s hq ha hs.
-            same-place x y z q a s (nextPlace x y z) (λ d. (omega arith, omega arith, omega arith)) (λ u v w. omega arith);
+        placed = λ q a s hq ha hs. same-place x y z q a s at (λ d. (omega arith, omega arith, omega arith)) (λ u v w. omega arith);
       }
 
 -- ---- the flags of a table's transitions, the first i keys taken
@@ -123,5 +122,5 @@ module _ {list : List ℕ} {n i : ℕ} {flags : List ℕ} (m : Members list n i 
         flag = λ q l. deciding-more (asks-member q) (m .flag q l) (getD list i 0) h k (omega (arith, m .size)) refl;
       }
 
-  pub members-all : (r : Automaton) → min n (length list) ≤ i → r .rejecting ≡ take n list → Rejects r flags
-  members-all r h e = record { rejects = λ q l. rw e (deciding-all (asks-member q) (m .flag q l) h) }
+  pub members-all : min n (length list) ≤ i → Lists (take n list) flags
+  members-all h = record { lists = λ q l. deciding-all (asks-member q) (m .flag q l) h }

@@ -5,7 +5,7 @@ use mathlib.Core.Bool.{Bool, not}
 use mathlib.Core.List.{List}
 use lib.Dec.{eqb}
 use lib.ListN.{getD}
-use Rattle.automaton.specs.Automaton.{Automaton, goes, moves, isRejecting}
+use Rattle.automaton.specs.Automaton.{Automaton, goes, moves, member, isInitial, isRejecting}
 use Rattle.automaton.specs.Decoded.{transitionOf}
 use Rattle.automaton.specs.declared.Event.the-variants.{Action}
 
@@ -21,10 +21,20 @@ nextPlace q a s = (q * 32 + a) * 8 + s
 pub record Answers (r : Automaton) (next : List ℕ) : Type 0 where
   pub answers : (q a s : ℕ) → q < 8 → a < 32 → s < 8 → isSet next (nextPlace q a s) ≡ moves r q (Action a) s
 
--- the flag of a key's transition is at this place; of one that has no flag, at none
-pub record Placed (key place : ℕ) : Type 0 where
-  pub placed : (q a s : ℕ) → q < 8 → a < 32 → s < 8 → eqb place (nextPlace q a s) ≡ goes q a s (transitionOf key)
+-- the flags are those of the initial states of this automaton (paper: start states)
+pub record Starts (r : Automaton) (flags : List ℕ) : Type 0 where
+  pub starts : (q : ℕ) → q < 8 → isSet flags q ≡ isInitial r q
 
 -- the flags are those of the rejecting states of this automaton (paper: forbidden states)
 pub record Rejects (r : Automaton) (flags : List ℕ) : Type 0 where
   pub rejects : (q : ℕ) → q < 8 → isSet flags q ≡ isRejecting r q
+
+-- ---- what the functions that fill them promise of each other
+
+-- the flag of a key's transition is at this place; of one that has no flag, at none
+pub record Placed (key place : ℕ) : Type 0 where
+  pub placed : (q a s : ℕ) → q < 8 → a < 32 → s < 8 → eqb place (nextPlace q a s) ≡ goes q a s (transitionOf key)
+
+-- the flags are those of the states of this list
+pub record Lists (states flags : List ℕ) : Type 0 where
+  pub lists : (q : ℕ) → q < 8 → isSet flags q ≡ member q states

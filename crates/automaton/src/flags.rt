@@ -1,12 +1,14 @@
-// Flags, a byte each, and those of the rejecting states.
+// Flags, a byte each; those of the initial and of the rejecting states are made once, so that a pass reads one byte for each
+// question.
 use crate::DecodedAutomaton;
+use crate::States;
 ghost use mathlib.Core.Path.{_≡_};
 ghost use lib.ListN.{set};
-ghost use Rattle.automaton.specs.Decoded.{automatonOf};
-ghost use Rattle.automaton.specs.Flags.{Rejects};
+ghost use Rattle.automaton.specs.Decoded.{statesOf, automatonOf};
+ghost use Rattle.automaton.specs.Flags.{Lists, Starts, Rejects};
 
-// Which of the 8 states are rejecting: asked once, so that a pass over the marks reads one byte.
-pub struct RejectingStates {
+// A flag for each of the 8 states.
+pub struct StateFlags {
     pub flags: [u8; 8],
 }
 
@@ -19,21 +21,34 @@ pub fn set_flag(flags: &mut [u8], at: usize)
     }
 }
 
-pub fn rejecting_flags(r: DecodedAutomaton) -> RejectingStates
-    ensures { λ y. ⌜ Rejects (automatonOf r) (y .flags) ⌝ }
+fn flags_of(states: States) -> StateFlags
+    ensures { λ y. ⌜ Lists (statesOf states) (y .flags) ⌝ }
 {
-    let states = r.rejecting;
     let list = states.list;
     let count = states.count;
     let mut flags = [0u8; 8];
     let mut i: usize = 0;
     while i < 8 {
         if count <= i {
-            return RejectingStates { flags };
+            return StateFlags { flags };
         }
         let q = list[i] as usize;
         set_flag(&mut flags, q);
         i = i + 1;
     }
-    RejectingStates { flags }
+    StateFlags { flags }
+}
+
+pub fn initial_flags(r: DecodedAutomaton) -> StateFlags
+    ensures { λ y. ⌜ Starts (automatonOf r) (y .flags) ⌝ }
+{
+    let states = r.initial;
+    flags_of(states)
+}
+
+pub fn rejecting_flags(r: DecodedAutomaton) -> StateFlags
+    ensures { λ y. ⌜ Rejects (automatonOf r) (y .flags) ⌝ }
+{
+    let states = r.rejecting;
+    flags_of(states)
 }

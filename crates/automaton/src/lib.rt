@@ -5,8 +5,7 @@ pub mod next;
 ghost use mathlib.Core.Path.{_≡_};
 ghost use mathlib.Core.List.{[], _∷_, _++_};
 ghost use Prim.Native.Nat.{min, _<_, _+_};
-ghost use Rattle.automaton.specs.Automaton.{member, isInitial};
-ghost use Rattle.automaton.specs.Decoded.{keysOf, statesOf, automatonOf};
+ghost use Rattle.automaton.specs.Decoded.{keysOf, statesOf, transitionOf};
 
 // What the automaton sees of a run.
 pub enum Event {
@@ -33,6 +32,13 @@ pub struct DecodedAutomaton {
     pub transitions: Table,
     pub initial: States,
     pub rejecting: States,
+}
+
+// A transition as its key says it.
+pub struct DecodedTransition {
+    pub before: u32,
+    pub action: u32,
+    pub after: u32,
 }
 
 // How many entries of a list are in use: a count above its size means all of them.
@@ -83,28 +89,13 @@ pub fn with_state(s: States, q: u8) -> States
     longer
 }
 
-// Whether a state is in a list.
-fn has_state(s: States, q: u8) -> bool
-    ensures { λ y. ⌜ y ≡ member q (statesOf s) ⌝ }
+// The parts of a transition's key.
+pub fn transition(key: u32) -> DecodedTransition
+    ensures { λ t. ⌜ (t .before ≡ transitionOf key .before) × (t .action ≡ transitionOf key .action) × (t .after ≡ transitionOf key .after) ⌝ }
 {
-    let list = s.list;
-    let count = s.count;
-    let mut i: usize = 0;
-    while i < 8 {
-        if count <= i {
-            return false;
-        }
-        if list[i] == q {
-            return true;
-        }
-        i = i + 1;
+    DecodedTransition {
+        before: key / 0x10000,
+        action: key / 0x100 % 256,
+        after: key % 256,
     }
-    false
-}
-
-pub fn is_initial(r: DecodedAutomaton, q: u8) -> bool
-    ensures { λ y. ⌜ y ≡ isInitial (automatonOf r) q ⌝ }
-{
-    let initial = r.initial;
-    has_state(initial, q)
 }

@@ -1,6 +1,7 @@
 // The automaton's transitions as a table: may it go from one state to another on an action?
 use crate::DecodedAutomaton;
 use crate::flags::set_flag;
+use crate::transition;
 ghost use Rattle.automaton.specs.Decoded.{automatonOf};
 ghost use Rattle.automaton.specs.Flags.{Answers, Placed};
 
@@ -12,9 +13,10 @@ pub struct NextStates {
 fn place_of(key: u32) -> usize
     ensures { λ r. ⌜ Placed key r ⌝ }
 {
-    let q = key / 0x10000;
-    let a = key / 0x100 % 256;
-    let s = key % 256;
+    let t = transition(key);
+    let q = t.before;
+    let a = t.action;
+    let s = t.after;
     if 8 <= q {
         return 2048;
     }

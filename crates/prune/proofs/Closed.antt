@@ -11,7 +11,7 @@ use lib.Dec.{eqb}
 use lib.ListN.{length, getD, set, take, drop, replicate, length-set, length-replicate}
 use lib.Seq.{take-length, drop-length}
 use borrow.Author.Tests.{eqb-true, eq-eqb, not-false}
-use Rattle.automaton.specs.Automaton.{Automaton, member, isInitial}
+use Rattle.automaton.specs.Automaton.{member, isInitial}
 use Rattle.automaton.specs.Decoded.{keysOf, transitionOf}
 use Rattle.automaton.specs.Flags.{isSet}
 use Rattle.automaton.specs.declared.Table.{Table}
@@ -193,9 +193,9 @@ module _ {p : Program} {marks kept : List ℕ} (q : ℕ) (s : Started p marks ke
           let c : isInitial (p .automaton) q && isSet marks (number 0 0 q q) ≡ true = rw (a, b) refl in
           never c e
 
-  pub start-turn : {rule : Automaton} → p .automaton ≡ rule → {yes : Bool} → yes ≡ isInitial rule q → {at : ℕ} → at ≡ number 0 0 q q → {kept′ : List ℕ}
+  pub start-turn : {yes : Bool} → yes ≡ isInitial (p .automaton) q → {at : ℕ} → at ≡ number 0 0 q q → {kept′ : List ℕ}
       → kept′ ≡ cond (yes && isSet marks at) (set kept at 1) kept → Started p marks kept′ (q + 1)
-  start-turn r y a e = rw (e, a, y, ← r) (start-turn-to (isInitial (p .automaton) q && isSet marks (number 0 0 q q)) refl)
+  start-turn y a e = rw (e, a, y) (start-turn-to (isInitial (p .automaton) q && isSet marks (number 0 0 q q)) refl)
 
 -- ---- the tables of a program
 

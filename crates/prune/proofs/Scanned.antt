@@ -2,7 +2,7 @@
 use mathlib.Core.Path.{_≡_, refl}
 use mathlib.Core.Bool.{true, false}
 use mathlib.Core.List.{List}
-use Prim.Native.Nat.{ℕ, _+_, _*_, _/_, _%_}
+use Prim.Native.Nat.{ℕ, _/_, _%_}
 use lib.ListN.{take}
 use Rattle.reach.specs.Configurations.{number}
 use Rattle.prune.specs.Parts.{anyKey, callSupports, lineSupports, linesToTry, actionSupports, edgeSupports}
@@ -13,6 +13,6 @@ module _ (kept lines : List ℕ) (k f n r q key : ℕ) where
   edge-calls e = rw e refl
 
   pub edge-is : {end base : ℕ} → callSupports kept key f n r q ≡ false → end ≡ linesToTry key f n k → base ≡ number f (key / 0x10000 % 256) r 0
-      → anyKey (lineSupports kept (key / 0x100 % 256 * 256 + q) base) (take end lines) ≡ edgeSupports kept lines k f n r q key
+      → anyKey (lineSupports kept base (key / 0x100 % 256) q) (take end lines) ≡ edgeSupports kept lines k f n r q key
   unfolding edgeSupports actionSupports
   edge-is e z b = rw (e, z, b) refl

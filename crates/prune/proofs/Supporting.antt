@@ -54,17 +54,18 @@ tried-lines t lines k true true e = (refl, refl, e)
 tried-lines t lines k true false e = never e refl
 tried-lines t lines k false c e = never e refl
 
-line-found : (kept : List ℕ) (wanted base line : ℕ) → lineSupports kept wanted base line ≡ true
-    → (line % 0x10000 ≡ wanted) × (isSet kept (base + line / 0x10000) ≡ true)
-unfolding lineSupports
-line-found kept wanted base line e =
-    let c = cond-true (eqb (line % 0x10000) wanted) (isSet kept (base + line / 0x10000)) e in
-    (eqb-true (line % 0x10000) wanted (c .0), c .1)
+module _ (kept : List ℕ) (base a q line : ℕ) where
+  line-found : lineSupports kept base a q line ≡ true
+      → (line / 0x100 % 256 ≡ a) × (line % 256 ≡ q) × (isSet kept (base + line / 0x10000) ≡ true)
+  unfolding lineSupports
+  line-found e =
+      let c = cond-true (eqb (line / 0x100 % 256) a && eqb (line % 256) q) (isSet kept (base + line / 0x10000)) e in
+      let d = both (eqb (line / 0x100 % 256) a) (eqb (line % 256) q) (c .0) in
+      (eqb-true (line / 0x100 % 256) a (d .0), eqb-true (line % 256) q (d .1), c .1)
 
-line-supports : (kept : List ℕ) (wanted base line : ℕ) → line % 0x10000 ≡ wanted → getD kept (base + line / 0x10000) 0 ≢ 0
-    → lineSupports kept wanted base line ≡ true
-unfolding lineSupports
-line-supports kept wanted base line e h = rw (eq-eqb (line % 0x10000) wanted e) (byte-set kept (base + line / 0x10000) h)
+  line-supports : line / 0x100 % 256 ≡ a → line % 256 ≡ q → getD kept (base + line / 0x10000) 0 ≢ 0 → lineSupports kept base a q line ≡ true
+  unfolding lineSupports
+  line-supports d e h = rw (eq-eqb (line / 0x100 % 256) a d, eq-eqb (line % 256) q e) (byte-set kept (base + line / 0x10000) h)
 
 -- ---- labels
 
@@ -165,12 +166,12 @@ module _ (p : Program) (keys : List ℕ) (m : ℕ) (lines : List ℕ) (k : ℕ) 
         let label = key / 0x100 % 256 in
         let from = key / 0x1000000 in
         let source = key / 0x10000 % 256 in
-        let test : ℕ → Bool = lineSupports kept (label * 256 + q) (number f source r 0) in
+        let test : ℕ → Bool = lineSupports kept (number f source r 0) label q in
         let c = tried-lines test lines k (eqb from f && eqb (key % 256) n) (ltb label 64) e in
         let d = both (eqb from f) (eqb (key % 256) n) (c .0) in
         let x = found-key test (take k lines) (c .2) in
         let line = x .key in
-        let w = line-found kept (label * 256 + q) (number f source r 0) line (x .test) in
+        let w = line-found kept (number f source r 0) label q line (x .test) in
         let rule = p .automaton in
         let member : List·Memᴰ (transitionOf line) (rule .transitions) =
         subst (λ (ts : List Transition). List·Memᴰ (transitionOf line) ts) (sym (t .transitions)) (in-map transitionOf (take k lines) (x .member)) in
@@ -178,12 +179,10 @@ module _ (p : Program) (keys : List ℕ) (m : ℕ) (lines : List ℕ) (k : ℕ) 
         let parts = both (ltb (line / 0x10000) (rule .states) && ltb (line / 0x100 % 256) (rule .actions)) (ltb (line % 256) (rule .states)) fits in
         let before = ltb-true (line / 0x10000) (rule .states) (both (ltb (line / 0x10000) (rule .states)) (ltb (line / 0x100 % 256) (rule .actions)) (parts .0) .0) in
         let small : line / 0x10000 < 8 = omega (arith, z .states) in
-        let on : line / 0x100 % 256 ≡ label = omega (arith, w .0, g .state) in
-        let after : line % 256 ≡ q = omega (arith, w .0, g .state) in
-        let v : Moves p (line / 0x10000) (Action label) q = rw (on, after) at (in-listed (transitionOf line) (rule .transitions) member) in
+        let v : Moves p (line / 0x10000) (Action label) q = rw (w .0, w .1) at (in-listed (transitionOf line) (rule .transitions) member) in
         let s : HasStep p f source (Action label) n = rw (← (action-label label (c .1)), ← (eqb-true from f (d .0)), ← (eqb-true (key % 256) n (d .1))) (has-step key h) in
         let from-there : Marked kept f source r (line / 0x10000) =
-        (record { routine = g .routine; node = z .source s; root = g .root; state = small }, rw (number-state f source r (line / 0x10000)) at (set-byte kept (number f source r 0 + line / 0x10000) (w .1))) in
+        (record { routine = g .routine; node = z .source s; root = g .root; state = small }, rw (number-state f source r (line / 0x10000)) at (set-byte kept (number f source r 0 + line / 0x10000) (w .2))) in
         by-edge s v from-there
 
     pub supports-sound : supports keys m lines k kept f n r q ≡ true → Supported p (Marked kept) f n r q
@@ -221,13 +220,13 @@ module _ (p : Program) (keys : List ℕ) (m : ℕ) (lines : List ℕ) (k : ℕ) 
         rw (eq-eqb (key / 0x1000000) f a, eq-eqb (key % 256) n b, c, e, or-true (entrySupports kept key f n r q)) refl
 
     action-there : (f n r q key line : ℕ) → key / 0x1000000 ≡ f → key % 256 ≡ n → ltb (key / 0x100 % 256) 64 ≡ true → List·Memᴰ line (take k lines)
-        → line % 0x10000 ≡ key / 0x100 % 256 * 256 + q → getD kept (number f (key / 0x10000 % 256) r (line / 0x10000)) 0 ≢ 0 → edgeSupports kept lines k f n r q key ≡ true
+        → line / 0x100 % 256 ≡ key / 0x100 % 256 → line % 256 ≡ q → getD kept (number f (key / 0x10000 % 256) r (line / 0x10000)) 0 ≢ 0 → edgeSupports kept lines k f n r q key ≡ true
     unfolding edgeSupports actionSupports linesToTry
-    action-there f n r q key line a b c h w o =
+    action-there f n r q key line a b c h d w o =
         let base = number f (key / 0x10000 % 256) r 0 in
-        let wanted = key / 0x100 % 256 * 256 + q in
-        let u = line-supports kept wanted base line w (rw (number-state f (key / 0x10000 % 256) r (line / 0x10000)) o) in
-        let e = any-key (lineSupports kept wanted base) (take k lines) h u in
+        let label = key / 0x100 % 256 in
+        let u = line-supports kept base label q line d w (rw (number-state f (key / 0x10000 % 256) r (line / 0x10000)) o) in
+        let e = any-key (lineSupports kept base label q) (take k lines) h u in
         rw (eq-eqb (key / 0x1000000) f a, eq-eqb (key % 256) n b, c, e, or-true (callSupports kept key f n r q)) refl
 
     pub supports-found : {f n r q : ℕ} → Supported p (Marked kept) f n r q → supports keys m lines k kept f n r q ≡ true
@@ -241,7 +240,7 @@ module _ (p : Program) (keys : List ℕ) (m : ℕ) (lines : List ℕ) (k : ℕ) 
         let action : a ≡ l .from / 0x100 % 256 = ap (λ (s : Transition). s .action) (l .is) in
         let after : q ≡ l .from % 256 = ap (λ (s : Transition). s .after) (l .is) in
         by-key f n r q (x .key) (x .member)
-        (action-there f n r q (x .key) (l .from) (x .routine) (x .target) (c .0) (l .member) (omega (arith, c .1)) (rw (x .source, ← before) (o .1)))
+        (action-there f n r q (x .key) (l .from) (x .routine) (x .target) (c .0) (l .member) (sym action ∙ sym (c .1)) (sym after) (rw (x .source, ← before) (o .1)))
     supports-found {f} {n} {r} {q} (as-called {x = x} e o) =
         let y = keyed e in
         let label = y .key / 0x100 % 256 in

@@ -55,8 +55,9 @@ unfoldable pub callSupports : List ℕ → ℕ → ℕ → ℕ → ℕ → ℕ �
 callSupports kept key f n r q = entrySupports kept key f n r q || returnSupports kept key f n r q
 
 -- the transition has this action and this state after it, and the configuration before it is kept
-unfoldable pub lineSupports : List ℕ → ℕ → ℕ → ℕ → Bool
-lineSupports kept wanted base line = cond (eqb (line % 0x10000) wanted) (isSet kept (base + line / 0x10000)) false
+unfoldable pub lineSupports : List ℕ → ℕ → ℕ → ℕ → ℕ → Bool
+lineSupports kept base a q line =
+    cond (eqb (transitionOf line .action) a && eqb (transitionOf line .after) q) (isSet kept (base + transitionOf line .before)) false
 
 -- how many transitions are to be tried for an edge: all for an action that leads to node n of routine f, else none
 unfoldable pub linesToTry : ℕ → ℕ → ℕ → ℕ → ℕ
@@ -64,7 +65,7 @@ linesToTry key f n count = cond (eqb (key / 0x1000000) f && eqb (key % 256) n) (
 
 unfoldable pub actionSupports : List ℕ → List ℕ → ℕ → ℕ → ℕ → ℕ → ℕ → ℕ → Bool
 actionSupports kept lines count f n r q key =
-    anyKey (lineSupports kept (key / 0x100 % 256 * 256 + q) (number f (key / 0x10000 % 256) r 0)) (take (linesToTry key f n count) lines)
+    anyKey (lineSupports kept (number f (key / 0x10000 % 256) r 0) (key / 0x100 % 256) q) (take (linesToTry key f n count) lines)
 
 unfoldable pub edgeSupports : List ℕ → List ℕ → ℕ → ℕ → ℕ → ℕ → ℕ → ℕ → Bool
 edgeSupports kept lines count f n r q key = callSupports kept key f n r q || actionSupports kept lines count f n r q key

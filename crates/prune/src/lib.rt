@@ -5,10 +5,9 @@ use analysis::check_buffers;
 use analysis::count::clear;
 use analysis::number::number_of;
 use analysis::part::first_of;
-use automaton::DecodedAutomaton;
 use automaton::Table;
+use automaton::flags::initial_flags;
 use automaton::in_use;
-use automaton::is_initial;
 use program::DecodedProgram;
 use program::Verdict;
 use support::has_support;
@@ -17,8 +16,8 @@ ghost use mathlib.Core.Bool.{cond, _&&_};
 ghost use mathlib.Core.List.{map};
 ghost use Prim.Native.Nat.{_+_, _*_, _/_, _<_, _≤_};
 ghost use lib.ListN.{length, set, take};
-ghost use Rattle.automaton.specs.Decoded.{keysOf, transitionOf, automatonOf};
-ghost use Rattle.automaton.specs.Flags.{isSet};
+ghost use Rattle.automaton.specs.Decoded.{keysOf, transitionOf};
+ghost use Rattle.automaton.specs.Flags.{isSet, Starts};
 ghost use Rattle.program.specs.Program.{Program};
 ghost use Rattle.program.specs.Frames.{edgeKey};
 ghost use Rattle.program.specs.WellFormed.{Ascending, WellFormed};
@@ -45,15 +44,15 @@ fn keep_when(yes: bool, marks: &[u8], kept: &mut [u8], at: usize)
 }
 
 // The starts: main's entry in each initial state, with that state as its root.
-fn keep_starts(rule: DecodedAutomaton, marks: &[u8], kept: &mut [u8])
+fn keep_starts(initial: &[u8; 8], marks: &[u8], kept: &mut [u8])
     requires { ⌜ (length (now marks) ≡ 16384) × (length (now kept) ≡ 16384) ⌝ }
-    ensures { λ _. ⌜ ((p : Program) → p .automaton ≡ automatonOf rule → Sound p (now (marks .entry)) (now (kept .entry))
+    ensures { λ _. ⌜ ((p : Program) → Starts (p .automaton) (now (initial .entry)) → Sound p (now (marks .entry)) (now (kept .entry))
         → Started p (now (marks .entry)) (now (kept .exit)) 8) ⌝ }
 {
     let mut q: u8 = 0;
     while q < 8 {
         let at = number_of(0, 0, q, q);
-        keep_when(is_initial(rule, q), marks, kept, at);
+        keep_when(initial[q as usize] != 0, marks, kept, at);
         q = q + 1;
     }
 }
@@ -198,8 +197,10 @@ fn keep(p: DecodedProgram, marks: &[u8], kept: &mut [u8])
     let rule = p.automaton;
     let edges = p.edges;
     let transitions = rule.transitions;
+    let initial = initial_flags(rule);
+    let flags = initial.flags;
     clear(kept);
-    keep_starts(rule, marks, kept);
+    keep_starts(&flags, marks, kept);
     keep_supported(edges, transitions, marks, kept);
 }
 

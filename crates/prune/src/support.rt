@@ -1,5 +1,6 @@
 // Whether a configuration (f, n, r, q) has support through kept ones: the search over edges and transitions.
 use analysis::number::number_of;
+use automaton::transition;
 ghost use mathlib.Core.Path.{_≡_};
 ghost use Prim.Native.Nat.{_<_, _≤_};
 ghost use lib.ListN.{length};
@@ -87,13 +88,14 @@ fn call_supports(kept: &[u8], key: u32, f: u8, n: u8, r: u8, q: u8) -> bool
     return_supports(kept, key, f, n, r, q)
 }
 
-// A transition's action and state after it are its lower two numbers, so that one comparison tells.
-fn line_supports(kept: &[u8], wanted: u32, base: usize, line: u32) -> bool
+// A transition on the action to state q gives support where the configuration in the state before it is kept.
+fn line_supports(kept: &[u8], base: usize, action: u8, q: u8, line: u32) -> bool
     requires { ⌜ base < 1000000 ⌝ }
-    ensures { λ y. ⌜ y ≡ lineSupports (now (kept .entry)) wanted base line ⌝ }
+    ensures { λ y. ⌜ y ≡ lineSupports (now (kept .entry)) base action q line ⌝ }
 {
-    if line % 0x10000 == wanted {
-        return is_kept(kept, base + (line / 0x10000) as usize);
+    let t = transition(line);
+    if (t.action == action as u32) & (t.after == q as u32) {
+        return is_kept(kept, base + t.before as usize);
     }
     false
 }
@@ -139,10 +141,10 @@ fn supported(
         }
         let end = lines_to_try(key, f, n, k);
         let base = number_of(f, (key / 0x10000 % 256) as u8, r, 0);
-        let wanted = key / 0x100 % 256 * 256 + q as u32;
+        let action = (key / 0x100 % 256) as u8;
         let mut j: usize = 0;
         while j < end {
-            if line_supports(kept, wanted, base, lines[j]) {
+            if line_supports(kept, base, action, q, lines[j]) {
                 found = true;
                 break 'scan;
             }

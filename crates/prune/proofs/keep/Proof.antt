@@ -6,6 +6,9 @@ use Rattle.prune.proofs.Closed.{cleared-sound}
 use Rattle.prune.proofs.keep.Statement.{statement}
 use Rattle.prune.proofs.keep.Tie as tie
 
+initial-flags-requires : tie.Need-initial-flags-requires
+initial-flags-requires c κs = search needs
+
 clear-requires : tie.Need-clear-requires
 clear-requires c κs = search needs
 
@@ -14,23 +17,26 @@ keep-starts-requires c κs = search needs
 
 keep-supported-requires : tie.Need-keep-supported-requires
 keep-supported-requires c κs =
-    let z = c .before .before .before .before .before .before .before .before .before .before .before .before .before .before .pre in
-    (z .0 .edges-ascend, (z .1 .0, c .before .before .before .keep-starts .kept .1 .1 .0 ∙ c .before .before .before .before .before .before .before .clear .kept .0 ∙ z .1 .1))
+    let z = c .before .before .before .before .before .before .before .before .before .before .before .before .before .before .before .before .before .pre in
+    (z .0 .edges-ascend, (z .1 .0, c .before .before .before .keep-starts .kept .1 .1 .0 ∙ c .before .before .before .before .before .before .before .before .clear .kept .0 ∙ z .1 .1))
 
 same-length : tie.Need-same-length
 same-length c = search needs
 
 returns : tie.Need-returns
 returns c =
-    let z = c .before .before .before .before .before .before .before .before .before .before .before .before .before .before .before .before .before in
+    let k = c .before .before .before .before .before .before in
+    let i = k .before .before .before .before .before .before .before .before in
+    let z = i .before .before .before .before .before .before in
     let p = programOf (z .args .p) in
-    let s = cleared-sound p (z .args .marks .now) (c .before .before .before .before .before .before .before .before .before .before .clear .ensures) (z .pre .1 .1) in
-    c .before .before .keep-supported .ensures p (z .pre .0) refl refl (c .before .before .before .before .before .before .keep-starts .ensures p refl s)
+    let s = cleared-sound p (z .args .marks .now) (k .before .before .before .before .before .clear .ensures) (z .pre .1 .1) in
+    c .before .before .keep-supported .ensures p (z .pre .0) refl refl (k .keep-starts .ensures p (i .initial-flags .ensures) s)
 
 pub keep-spec : {M : Type 1} → statement M
 keep-spec =
     tie.close
     (tie.spec
+    initial-flags-requires
     clear-requires
     keep-starts-requires
     keep-supported-requires

@@ -3,7 +3,7 @@ use mathlib.Core.Path.{_≡_, sym, _∙_}
 use Prim.Native.Nat.{_≤_, _-_}
 use native.Mathlib.Omega.{arith}
 use lib.ListN.{length}
-use Rattle.automaton.specs.Decoded.{automatonOf}
+use Rattle.automaton.specs.Flags.{Starts}
 use Rattle.program.specs.Program.{Program}
 use Rattle.prune.specs.Parts.{Sound, Started}
 use Rattle.prune.proofs.Closed.{start-none, start-turn}
@@ -12,11 +12,11 @@ use Rattle.prune.proofs.keep_starts.Statement.{statement}
 use Rattle.prune.proofs.keep_starts.Tie as tie
 
 abbrev Inv-loop : tie.InvT-loop
-Inv-loop rule marks kept₀ q₀ kept q =
-    (q ≤ 8) × (length kept ≡ 16384) × ((p : Program) → p .automaton ≡ automatonOf rule → Sound p marks kept₀ → Started p marks kept q)
+Inv-loop initial marks kept₀ q₀ kept q =
+    (q ≤ 8) × (length kept ≡ 16384) × ((p : Program) → Starts (p .automaton) initial → Sound p marks kept₀ → Started p marks kept q)
 
 abbrev μ-loop : tie.MeasureT-loop
-μ-loop rule marks kept₀ q₀ kept q = 8 - q
+μ-loop initial marks kept₀ q₀ kept q = 8 - q
 
 loop-holds : tie.Need-loop-holds Inv-loop μ-loop
 loop-holds c = (omega arith, c .before .before .pre .1, λ p e s. start-none s)
@@ -24,8 +24,11 @@ loop-holds c = (omega arith, c .before .before .pre .1, λ p e s. start-none s)
 number-of-requires : tie.Need-number-of-requires Inv-loop μ-loop
 number-of-requires c κs = search needs
 
-is-initial-requires : tie.Need-is-initial-requires Inv-loop μ-loop
-is-initial-requires c κs = search needs
+cast-keep-when : tie.Need-cast-keep-when Inv-loop μ-loop
+cast-keep-when c = search needs
+
+element-copy-out-keep-when : tie.Need-element-copy-out-keep-when Inv-loop μ-loop
+element-copy-out-keep-when c = search needs
 
 keep-when-requires : tie.Need-keep-when-requires Inv-loop μ-loop
 keep-when-requires c κs =
@@ -45,7 +48,7 @@ loop-again c =
     let p = a .before .before .before in (
       omega arith,
       w .kept .1 .1 .0 ∙ p .loop .inv .1,
-      λ q e s. start-turn _ (p .loop .inv .2 q e s) (omega arith) e (a .is-initial .ensures) (a .before .number-of .ensures .0) (w .ensures),
+      λ q e s. start-turn _ (p .loop .inv .2 q e s) (omega arith) (e .starts (p .loop .q) (omega arith)) (a .before .number-of .ensures .0) (w .ensures),
     )
 
 same-length : tie.Need-same-length Inv-loop μ-loop
@@ -65,7 +68,8 @@ keep-starts-spec =
     μ-loop
     loop-holds
     number-of-requires
-    is-initial-requires
+    cast-keep-when
+    element-copy-out-keep-when
     keep-when-requires
     add-q
     loop-less

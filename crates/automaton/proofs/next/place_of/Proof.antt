@@ -5,6 +5,9 @@ use Rattle.automaton.proofs.Flagged.{no-place, its-place}
 use Rattle.automaton.proofs.next.place_of.Statement.{statement}
 use Rattle.automaton.proofs.next.place_of.Tie as tie
 
+transition-requires : tie.Need-transition-requires
+transition-requires c κs = search needs
+
 returns : tie.Need-returns
 returns c = no-place _ (λ u v w. omega arith)
 
@@ -30,12 +33,13 @@ cast-result : tie.Need-cast-result
 cast-result c = search needs
 
 returns-4 : tie.Need-returns-4
-returns-4 c = its-place _ (omega arith) (omega arith) (omega arith)
+returns-4 c = its-place _ (omega arith) (omega arith) (omega arith) (omega arith)
 
 pub place-of-spec : {M : Type 1} → statement M
 place-of-spec =
     tie.close
     (tie.spec
+    transition-requires
     returns
     returns-2
     returns-3

@@ -13,11 +13,11 @@ use Rattle.prune.proofs.support.supported.Statement.{statement}
 use Rattle.prune.proofs.support.supported.Tie as tie
 
 abbrev Inv-loop : tie.InvT-loop
-Inv-loop keys m lines k kept f n r q found₀ i key end base wanted j₀ found j =
-    (j ≤ end) × (found ≡ false) × Left (anyKey (lineSupports kept wanted base)) lines end j
+Inv-loop keys m lines k kept f n r q found₀ i key end base action j₀ found j =
+    (j ≤ end) × (found ≡ false) × Left (anyKey (lineSupports kept base action q)) lines end j
 
 abbrev μ-loop : tie.MeasureT-loop
-μ-loop keys m lines k kept f n r q found₀ i key end base wanted j₀ found j = end - j
+μ-loop keys m lines k kept f n r q found₀ i key end base action j₀ found j = end - j
 
 abbrev Inv-scan : tie.InvT-scan
 Inv-scan keys m lines k kept f n r q found₀ i₀ found i =
@@ -47,11 +47,8 @@ cast-number-of c = search needs
 number-of-requires : tie.Need-number-of-requires Inv-loop μ-loop Inv-scan μ-scan
 number-of-requires c κs = search needs
 
-mul-wanted : tie.Need-mul-wanted Inv-loop μ-loop Inv-scan μ-scan
-mul-wanted c = search needs
-
-add-wanted : tie.Need-add-wanted Inv-loop μ-loop Inv-scan μ-scan
-add-wanted c = search needs
+cast-action : tie.Need-cast-action Inv-loop μ-loop Inv-scan μ-scan
+cast-action c = search needs
 
 loop-holds : tie.Need-loop-holds Inv-loop μ-loop Inv-scan μ-scan
 loop-holds c = (search needs, search needs, record { decide = refl })
@@ -130,8 +127,7 @@ supported-spec =
     lines-to-try-requires
     cast-number-of
     number-of-requires
-    mul-wanted
-    add-wanted
+    cast-action
     loop-holds
     mul-line-supports
     shared-slice-read-line-supports

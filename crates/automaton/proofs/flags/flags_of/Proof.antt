@@ -1,12 +1,12 @@
--- `automaton::flags::rejecting_flags` meets its contract. The loop's invariant: each flag, with the states from `i` on, decides.
-use mathlib.Core.Path.{_≡_, refl, sym}
+-- `automaton::flags::flags_of` meets its contract. The loop's invariant: each flag, with the states from `i` on, decides.
+use mathlib.Core.Path.{_≡_, sym}
 use Prim.Native.Nat.{_-_}
 use native.Mathlib.Omega.{arith}
 use lib.ListN.{length}
 use borrow.Author.Needs.{needs}
 use Rattle.automaton.proofs.Flagged.{Members, members-none, members-more, members-all}
-use Rattle.automaton.proofs.flags.rejecting_flags.Statement.{statement}
-use Rattle.automaton.proofs.flags.rejecting_flags.Tie as tie
+use Rattle.automaton.proofs.flags.flags_of.Statement.{statement}
+use Rattle.automaton.proofs.flags.flags_of.Tie as tie
 
 abbrev Inv-loop : tie.InvT-loop
 Inv-loop list count flags₀ i₀ flags i = Members list count i flags
@@ -14,7 +14,7 @@ Inv-loop list count flags₀ i₀ flags i = Members list count i flags
 abbrev μ-loop : tie.MeasureT-loop
 μ-loop list count flags₀ i₀ flags i = 8 - i
 
-room : (c : tie.At-loop Inv-loop μ-loop) → length (c .before .before .before .args .r .rejecting .list) ≡ 8
+room : (c : tie.At-loop Inv-loop μ-loop) → length (c .before .before .args .states .list) ≡ 8
 room c = search needs
 
 loop-holds : tie.Need-loop-holds Inv-loop μ-loop
@@ -24,7 +24,7 @@ returns : tie.Need-returns Inv-loop μ-loop
 returns c =
     let p = c .before .before in
     let n = room p in
-    members-all (p .loop .inv) _ (omega arith) refl
+    members-all (p .loop .inv) (omega arith)
 
 array-read-q : tie.Need-array-read-q Inv-loop μ-loop
 array-read-q c = search needs
@@ -54,10 +54,10 @@ returns-2 : tie.Need-returns-2 Inv-loop μ-loop
 returns-2 c =
     let p = c .before in
     let n = room p in
-    members-all (p .loop .inv) _ (omega arith) refl
+    members-all (p .loop .inv) (omega arith)
 
-pub rejecting-flags-spec : {M : Type 1} → statement M
-rejecting-flags-spec =
+pub flags-of-spec : {M : Type 1} → statement M
+flags-of-spec =
     tie.close
     (tie.spec
     Inv-loop
