@@ -1,7 +1,9 @@
 /*
  * Palthrenni: the checker of measuring programs, as C calls it.
  *
- * Link with libdesk.a.
+ * Build the archive with `rt staticlib desk`, and link with it:
+ *
+ *     gcc -std=c11 -O2 -Iinclude my_program.c target/staticlib/libdesk.a
  *
  * Buffers. A buffer is a pointer and a length in bytes. The pointer has to be
  * valid for that many bytes during the call; with length 0 it is not looked
@@ -13,6 +15,9 @@
  * Answers. Each function returns the number of the refusal it met, or
  * PALTHRENNI_OK. Every pointer to a number has to be valid, and every number
  * is set on every call, to 0 where there is nothing to say.
+ *
+ * Threads. Nothing is kept between calls and no memory is allocated: two
+ * threads may call at once, each with buffers and numbers of its own.
  */
 #ifndef PALTHRENNI_H
 #define PALTHRENNI_H
@@ -160,7 +165,8 @@ uint32_t palthrenni_analyze(const uint8_t *file, size_t file_len,
 /*
  * Reads a program file and finds the first violation at or above a number.
  * To go through all of them, begin from 0 and go on from the one after the
- * last that was found.
+ * last that was found. Each call analyzes the program afresh, to see whether
+ * the marks are its own (17): thousands of violations take as many analyses.
  *
  *   file, file_len    the file's bytes, of any length
  *   marks, marks_len  the marks as palthrenni_analyze left them for this
@@ -216,7 +222,10 @@ uint32_t palthrenni_prune(const uint8_t *file, size_t file_len,
  *     2D f n a m      drops that step
  *     3D f n a m b    gives that step the label b
  *
- * two digits a number and a byte 0A at the end.
+ * two digits a number and a byte 0A at the end. For a chain of repairs keep
+ * two buffers for files that change places: the next call's file is what this
+ * one wrote, the first `written` bytes of its output, and goes on as it was
+ * after a refusal. The marks go on as each call leaves them.
  *
  *   file, file_len      the file's bytes, of any length
  *   marks, marks_len    the marks as palthrenni_analyze, or the repair before
