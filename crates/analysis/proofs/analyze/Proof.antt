@@ -4,18 +4,6 @@ use borrow.Author.Needs.{needs}
 use Rattle.analysis.proofs.analyze.Statement.{statement}
 use Rattle.analysis.proofs.analyze.Tie as tie
 
-read-requires : tie.Need-read-requires
-read-requires c κs = search needs
-
-check-buffers-requires : tie.Need-check-buffers-requires
-check-buffers-requires c κs = search needs
-
-enum-known-checked : tie.Need-enum-known-checked
-enum-known-checked c = search needs
-
-enum-told : tie.Need-enum-told
-enum-told c = search needs
-
 analyze-counts-requires : tie.Need-analyze-counts-requires
 analyze-counts-requires c κs =
     let z = c .before .before .before .before .before .before .before .before .before .before in
@@ -38,12 +26,6 @@ returns c =
     let k = c .before .before .before .check-buffers .ensures in
     analyze-refused file marks work _ e _ k _ _ (c .before .checked .given .1)
 
-same-length : tie.Need-same-length
-same-length c = search needs
-
-same-length-2 : tie.Need-same-length-2
-same-length-2 c = search needs
-
 returns-2 : tie.Need-returns-2
 returns-2 c =
     let z = c .before .before .before .before .before .before .before .before .before .before .before .before .before .before .before in
@@ -59,13 +41,5 @@ returns-2 c =
 pub analyze-spec : {M : Type 1} → statement M
 analyze-spec =
     tie.close
-    (tie.spec
-    read-requires
-    check-buffers-requires
-    enum-known-checked
-    enum-told
-    analyze-counts-requires
-    returns
-    same-length
-    same-length-2
-    returns-2)
+    (tie.spec (λ c κs. search needs) (λ c κs. search needs) (λ c. search needs) (λ c. search needs)
+    analyze-counts-requires returns (λ c. search needs) (λ c. search needs) returns-2)

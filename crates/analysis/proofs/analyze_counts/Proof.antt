@@ -9,27 +9,6 @@ use borrow.Author.Needs.{needs}
 use Rattle.analysis.proofs.analyze_counts.Statement.{statement}
 use Rattle.analysis.proofs.analyze_counts.Tie as tie
 
-analyze-program-requires : tie.Need-analyze-program-requires
-analyze-program-requires c κs = search needs
-
-rejecting-flags-requires : tie.Need-rejecting-flags-requires
-rejecting-flags-requires c κs = search needs
-
-count-marks-requires : tie.Need-count-marks-requires
-count-marks-requires c κs = search needs
-
-slice-aggregate-count-violations : tie.Need-slice-aggregate-count-violations
-slice-aggregate-count-violations c = search needs
-
-count-violations-requires : tie.Need-count-violations-requires
-count-violations-requires c κs = search needs
-
-same-length : tie.Need-same-length
-same-length c = search needs
-
-same-length-2 : tie.Need-same-length-2
-same-length-2 c = search needs
-
 returns : tie.Need-returns
 returns c =
     let z = c .before .before .before .before .before .before .before .before .before .before .before .before .before .before .before .before .before in
@@ -42,12 +21,5 @@ returns c =
 pub analyze-counts-spec : {M : Type 1} → statement M
 analyze-counts-spec =
     tie.close
-    (tie.spec
-    analyze-program-requires
-    rejecting-flags-requires
-    count-marks-requires
-    slice-aggregate-count-violations
-    count-violations-requires
-    same-length
-    same-length-2
-    returns)
+    (tie.spec (λ c κs. search needs) (λ c κs. search needs) (λ c κs. search needs) (λ c. search needs)
+    (λ c κs. search needs) (λ c. search needs) (λ c. search needs) returns)

@@ -3,12 +3,6 @@ use borrow.Author.Needs.{needs}
 use Rattle.analysis.proofs.check_buffers.Statement.{statement}
 use Rattle.analysis.proofs.check_buffers.Tie as tie
 
-enum-known-v : tie.Need-enum-known-v
-enum-known-v c = search needs
-
-enum-told : tie.Need-enum-told
-enum-told c = search needs
-
 returns : tie.Need-returns
 returns c = rw (c .before .before .enum-told .given .1, eq-eqb _ _ (c .before .if1 .taken), eq-eqb _ _ (c .if2 .taken))
 
@@ -23,4 +17,4 @@ returns-4 c = rw (c .before .enum-told .given .1, ne-eqb _ _ (c .if1 .left))
 
 pub check-buffers-spec : {M : Type 1} → statement M
 check-buffers-spec =
-    tie.close (tie.spec enum-known-v enum-told returns returns-2 returns-3 returns-4)
+    tie.close (tie.spec (λ c. search needs) (λ c. search needs) returns returns-2 returns-3 returns-4)

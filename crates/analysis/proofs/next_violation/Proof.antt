@@ -4,18 +4,6 @@ use borrow.Author.Needs.{needs}
 use Rattle.analysis.proofs.next_violation.Statement.{statement}
 use Rattle.analysis.proofs.next_violation.Tie as tie
 
-read-requires : tie.Need-read-requires
-read-requires c κs = search needs
-
-check-buffers-requires : tie.Need-check-buffers-requires
-check-buffers-requires c κs = search needs
-
-enum-known-checked : tie.Need-enum-known-checked
-enum-known-checked c = search needs
-
-enum-told : tie.Need-enum-told
-enum-told c = search needs
-
 search-own-requires : tie.Need-search-own-requires
 search-own-requires c κs =
     let z = c .before .before .before .before .before .before .before .before .before in
@@ -38,9 +26,6 @@ returns c =
     let k = c .before .before .before .check-buffers .ensures in
     next-refused file marks work _ e _ k (z .args .low) _ _ (c .before .checked .given .1)
 
-same-length : tie.Need-same-length
-same-length c = search needs
-
 returns-2 : tie.Need-returns-2
 returns-2 c =
     let z = c .before .before .before .before .before .before .before .before .before .before .before .before in
@@ -56,12 +41,5 @@ returns-2 c =
 pub next-violation-spec : {M : Type 1} → statement M
 next-violation-spec =
     tie.close
-    (tie.spec
-    read-requires
-    check-buffers-requires
-    enum-known-checked
-    enum-told
-    search-own-requires
-    returns
-    same-length
-    returns-2)
+    (tie.spec (λ c κs. search needs) (λ c κs. search needs) (λ c. search needs) (λ c. search needs)
+    search-own-requires returns (λ c. search needs) returns-2)

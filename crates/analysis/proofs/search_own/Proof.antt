@@ -5,24 +5,6 @@ use borrow.Author.Needs.{needs}
 use Rattle.analysis.proofs.search_own.Statement.{statement}
 use Rattle.analysis.proofs.search_own.Tie as tie
 
-is-own-requires : tie.Need-is-own-requires
-is-own-requires c κs = search needs
-
-rejecting-flags-requires : tie.Need-rejecting-flags-requires
-rejecting-flags-requires c κs = search needs
-
-slice-aggregate-first-violation : tie.Need-slice-aggregate-first-violation
-slice-aggregate-first-violation c = search needs
-
-first-violation-requires : tie.Need-first-violation-requires
-first-violation-requires c κs = search needs
-
-found-requires : tie.Need-found-requires
-found-requires c κs = search needs
-
-same-length : tie.Need-same-length
-same-length c = search needs
-
 returns : tie.Need-returns
 returns c =
     let z = c .before .before .before .before .before .before .before .before .before .before .before .before .before in
@@ -30,9 +12,6 @@ returns c =
     let o = c .before .before .before .before .before .before .before .before .before .is-own .ensures in
     let e = sym (o .0) ∙ c .before .before .before .before .before .before .if1 .taken in
     (c .found .ensures ∙ own-found p _ (z .args .low) (c .before .first-violation .result) e (c .before .first-violation .ensures p (c .before .before .before .before .rejecting-flags .ensures)), o .1)
-
-same-length-2 : tie.Need-same-length-2
-same-length-2 c = search needs
 
 returns-2 : tie.Need-returns-2
 returns-2 c =
@@ -43,13 +22,5 @@ returns-2 c =
 pub search-own-spec : {M : Type 1} → statement M
 search-own-spec =
     tie.close
-    (tie.spec
-    is-own-requires
-    rejecting-flags-requires
-    slice-aggregate-first-violation
-    first-violation-requires
-    found-requires
-    same-length
-    returns
-    same-length-2
-    returns-2)
+    (tie.spec (λ c κs. search needs) (λ c κs. search needs) (λ c. search needs) (λ c κs. search needs)
+    (λ c κs. search needs) (λ c. search needs) returns (λ c. search needs) returns-2)

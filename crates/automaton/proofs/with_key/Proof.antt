@@ -7,15 +7,6 @@ use Rattle.automaton.proofs.Entries.{one-more}
 use Rattle.automaton.proofs.with_key.Statement.{statement}
 use Rattle.automaton.proofs.with_key.Tie as tie
 
-mul-longer : tie.Need-mul-longer
-mul-longer c = search needs
-
-element-write-longer : tie.Need-element-write-longer
-element-write-longer c = search needs
-
-add-longer : tie.Need-add-longer
-add-longer c = search needs
-
 returns : tie.Need-returns
 returns c =
     let t = c .args .t in
@@ -23,4 +14,4 @@ returns c =
     (one-more (t .keys) (t .count) (c .args .key) (omega arith), refl)
 
 pub with-key-spec : {M : Type 1} → statement M
-with-key-spec = tie.close (tie.spec mul-longer element-write-longer add-longer returns)
+with-key-spec = tie.close (tie.spec (λ c. search needs) (λ c. search needs) (λ c. search needs) returns)

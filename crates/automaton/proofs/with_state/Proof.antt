@@ -7,12 +7,6 @@ use Rattle.automaton.proofs.Entries.{one-more}
 use Rattle.automaton.proofs.with_state.Statement.{statement}
 use Rattle.automaton.proofs.with_state.Tie as tie
 
-element-write-longer : tie.Need-element-write-longer
-element-write-longer c = search needs
-
-add-longer : tie.Need-add-longer
-add-longer c = search needs
-
 returns : tie.Need-returns
 returns c =
     let s = c .args .s in
@@ -20,4 +14,4 @@ returns c =
     (one-more (s .list) (s .count) (c .args .q) (omega arith), refl)
 
 pub with-state-spec : {M : Type 1} → statement M
-with-state-spec = tie.close (tie.spec element-write-longer add-longer returns)
+with-state-spec = tie.close (tie.spec (λ c. search needs) (λ c. search needs) returns)

@@ -23,27 +23,12 @@ looped c = c .before .before .before .before .before .before .before .before
 abbrev start : tie.At-loop Inv-loop μ-loop → tie.Start Inv-loop μ-loop
 start l = l .before .before .before .before
 
-begin-requires : tie.Need-begin-requires Inv-loop μ-loop
-begin-requires c κs = search needs
-
 loop-holds : tie.Need-loop-holds Inv-loop μ-loop
 loop-holds c =
     let a = c .before .before .before .args in
     let z = length-replicate {A = ℕ} 180235 0 in
     let w = text-within (rw z (begun-short (a .input .now))) (c .begin .ensures) in
     (w .0 ∙ z, w .1)
-
-slice-aggregate-print : tie.Need-slice-aggregate-print Inv-loop μ-loop
-slice-aggregate-print c = search needs
-
-print-requires : tie.Need-print-requires Inv-loop μ-loop
-print-requires c κs = search needs
-
-returns : tie.Need-returns Inv-loop μ-loop
-returns c = search needs
-
-edit-line-requires : tie.Need-edit-line-requires Inv-loop μ-loop
-edit-line-requires c κs = search needs
 
 loop-less : tie.Need-loop-less Inv-loop μ-loop
 loop-less c =
@@ -59,29 +44,9 @@ loop-again c =
     let w = text-within (rw e t) (c .edit-line .ensures) in
     (w .0 ∙ e, w .1)
 
-slice-aggregate-print-2 : tie.Need-slice-aggregate-print-2 Inv-loop μ-loop
-slice-aggregate-print-2 c = search needs
-
-print-requires-2 : tie.Need-print-requires-2 Inv-loop μ-loop
-print-requires-2 c κs = search needs
-
-returns-2 : tie.Need-returns-2 Inv-loop μ-loop
-returns-2 c = search needs
-
 pub print-turns-spec : {M : Type 1} → statement M
 print-turns-spec =
     tie.close
-    (tie.spec
-    Inv-loop
-    μ-loop
-    begin-requires
-    loop-holds
-    slice-aggregate-print
-    print-requires
-    returns
-    edit-line-requires
-    loop-less
-    loop-again
-    slice-aggregate-print-2
-    print-requires-2
-    returns-2)
+    (tie.spec Inv-loop μ-loop (λ c κs. search needs) loop-holds (λ c. search needs) (λ c κs. search needs)
+    (λ c. search needs) (λ c κs. search needs) loop-less loop-again (λ c. search needs) (λ c κs. search needs)
+    (λ c. search needs))

@@ -3,9 +3,6 @@ use borrow.Author.Needs.{needs}
 use Rattle.desk.proofs.analyze_numbers.Statement.{statement}
 use Rattle.desk.proofs.analyze_numbers.Tie as tie
 
-enum-known-a : tie.Need-enum-known-a
-enum-known-a c = search needs
-
 cast-t8 : tie.Need-cast-t8
 cast-t8 c = omega (arith, rw (c .before .a .given .1) at (c .before .before .before .pre))
 
@@ -15,31 +12,11 @@ cast-t9 c = omega (arith, rw (c .before .a .given .1) at (c .before .before .bef
 cast-t10 : tie.Need-cast-t10
 cast-t10 c = omega (arith, rw (c .before .a .given .1) at (c .before .before .before .pre))
 
-enum-known-a-2 : tie.Need-enum-known-a-2
-enum-known-a-2 c = search needs
-
-cast-t11 : tie.Need-cast-t11
-cast-t11 c = search needs
-
 cast-t12 : tie.Need-cast-t12
 cast-t12 c = omega (arith, rw (c .before .a2 .given .1) at (c .before .before .before .pre))
-
-returns : tie.Need-returns
-returns c = search needs
-
-returns-2 : tie.Need-returns-2
-returns-2 c = search needs
 
 pub analyze-numbers-spec : {M : Type 1} → statement M
 analyze-numbers-spec =
     tie.close
-    (tie.spec
-    enum-known-a
-    cast-t8
-    cast-t9
-    cast-t10
-    enum-known-a-2
-    cast-t11
-    cast-t12
-    returns
-    returns-2)
+    (tie.spec (λ c. search needs) cast-t8 cast-t9 cast-t10 (λ c. search needs) (λ c. search needs) cast-t12
+    (λ c. search needs) (λ c. search needs))

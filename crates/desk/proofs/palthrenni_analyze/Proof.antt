@@ -5,17 +5,8 @@ use borrow.Author.Needs.{needs}
 use Rattle.desk.proofs.palthrenni_analyze.Statement.{statement}
 use Rattle.desk.proofs.palthrenni_analyze.Tie as tie
 
-analyze-requires : tie.Need-analyze-requires
-analyze-requires c κs = search needs
-
 analyze-numbers-requires : tie.Need-analyze-numbers-requires
 analyze-numbers-requires c κs = rw (c .before .before .before .before .analyze .ensures .0) (analyze-fits _ _ _)
-
-same-length : tie.Need-same-length
-same-length c = search needs
-
-same-length-2 : tie.Need-same-length-2
-same-length-2 c = search needs
 
 returns : tie.Need-returns
 returns c =
@@ -26,4 +17,4 @@ returns c =
 pub palthrenni-analyze-spec : {M : Type 1} → statement M
 palthrenni-analyze-spec =
     tie.close
-    (tie.spec analyze-requires analyze-numbers-requires same-length same-length-2 returns)
+    (tie.spec (λ c κs. search needs) analyze-numbers-requires (λ c. search needs) (λ c. search needs) returns)

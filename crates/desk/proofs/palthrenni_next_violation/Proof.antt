@@ -6,14 +6,8 @@ use borrow.Author.Needs.{needs}
 use Rattle.desk.proofs.palthrenni_next_violation.Statement.{statement}
 use Rattle.desk.proofs.palthrenni_next_violation.Tie as tie
 
-next-violation-requires : tie.Need-next-violation-requires
-next-violation-requires c κs = search needs
-
 next-numbers-requires : tie.Need-next-numbers-requires
 next-numbers-requires c κs = rw (c .before .before .next-violation .ensures .0) (next-fits _ _ _ _)
-
-same-length : tie.Need-same-length
-same-length c = search needs
 
 returns : tie.Need-returns
 returns c =
@@ -23,4 +17,4 @@ returns c =
 
 pub palthrenni-next-violation-spec : {M : Type 1} → statement M
 palthrenni-next-violation-spec =
-    tie.close (tie.spec next-violation-requires next-numbers-requires same-length returns)
+    tie.close (tie.spec (λ c κs. search needs) next-numbers-requires (λ c. search needs) returns)

@@ -5,17 +5,8 @@ use borrow.Author.Needs.{needs}
 use Rattle.desk.proofs.palthrenni_prune.Statement.{statement}
 use Rattle.desk.proofs.palthrenni_prune.Tie as tie
 
-prune-requires : tie.Need-prune-requires
-prune-requires c κs = search needs
-
 verdict-numbers-requires : tie.Need-verdict-numbers-requires
 verdict-numbers-requires c κs = rw (c .before .before .before .before .prune .ensures .0) (checked-fits _ _ _)
-
-same-length : tie.Need-same-length
-same-length c = search needs
-
-same-length-2 : tie.Need-same-length-2
-same-length-2 c = search needs
 
 returns : tie.Need-returns
 returns c =
@@ -25,4 +16,5 @@ returns c =
 
 pub palthrenni-prune-spec : {M : Type 1} → statement M
 palthrenni-prune-spec =
-    tie.close (tie.spec prune-requires verdict-numbers-requires same-length same-length-2 returns)
+    tie.close
+    (tie.spec (λ c κs. search needs) verdict-numbers-requires (λ c. search needs) (λ c. search needs) returns)

@@ -6,9 +6,6 @@ use borrow.Author.Needs.{needs}
 use Rattle.desk.proofs.palthrenni_read.Statement.{statement}
 use Rattle.desk.proofs.palthrenni_read.Tie as tie
 
-read-requires : tie.Need-read-requires
-read-requires c κs = search needs
-
 verdict-numbers-requires : tie.Need-verdict-numbers-requires
 verdict-numbers-requires c κs = rw (ap (λ (o : Outcome). o .verdict) (c .read .ensures)) (read-fits _)
 
@@ -18,4 +15,4 @@ returns c =
     same-back (n .0) (n .1) refl refl refl refl
 
 pub palthrenni-read-spec : {M : Type 1} → statement M
-palthrenni-read-spec = tie.close (tie.spec read-requires verdict-numbers-requires returns)
+palthrenni-read-spec = tie.close (tie.spec (λ c κs. search needs) verdict-numbers-requires returns)

@@ -6,20 +6,8 @@ use borrow.Author.Needs.{needs}
 use Rattle.desk.proofs.palthrenni_repair_forward.Statement.{statement}
 use Rattle.desk.proofs.palthrenni_repair_forward.Tie as tie
 
-repair-forward-requires : tie.Need-repair-forward-requires
-repair-forward-requires c κs = search needs
-
 write-numbers-requires : tie.Need-write-numbers-requires
 write-numbers-requires c κs = rw (ap (λ (a : After). a .answer) (c .before .before .before .before .before .before .repair-forward .ensures)) (repair-fits _ _ _ _ _)
-
-same-length : tie.Need-same-length
-same-length c = search needs
-
-same-length-2 : tie.Need-same-length-2
-same-length-2 c = search needs
-
-same-length-3 : tie.Need-same-length-3
-same-length-3 c = search needs
 
 returns : tie.Need-returns
 returns c =
@@ -30,10 +18,5 @@ returns c =
 pub palthrenni-repair-forward-spec : {M : Type 1} → statement M
 palthrenni-repair-forward-spec =
     tie.close
-    (tie.spec
-    repair-forward-requires
-    write-numbers-requires
-    same-length
-    same-length-2
-    same-length-3
-    returns)
+    (tie.spec (λ c κs. search needs) write-numbers-requires (λ c. search needs) (λ c. search needs)
+    (λ c. search needs) returns)

@@ -6,28 +6,10 @@ use borrow.Author.Needs.{needs}
 use Rattle.desk.proofs.palthrenni_repair_inside_out.Statement.{statement}
 use Rattle.desk.proofs.palthrenni_repair_inside_out.Tie as tie
 
-repair-inside-out-requires : tie.Need-repair-inside-out-requires
-repair-inside-out-requires c κs = search needs
-
-without-routines-requires : tie.Need-without-routines-requires
-without-routines-requires c κs = search needs
-
 write-numbers-requires : tie.Need-write-numbers-requires
 write-numbers-requires c κs =
     let x = c .before .before .before .before .before .before .before .repair-inside-out .ensures .0 in
     rw (c .without-routines .ensures ∙ ap (λ (a : After). a .answer) x) (repair-fits _ _ _ _ _)
-
-reanalyzed-of-requires : tie.Need-reanalyzed-of-requires
-reanalyzed-of-requires c κs = search needs
-
-same-length : tie.Need-same-length
-same-length c = search needs
-
-same-length-2 : tie.Need-same-length-2
-same-length-2 c = search needs
-
-same-length-3 : tie.Need-same-length-3
-same-length-3 c = search needs
 
 returns : tie.Need-returns
 returns c =
@@ -41,12 +23,5 @@ returns c =
 pub palthrenni-repair-inside-out-spec : {M : Type 1} → statement M
 palthrenni-repair-inside-out-spec =
     tie.close
-    (tie.spec
-    repair-inside-out-requires
-    without-routines-requires
-    write-numbers-requires
-    reanalyzed-of-requires
-    same-length
-    same-length-2
-    same-length-3
-    returns)
+    (tie.spec (λ c κs. search needs) (λ c κs. search needs) write-numbers-requires (λ c κs. search needs)
+    (λ c. search needs) (λ c. search needs) (λ c. search needs) returns)

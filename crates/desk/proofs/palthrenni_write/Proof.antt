@@ -5,14 +5,8 @@ use borrow.Author.Needs.{needs}
 use Rattle.desk.proofs.palthrenni_write.Statement.{statement}
 use Rattle.desk.proofs.palthrenni_write.Tie as tie
 
-write-requires : tie.Need-write-requires
-write-requires c κs = search needs
-
 write-numbers-requires : tie.Need-write-numbers-requires
 write-numbers-requires c κs = rw (c .before .before .write .ensures .0) (write-fits _ _)
-
-same-length : tie.Need-same-length
-same-length c = search needs
 
 returns : tie.Need-returns
 returns c =
@@ -21,5 +15,4 @@ returns c =
     same-back (n .0) (n .1) (same-size 0 (n .2)) refl (e .1) refl
 
 pub palthrenni-write-spec : {M : Type 1} → statement M
-palthrenni-write-spec =
-    tie.close (tie.spec write-requires write-numbers-requires same-length returns)
+palthrenni-write-spec = tie.close (tie.spec (λ c κs. search needs) write-numbers-requires (λ c. search needs) returns)

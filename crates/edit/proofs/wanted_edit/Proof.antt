@@ -5,9 +5,6 @@ use borrow.Author.Needs.{needs}
 use Rattle.edit.proofs.wanted_edit.Statement.{statement}
 use Rattle.edit.proofs.wanted_edit.Tie as tie
 
-read-edit-requires : tie.Need-read-edit-requires
-read-edit-requires c κs = search needs
-
 wanted-by-requires : tie.Need-wanted-by-requires
 wanted-by-requires c κs =
     let z = c .before .before .before in
@@ -18,4 +15,4 @@ unfolding wantedEdit
 returns c = c .wanted-by .ensures ∙ rw (c .before .read-edit .ensures)
 
 pub wanted-edit-spec : {M : Type 1} → statement M
-wanted-edit-spec = tie.close (tie.spec read-edit-requires wanted-by-requires returns)
+wanted-edit-spec = tie.close (tie.spec (λ c κs. search needs) wanted-by-requires returns)

@@ -6,22 +6,10 @@ use Rattle.prune.proofs.Closed.{cleared-sound}
 use Rattle.prune.proofs.keep.Statement.{statement}
 use Rattle.prune.proofs.keep.Tie as tie
 
-initial-flags-requires : tie.Need-initial-flags-requires
-initial-flags-requires c κs = search needs
-
-clear-requires : tie.Need-clear-requires
-clear-requires c κs = search needs
-
-keep-starts-requires : tie.Need-keep-starts-requires
-keep-starts-requires c κs = search needs
-
 keep-supported-requires : tie.Need-keep-supported-requires
 keep-supported-requires c κs =
     let z = c .before .before .before .before .before .before .before .before .before .before .before .before .before .before .before .before .before .pre in
     (z .0 .edges-ascend, (z .1 .0, c .before .before .before .keep-starts .kept .1 .1 .0 ∙ c .before .before .before .before .before .before .before .before .clear .kept .0 ∙ z .1 .1))
-
-same-length : tie.Need-same-length
-same-length c = search needs
 
 returns : tie.Need-returns
 returns c =
@@ -35,10 +23,5 @@ returns c =
 pub keep-spec : {M : Type 1} → statement M
 keep-spec =
     tie.close
-    (tie.spec
-    initial-flags-requires
-    clear-requires
-    keep-starts-requires
-    keep-supported-requires
-    same-length
-    returns)
+    (tie.spec (λ c κs. search needs) (λ c κs. search needs) (λ c κs. search needs) keep-supported-requires
+    (λ c. search needs) returns)

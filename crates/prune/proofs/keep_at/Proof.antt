@@ -8,9 +8,6 @@ use borrow.Author.Needs.{needs}
 use Rattle.prune.proofs.keep_at.Statement.{statement}
 use Rattle.prune.proofs.keep_at.Tie as tie
 
-shared-slice-read-if1 : tie.Need-shared-slice-read-if1
-shared-slice-read-if1 c = search needs
-
 returns : tie.Need-returns
 unfolding keepsAt
 returns c =
@@ -18,42 +15,15 @@ returns c =
     let unmarked : getD (z .args .marks .now) (z .args .i) 0 ≡ 0 = c .if1 .taken in
     (rw (eq-eqb _ _ unmarked) refl, refl)
 
-slice-read-if2 : tie.Need-slice-read-if2
-slice-read-if2 c = search needs
-
 returns-2 : tie.Need-returns-2
 unfolding keepsAt
 returns-2 c = (rw (ne-eqb _ _ (c .before .before .if1 .left), ne-eqb _ _ (c .if2 .taken)) refl, refl)
-
-cast-f : tie.Need-cast-f
-cast-f c = search needs
-
-cast-n : tie.Need-cast-n
-cast-n c = search needs
-
-cast-r : tie.Need-cast-r
-cast-r c = search needs
-
-cast-q : tie.Need-cast-q
-cast-q c = search needs
-
-has-support-requires : tie.Need-has-support-requires
-has-support-requires c κs = search needs
-
-slice-write-kept : tie.Need-slice-write-kept
-slice-write-kept c = search needs
-
-same-length : tie.Need-same-length
-same-length c = search needs
 
 returns-3 : tie.Need-returns-3
 unfolding keepsAt routineOf nodeOf rootOf stateOf
 returns-3 c =
     let b = c .before .before .before in
     (rw (ne-eqb _ _ (b .before .before .if1 .left), eq-eqb _ _ (b .if2 .left)) (sym (c .if3 .taken) ∙ c .before .has-support .ensures), refl)
-
-same-length-2 : tie.Need-same-length-2
-same-length-2 c = search needs
 
 returns-4 : tie.Need-returns-4
 unfolding keepsAt routineOf nodeOf rootOf stateOf
@@ -64,18 +34,6 @@ returns-4 c =
 pub keep-at-spec : {M : Type 1} → statement M
 keep-at-spec =
     tie.close
-    (tie.spec
-    shared-slice-read-if1
-    returns
-    slice-read-if2
-    returns-2
-    cast-f
-    cast-n
-    cast-r
-    cast-q
-    has-support-requires
-    slice-write-kept
-    same-length
-    returns-3
-    same-length-2
-    returns-4)
+    (tie.spec (λ c. search needs) returns (λ c. search needs) returns-2 (λ c. search needs) (λ c. search needs)
+    (λ c. search needs) (λ c. search needs) (λ c κs. search needs) (λ c. search needs) (λ c. search needs) returns-3
+    (λ c. search needs) returns-4)

@@ -16,14 +16,8 @@ Inv-loop keys m part lines k marks kept₀ f first more₀ i₀ kept more i =
 abbrev μ-loop : tie.MeasureT-loop
 μ-loop keys m part lines k marks kept₀ f first more₀ i₀ kept more i = first + 1024 - i
 
-mul-first : tie.Need-mul-first Inv-loop μ-loop
-mul-first c = search needs
-
 loop-holds : tie.Need-loop-holds Inv-loop μ-loop
 loop-holds c = (omega arith, omega arith, pass-none _ _ _)
-
-add-loop : tie.Need-add-loop Inv-loop μ-loop
-add-loop c = search needs
 
 keep-at-requires : tie.Need-keep-at-requires Inv-loop μ-loop
 keep-at-requires c κs =
@@ -32,12 +26,6 @@ keep-at-requires c κs =
     let z = s .pre in
     let e : p .loop .i / 1024 ≡ s .args .f = omega arith in
     ((z .0 .0, z .0 .1, omega arith), (rw e (z .1 .0), (z .1 .1 .0, p .loop .inv .2 .len ∙ z .1 .1 .1)))
-
-add-i : tie.Need-add-i Inv-loop μ-loop
-add-i c = search needs
-
-loop-less : tie.Need-loop-less Inv-loop μ-loop
-loop-less c = search needs
 
 loop-again : tie.Need-loop-again Inv-loop μ-loop
 loop-again c =
@@ -60,15 +48,5 @@ returns c =
 pub keep-numbers-spec : {M : Type 1} → statement M
 keep-numbers-spec =
     tie.close
-    (tie.spec
-    Inv-loop
-    μ-loop
-    mul-first
-    loop-holds
-    add-loop
-    keep-at-requires
-    add-i
-    loop-less
-    loop-again
-    same-length
-    returns)
+    (tie.spec Inv-loop μ-loop (λ c. search needs) loop-holds (λ c. search needs) keep-at-requires
+    (λ c. search needs) (λ c. search needs) loop-again same-length returns)

@@ -24,12 +24,6 @@ keep-routine-requires c κs =
     let z = p .before .before .before .before .before .pre in
     ((z .0 .0, z .0 .1, omega arith), (z .1 .0, (z .1 .1 .0, p .loop .inv .1 .len ∙ z .1 .1 .1)))
 
-add-f : tie.Need-add-f Inv-loop μ-loop
-add-f c = search needs
-
-loop-less : tie.Need-loop-less Inv-loop μ-loop
-loop-less c = search needs
-
 loop-again : tie.Need-loop-again Inv-loop μ-loop
 loop-again c =
     let p = c .before .before .before .before .before in
@@ -48,13 +42,5 @@ returns c =
 pub keep-pass-spec : {M : Type 1} → statement M
 keep-pass-spec =
     tie.close
-    (tie.spec
-    Inv-loop
-    μ-loop
-    loop-holds
-    keep-routine-requires
-    add-f
-    loop-less
-    loop-again
-    same-length
-    returns)
+    (tie.spec Inv-loop μ-loop loop-holds keep-routine-requires (λ c. search needs) (λ c. search needs) loop-again
+    same-length returns)

@@ -21,25 +21,10 @@ abbrev μ-loop : tie.MeasureT-loop
 loop-holds : tie.Need-loop-holds Inv-loop μ-loop
 loop-holds c = (omega arith, c .before .before .pre .1, λ p e s. start-none s)
 
-number-of-requires : tie.Need-number-of-requires Inv-loop μ-loop
-number-of-requires c κs = search needs
-
-cast-keep-when : tie.Need-cast-keep-when Inv-loop μ-loop
-cast-keep-when c = search needs
-
-element-copy-out-keep-when : tie.Need-element-copy-out-keep-when Inv-loop μ-loop
-element-copy-out-keep-when c = search needs
-
 keep-when-requires : tie.Need-keep-when-requires Inv-loop μ-loop
 keep-when-requires c κs =
     let p = c .before .before .before .before in
     (p .before .before .before .pre .0, p .loop .inv .1)
-
-add-q : tie.Need-add-q Inv-loop μ-loop
-add-q c = search needs
-
-loop-less : tie.Need-loop-less Inv-loop μ-loop
-loop-less c = search needs
 
 loop-again : tie.Need-loop-again Inv-loop μ-loop
 loop-again c =
@@ -63,16 +48,5 @@ returns c p e s =
 pub keep-starts-spec : {M : Type 1} → statement M
 keep-starts-spec =
     tie.close
-    (tie.spec
-    Inv-loop
-    μ-loop
-    loop-holds
-    number-of-requires
-    cast-keep-when
-    element-copy-out-keep-when
-    keep-when-requires
-    add-q
-    loop-less
-    loop-again
-    same-length
-    returns)
+    (tie.spec Inv-loop μ-loop loop-holds (λ c κs. search needs) (λ c. search needs) (λ c. search needs)
+    keep-when-requires (λ c. search needs) (λ c. search needs) loop-again same-length returns)

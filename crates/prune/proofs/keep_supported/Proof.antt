@@ -13,18 +13,6 @@ use Rattle.prune.proofs.Closed.{its-tables, settled-shows}
 use Rattle.prune.proofs.keep_supported.Statement.{statement}
 use Rattle.prune.proofs.keep_supported.Tie as tie
 
-in-use-requires : tie.Need-in-use-requires
-in-use-requires c κs = search needs
-
-in-use-requires-2 : tie.Need-in-use-requires-2
-in-use-requires-2 c κs = search needs
-
-slice-aggregate-keep-all : tie.Need-slice-aggregate-keep-all
-slice-aggregate-keep-all c = search needs
-
-slice-aggregate-keep-all-2 : tie.Need-slice-aggregate-keep-all-2
-slice-aggregate-keep-all-2 c = search needs
-
 keep-all-requires : tie.Need-keep-all-requires
 keep-all-requires c κs =
     let z = c .before .before .before .before .before .before .before .before .before in
@@ -34,9 +22,6 @@ keep-all-requires c κs =
     let v = c .before .before .before .in-use2 .ensures in
     let up = subst (λ (ks : List ℕ). Ascending 0 (map edgeKey (map edgeOf ks))) (sym (in-use-same (z .args .edges .keys) (z .args .edges .count) room u)) (z .pre .0) in
     ((omega arith, omega arith), (up, z .pre .1))
-
-same-length : tie.Need-same-length
-same-length c = search needs
 
 returns : tie.Need-returns
 returns c p w e f s =
@@ -49,11 +34,5 @@ returns c p w e f s =
 pub keep-supported-spec : {M : Type 1} → statement M
 keep-supported-spec =
     tie.close
-    (tie.spec
-    in-use-requires
-    in-use-requires-2
-    slice-aggregate-keep-all
-    slice-aggregate-keep-all-2
-    keep-all-requires
-    same-length
-    returns)
+    (tie.spec (λ c κs. search needs) (λ c κs. search needs) (λ c. search needs) (λ c. search needs)
+    keep-all-requires (λ c. search needs) returns)

@@ -7,15 +7,6 @@ use borrow.Author.Needs.{needs}
 use Rattle.prune.proofs.keep_when.Statement.{statement}
 use Rattle.prune.proofs.keep_when.Tie as tie
 
-shared-slice-read-if3 : tie.Need-shared-slice-read-if3
-shared-slice-read-if3 c = search needs
-
-slice-write-kept : tie.Need-slice-write-kept
-slice-write-kept c = search needs
-
-same-length : tie.Need-same-length
-same-length c = search needs
-
 returns : tie.Need-returns
 returns c = rw (c .before .before .before .if1 .taken, ne-eqb _ _ (c .if3 .taken)) refl
 
@@ -33,11 +24,4 @@ returns-4 c = rw (c .if1 .left) refl
 pub keep-when-spec : {M : Type 1} → statement M
 keep-when-spec =
     tie.close
-    (tie.spec
-    shared-slice-read-if3
-    slice-write-kept
-    same-length
-    returns
-    returns-2
-    returns-3
-    returns-4)
+    (tie.spec (λ c. search needs) (λ c. search needs) (λ c. search needs) returns returns-2 returns-3 returns-4)

@@ -4,21 +4,6 @@ use Rattle.prune.proofs.Closed.{cleared-is, copied-shows}
 use Rattle.prune.proofs.prune_program.Statement.{statement}
 use Rattle.prune.proofs.prune_program.Tie as tie
 
-keep-requires : tie.Need-keep-requires
-keep-requires c κs = search needs
-
-copy-requires : tie.Need-copy-requires
-copy-requires c κs = search needs
-
-clear-requires : tie.Need-clear-requires
-clear-requires c κs = search needs
-
-same-length : tie.Need-same-length
-same-length c = search needs
-
-same-length-2 : tie.Need-same-length-2
-same-length-2 c = search needs
-
 returns : tie.Need-returns
 returns c =
     let z = c .before .before .before .before .before .before .before .before .before .before .before .before .before .before .before .before in
@@ -28,10 +13,5 @@ returns c =
 pub prune-program-spec : {M : Type 1} → statement M
 prune-program-spec =
     tie.close
-    (tie.spec
-    keep-requires
-    copy-requires
-    clear-requires
-    same-length
-    same-length-2
-    returns)
+    (tie.spec (λ c κs. search needs) (λ c κs. search needs) (λ c κs. search needs) (λ c. search needs)
+    (λ c. search needs) returns)

@@ -8,18 +8,6 @@ use borrow.Author.Needs.{needs}
 use Rattle.reader.proofs.no_program.Statement.{statement}
 use Rattle.reader.proofs.no_program.Tie as tie
 
-no-keys-requires : tie.Need-no-keys-requires
-no-keys-requires c κs = search needs
-
-no-keys-requires-2 : tie.Need-no-keys-requires-2
-no-keys-requires-2 c κs = search needs
-
-no-states-requires : tie.Need-no-states-requires
-no-states-requires c κs = search needs
-
-no-states-requires-2 : tie.Need-no-states-requires-2
-no-states-requires-2 c κs = search needs
-
 returns : tie.Need-returns
 returns c =
     program-parts noProgram refl refl (ap (map edgeOf) (c .before .before .before .no-keys .ensures .0))
@@ -29,4 +17,4 @@ returns c =
 pub no-program-spec : {M : Type 1} → statement M
 no-program-spec =
     tie.close
-    (tie.spec no-keys-requires no-keys-requires-2 no-states-requires no-states-requires-2 returns)
+    (tie.spec (λ c κs. search needs) (λ c κs. search needs) (λ c κs. search needs) (λ c κs. search needs) returns)

@@ -17,9 +17,6 @@ Inv-loop file s₀ at₀ s at = Reads file s at
 abbrev μ-loop : tie.MeasureT-loop
 μ-loop file s₀ at₀ s at = length file - at
 
-start-reader-requires : tie.Need-start-reader-requires Inv-loop μ-loop
-start-reader-requires c κs = search needs
-
 loop-holds : tie.Need-loop-holds Inv-loop μ-loop
 loop-holds c = begins _ _ (c .start-reader .ensures)
 
@@ -28,9 +25,6 @@ add-refuse c =
     let p = c .before .before .before in
     omega (arith, few _ (p .loop .s) (p .loop .at) (p .loop .inv))
 
-refuse-requires : tie.Need-refuse-requires Inv-loop μ-loop
-refuse-requires c κs = search needs
-
 returns : tie.Need-returns Inv-loop μ-loop
 returns c =
     let p = c .before .before .before .before in
@@ -38,19 +32,10 @@ returns c =
     let h : p .loop .at < length file = omega arith in
     c .refuse .ensures ∙ sym (over file (p .loop .s) (p .loop .at) (p .loop .inv) h (c .before .before .if1 .taken))
 
-read-line-requires : tie.Need-read-line-requires Inv-loop μ-loop
-read-line-requires c κs = search needs
-
-fault-of-requires : tie.Need-fault-of-requires Inv-loop μ-loop
-fault-of-requires c κs = search needs
-
 add-refuse-2 : tie.Need-add-refuse-2 Inv-loop μ-loop
 add-refuse-2 c =
     let p = c .before .before .before .before .before .before .before in
     omega (arith, few _ (p .loop .s) (p .loop .at) (p .loop .inv))
-
-refuse-requires-2 : tie.Need-refuse-requires-2 Inv-loop μ-loop
-refuse-requires-2 c κs = search needs
 
 returns-2 : tie.Need-returns-2 Inv-loop μ-loop
 returns-2 c =
@@ -95,9 +80,6 @@ loop-again c =
     rw l (continues file (p .loop .s) (p .loop .at) (p .loop .inv) (c .before .before .before .before .before .if1 .left) j h _
     (c .after-frame .ensures ∙ ap (λ (x : ReadLine). after (progressOf (p .loop .s)) (x .line)) l))
 
-accept-requires : tie.Need-accept-requires Inv-loop μ-loop
-accept-requires c κs = search needs
-
 returns-3 : tie.Need-returns-3 Inv-loop μ-loop
 returns-3 c =
     let p = c .before .before .before .before in
@@ -109,9 +91,6 @@ add-refuse-3 c =
     let p = c .before .before .before in
     omega (arith, few _ (p .loop .s) (p .loop .at) (p .loop .inv))
 
-refuse-requires-3 : tie.Need-refuse-requires-3 Inv-loop μ-loop
-refuse-requires-3 c κs = search needs
-
 returns-4 : tie.Need-returns-4 Inv-loop μ-loop
 returns-4 c =
     let p = c .before .before .before .before in
@@ -121,24 +100,6 @@ returns-4 c =
 pub read-spec : {M : Type 1} → statement M
 read-spec =
     tie.close
-    (tie.spec
-    Inv-loop
-    μ-loop
-    start-reader-requires
-    loop-holds
-    add-refuse
-    refuse-requires
-    returns
-    read-line-requires
-    fault-of-requires
-    add-refuse-2
-    refuse-requires-2
-    returns-2
-    after-frame-requires
-    loop-less
-    loop-again
-    accept-requires
-    returns-3
-    add-refuse-3
-    refuse-requires-3
-    returns-4)
+    (tie.spec Inv-loop μ-loop (λ c κs. search needs) loop-holds add-refuse (λ c κs. search needs) returns
+    (λ c κs. search needs) (λ c κs. search needs) add-refuse-2 (λ c κs. search needs) returns-2 after-frame-requires
+    loop-less loop-again (λ c κs. search needs) returns-3 add-refuse-3 (λ c κs. search needs) returns-4)

@@ -6,12 +6,6 @@ use borrow.Author.Needs.{needs}
 use Rattle.repair.proofs.measure.Statement.{statement}
 use Rattle.repair.proofs.measure.Tie as tie
 
-enum-known-v : tie.Need-enum-known-v
-enum-known-v c = search needs
-
-enum-told : tie.Need-enum-told
-enum-told c = search needs
-
 returns : tie.Need-returns
 returns c =
     let z = c .before .before .before .before in
@@ -40,4 +34,4 @@ returns-5 c =
 
 pub measure-spec : {M : Type 1} → statement M
 measure-spec =
-    tie.close (tie.spec enum-known-v enum-told returns returns-2 returns-3 returns-4 returns-5)
+    tie.close (tie.spec (λ c. search needs) (λ c. search needs) returns returns-2 returns-3 returns-4 returns-5)

@@ -7,18 +7,6 @@ use borrow.Author.Needs.{needs}
 use Rattle.repair.proofs.repair_file.Statement.{statement}
 use Rattle.repair.proofs.repair_file.Tie as tie
 
-read-requires : tie.Need-read-requires
-read-requires c κs = search needs
-
-measure-requires : tie.Need-measure-requires
-measure-requires c κs = search needs
-
-enum-known-measured : tie.Need-enum-known-measured
-enum-known-measured c = search needs
-
-enum-told : tie.Need-enum-told
-enum-told c = search needs
-
 repair-wanted-requires : tie.Need-repair-wanted-requires
 repair-wanted-requires c κs =
     let z = c .before .before .before .before .before .before .before .before .before .before .before .before .before in
@@ -36,15 +24,6 @@ returns c =
     let h = c .before .measured .given .1 in
     (refused-answer (z .args .file .now) (z .args .marks .now) (z .args .line .now) (z .args .output .now) (z .args .work .now) _ e _ k _ _ h, λ i. number-unmeasured (z .args .file .now) (z .args .marks .now) (z .args .line .now) (z .args .output .now) (z .args .work .now) _ e _ k _ _ h)
 
-same-length : tie.Need-same-length
-same-length c = search needs
-
-same-length-2 : tie.Need-same-length-2
-same-length-2 c = search needs
-
-same-length-3 : tie.Need-same-length-3
-same-length-3 c = search needs
-
 returns-2 : tie.Need-returns-2
 returns-2 c =
     let z = c .before .before .before .before .before .before .before .before .before .before .before .before .before .before .before .before .before .before .before .before in
@@ -57,14 +36,5 @@ returns-2 c =
 pub repair-file-spec : {M : Type 1} → statement M
 repair-file-spec =
     tie.close
-    (tie.spec
-    read-requires
-    measure-requires
-    enum-known-measured
-    enum-told
-    repair-wanted-requires
-    returns
-    same-length
-    same-length-2
-    same-length-3
-    returns-2)
+    (tie.spec (λ c κs. search needs) (λ c κs. search needs) (λ c. search needs) (λ c. search needs)
+    repair-wanted-requires returns (λ c. search needs) (λ c. search needs) (λ c. search needs) returns-2)

@@ -11,21 +11,9 @@ use Rattle.repair.proofs.repair_inside_out.Lts as lts
 use Rattle.repair.proofs.repair_file.Reads as repair-file-reads
 
 -- src/lib.rt:172:5
-repair-file-requires : tie.Need-repair-file-requires
-repair-file-requires c κs = search needs
-
 -- src/lib.rt:161:1
-same-length : tie.Need-same-length
-same-length c = search needs
-
 -- src/lib.rt:161:1
-same-length-2 : tie.Need-same-length-2
-same-length-2 c = search needs
-
 -- src/lib.rt:161:1
-same-length-3 : tie.Need-same-length-3
-same-length-3 c = search needs
-
 -- src/lib.rt:161:1
 returns : tie.Need-returns
 returns c =
@@ -34,4 +22,4 @@ returns c =
 
 pub repair-inside-out-spec : {M : Type 1} → statement M
 repair-inside-out-spec =
-    tie.close (tie.spec repair-file-requires same-length same-length-2 same-length-3 returns)
+    tie.close (tie.spec (λ c κs. search needs) (λ c. search needs) (λ c. search needs) (λ c. search needs) returns)

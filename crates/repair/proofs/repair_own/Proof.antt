@@ -17,9 +17,6 @@ mend-requires c κs =
     let o = c .before .before .before .before .before .is-own .ensures in
     (z .pre .0, (same-equal _ _ (sym (o .0) ∙ c .before .before .if1 .taken), ap length (o .1) ∙ none-length))
 
-slice-aggregate-bits-of : tie.Need-slice-aggregate-bits-of
-slice-aggregate-bits-of c = search needs
-
 bits-of-requires : tie.Need-bits-of-requires
 bits-of-requires c κs =
     let o = c .before .before .before .before .before .before .before .before .mend .ok in
@@ -31,27 +28,12 @@ write-program-requires c κs =
     let x = room (z .args .e) (programOf (z .args .p)) (z .args .marks .now) (z .args .output .now) (z .pre .0 .0) (z .pre .0 .1) (c .before .before .before .before .before .before .before .before .before .before .mend .ensures .0) (z .pre .1 .1) in
     (x .0 .transitions-fit, x .1)
 
-same-length : tie.Need-same-length
-same-length c = search needs
-
-same-length-2 : tie.Need-same-length-2
-same-length-2 c = search needs
-
-same-length-3 : tie.Need-same-length-3
-same-length-3 c = search needs
-
 returns : tie.Need-returns
 returns c =
     let z = c .before .before .before .before .before .before .before .before .before .before .before .before .before .before .before .before .before .before .before .before .before .before .before .before .before in
     let t = sym (c .before .before .before .before .before .before .before .before .before .before .before .before .before .before .before .before .before .before .before .is-own .ensures .0) ∙ c .before .before .before .before .before .before .before .before .before .before .before .before .before .before .before .before .if1 .taken in
     let r = c .before .before .before .before .before .before .before .before .before .before .before .before .before .mend .ensures in
     (own-answer (z .args .e) (programOf (z .args .p)) (z .args .marks .now) (z .args .output .now) t (r .0) (c .before .before .write-program .ensures), λ i. bits-of-flags (r .1 i) (c .before .before .before .before .bits-of .ensures))
-
-same-length-4 : tie.Need-same-length-4
-same-length-4 c = search needs
-
-same-length-5 : tie.Need-same-length-5
-same-length-5 c = search needs
 
 returns-2 : tie.Need-returns-2
 returns-2 c =
@@ -62,16 +44,6 @@ returns-2 c =
 pub repair-own-spec : {M : Type 1} → statement M
 repair-own-spec =
     tie.close
-    (tie.spec
-    is-own-requires
-    mend-requires
-    slice-aggregate-bits-of
-    bits-of-requires
-    write-program-requires
-    same-length
-    same-length-2
-    same-length-3
-    returns
-    same-length-4
-    same-length-5
+    (tie.spec is-own-requires mend-requires (λ c. search needs) bits-of-requires write-program-requires
+    (λ c. search needs) (λ c. search needs) (λ c. search needs) returns (λ c. search needs) (λ c. search needs)
     returns-2)

@@ -14,12 +14,6 @@ wanted-edit-requires : tie.Need-wanted-edit-requires
 wanted-edit-requires c κs =
     c .before .before .before .before .pre .0
 
-enum-known-wanted : tie.Need-enum-known-wanted
-enum-known-wanted c = search needs
-
-enum-known-wanted-2 : tie.Need-enum-known-wanted-2
-enum-known-wanted-2 c = search needs
-
 repair-own-requires : tie.Need-repair-own-requires
 repair-own-requires c κs =
     let z = c .before .before .before .before .before .before .before .before .before .before .before in
@@ -33,15 +27,6 @@ returns c =
     let h = c .before .wanted .given .1 in
     (wanted-refused (programOf (z .args .p)) (z .args .marks .now) (z .args .line .now) (z .args .output .now) (z .args .work .now) e _ h, λ i. number-unwanted (programOf (z .args .p)) (z .args .line .now) e _ h)
 
-same-length : tie.Need-same-length
-same-length c = search needs
-
-same-length-2 : tie.Need-same-length-2
-same-length-2 c = search needs
-
-same-length-3 : tie.Need-same-length-3
-same-length-3 c = search needs
-
 returns-2 : tie.Need-returns-2
 returns-2 c =
     let z = c .before .before .before .before .before .before .before .before .before .before .before .before .before .before .before .before .before .before in
@@ -54,13 +39,5 @@ returns-2 c =
 pub repair-wanted-spec : {M : Type 1} → statement M
 repair-wanted-spec =
     tie.close
-    (tie.spec
-    wanted-edit-requires
-    enum-known-wanted
-    enum-known-wanted-2
-    repair-own-requires
-    returns
-    same-length
-    same-length-2
-    same-length-3
-    returns-2)
+    (tie.spec wanted-edit-requires (λ c. search needs) (λ c. search needs) repair-own-requires returns
+    (λ c. search needs) (λ c. search needs) (λ c. search needs) returns-2)

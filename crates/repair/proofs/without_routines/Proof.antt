@@ -9,13 +9,7 @@ use Rattle.repair.proofs.without_routines.Reads as reads
 use Rattle.repair.proofs.without_routines.Lts as lts
 
 -- src/lib.rt:139:32
-enum-known-a : tie.Need-enum-known-a
-enum-known-a c = search needs
-
 -- src/lib.rt:140:31
-enum-known-a-2 : tie.Need-enum-known-a-2
-enum-known-a-2 c = search needs
-
 -- src/lib.rt:135:1
 returns : tie.Need-returns
 returns c = rw (c .before .a .given .1)
@@ -25,4 +19,4 @@ returns-2 : tie.Need-returns-2
 returns-2 c = rw (c .before .a2 .given .1)
 
 pub without-routines-spec : {M : Type 1} → statement M
-without-routines-spec = tie.close (tie.spec enum-known-a enum-known-a-2 returns returns-2)
+without-routines-spec = tie.close (tie.spec (λ c. search needs) (λ c. search needs) returns returns-2)

@@ -10,21 +10,12 @@ use Rattle.report.proofs.block.Tie as tie
 abbrev start : tie.After-has-block → tie.Start
 start b = b .before .before .before .before .before
 
-read-requires : tie.Need-read-requires
-read-requires c κs = search needs
-
-has-block-requires : tie.Need-has-block-requires
-has-block-requires c κs = search needs
-
 put-block-requires : tie.Need-put-block-requires
 put-block-requires c κs =
     let t = c .before .before in
     let z = start (t .before) in
     fits (t .before .before .read .result .verdict) (length (z .args .marks .now)) (length (z .args .output .now))
     (sym (t .before .has-block .ensures) ∙ t .if1 .taken)
-
-same-length : tie.Need-same-length
-same-length c = search needs
 
 returns : tie.Need-returns
 returns c =
@@ -51,4 +42,4 @@ returns-2 c =
 pub block-spec : {M : Type 1} → statement M
 block-spec =
     tie.close
-    (tie.spec read-requires has-block-requires put-block-requires same-length returns returns-2)
+    (tie.spec (λ c κs. search needs) (λ c κs. search needs) put-block-requires (λ c. search needs) returns returns-2)

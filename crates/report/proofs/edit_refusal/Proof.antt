@@ -12,16 +12,10 @@ use Rattle.report.proofs.edit_refusal.Tie as tie
 returns : tie.Need-returns
 returns c = no-line-printed _ _ (c .if1 .taken)
 
-edit-refusal-line-requires : tie.Need-edit-refusal-line-requires
-edit-refusal-line-requires c κs = search needs
-
 put-line-requires : tie.Need-put-line-requires
 put-line-requires c κs =
     let n : c .before .edit-refusal-line .result .count ≡ 2 = ap (λ (l : Line). l .count) (c .before .edit-refusal-line .ensures) in
     omega arith
-
-same-length : tie.Need-same-length
-same-length c = search needs
 
 returns-2 : tie.Need-returns-2
 returns-2 c =
@@ -34,4 +28,4 @@ returns-2 c =
 
 pub edit-refusal-spec : {M : Type 1} → statement M
 edit-refusal-spec =
-    tie.close (tie.spec returns edit-refusal-line-requires put-line-requires same-length returns-2)
+    tie.close (tie.spec returns (λ c κs. search needs) put-line-requires (λ c. search needs) returns-2)

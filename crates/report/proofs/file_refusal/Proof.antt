@@ -13,16 +13,10 @@ use Rattle.report.proofs.file_refusal.Tie as tie
 returns : tie.Need-returns
 returns c = no-line-printed _ _ (c .if1 .taken)
 
-file-refusal-line-requires : tie.Need-file-refusal-line-requires
-file-refusal-line-requires c κs = search needs
-
 put-line-requires : tie.Need-put-line-requires
 put-line-requires c κs =
     let n : c .before .file-refusal-line .result .count ≡ 4 = ap (λ (l : Line). l .count) (c .before .file-refusal-line .ensures) in
     omega arith
-
-same-length : tie.Need-same-length
-same-length c = search needs
 
 returns-2 : tie.Need-returns-2
 returns-2 c =
@@ -35,4 +29,4 @@ returns-2 c =
 
 pub file-refusal-spec : {M : Type 1} → statement M
 file-refusal-spec =
-    tie.close (tie.spec returns file-refusal-line-requires put-line-requires same-length returns-2)
+    tie.close (tie.spec returns (λ c κs. search needs) put-line-requires (λ c. search needs) returns-2)

@@ -17,17 +17,11 @@ abbrev μ-loop : tie.MeasureT-loop
 loop-holds : tie.Need-loop-holds Inv-loop μ-loop
 loop-holds c = file-start _
 
-line-size-requires : tie.Need-line-size-requires Inv-loop μ-loop
-line-size-requires c κs = search needs
-
 add-next : tie.Need-add-next Inv-loop μ-loop
 add-next c =
     let p = c .before in
     let h = line-inside _ _ _ (p .loop-test .taken) (c .line-size .ensures) in
     search needs
-
-starts-end-requires : tie.Need-starts-end-requires Inv-loop μ-loop
-starts-end-requires c κs = search needs
 
 returns : tie.Need-returns Inv-loop μ-loop
 returns c =
@@ -54,14 +48,5 @@ returns-2 c = file-end (c .before .loop .inv) (omega arith)
 pub file-size-spec : {M : Type 1} → statement M
 file-size-spec =
     tie.close
-    (tie.spec
-    Inv-loop
-    μ-loop
-    loop-holds
-    line-size-requires
-    add-next
-    starts-end-requires
-    returns
-    loop-less
-    loop-again
-    returns-2)
+    (tie.spec Inv-loop μ-loop loop-holds (λ c κs. search needs) add-next (λ c κs. search needs) returns loop-less
+    loop-again returns-2)

@@ -3,17 +3,8 @@ use borrow.Author.Needs.{needs}
 use Rattle.report.proofs.has_block.Statement.{statement}
 use Rattle.report.proofs.has_block.Tie as tie
 
-enum-known-v : tie.Need-enum-known-v
-enum-known-v c = search needs
-
-enum-told : tie.Need-enum-told
-enum-told c = search needs
-
-returns : tie.Need-returns
-returns c = search needs
-
 returns-2 : tie.Need-returns-2
 returns-2 c = rw (c .enum-told .given .1)
 
 pub has-block-spec : {M : Type 1} → statement M
-has-block-spec = tie.close (tie.spec enum-known-v enum-told returns returns-2)
+has-block-spec = tie.close (tie.spec (λ c. search needs) (λ c. search needs) (λ c. search needs) returns-2)

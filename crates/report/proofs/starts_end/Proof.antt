@@ -10,15 +10,6 @@ use Rattle.report.proofs.Ends.{starts-at}
 use Rattle.report.proofs.starts_end.Statement.{statement}
 use Rattle.report.proofs.starts_end.Tie as tie
 
-add-next : tie.Need-add-next
-add-next c = search needs
-
-shared-slice-read-result : tie.Need-shared-slice-read-result
-shared-slice-read-result c = search needs
-
-shared-slice-read-result-2 : tie.Need-shared-slice-read-result-2
-shared-slice-read-result-2 c = search needs
-
 returns : tie.Need-returns
 returns c =
     let a = c .before .before .before .args in
@@ -35,6 +26,4 @@ returns-2 c =
     sym (none (eqb (getD (a .input .now) (a .at) 0) 0x34)) ∙ rw e at (starts-at (a .input .now) (a .at) (omega arith))
 
 pub starts-end-spec : {M : Type 1} → statement M
-starts-end-spec =
-    tie.close
-    (tie.spec add-next shared-slice-read-result shared-slice-read-result-2 returns returns-2)
+starts-end-spec = tie.close (tie.spec (λ c. search needs) (λ c. search needs) (λ c. search needs) returns returns-2)

@@ -13,9 +13,6 @@ returns-2 c = search tests
 returns-3 : tie.Need-returns-3
 returns-3 c = search tests
 
-sub-result : tie.Need-sub-result
-sub-result c = search needs
-
 returns-4 : tie.Need-returns-4
 returns-4 c = search tests
 
@@ -23,4 +20,4 @@ returns-5 : tie.Need-returns-5
 returns-5 c = search tests
 
 pub digit-value-spec : {M : Type 1} → statement M
-digit-value-spec = tie.close (tie.spec returns returns-2 returns-3 sub-result returns-4 returns-5)
+digit-value-spec = tie.close (tie.spec returns returns-2 returns-3 (λ c. search needs) returns-4 returns-5)

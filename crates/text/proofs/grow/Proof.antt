@@ -7,15 +7,6 @@ use borrow.Author.Needs.{needs}
 use Rattle.text.proofs.grow.Statement.{statement}
 use Rattle.text.proofs.grow.Tie as tie
 
-add-longer : tie.Need-add-longer
-add-longer c = search needs
-
-element-write-longer : tie.Need-element-write-longer
-element-write-longer c = search needs
-
-returns : tie.Need-returns
-returns c = search needs
-
 returns-2 : tie.Need-returns-2
 returns-2 c =
     let l = c .before .args .l in
@@ -23,4 +14,4 @@ returns-2 c =
     rw (set-out (l .numbers) (l .count) (c .before .args .x) (omega arith))
 
 pub grow-spec : {M : Type 1} → statement M
-grow-spec = tie.close (tie.spec add-longer element-write-longer returns returns-2)
+grow-spec = tie.close (tie.spec (λ c. search needs) (λ c. search needs) (λ c. search needs) returns-2)

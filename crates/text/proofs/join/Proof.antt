@@ -4,12 +4,6 @@ use borrow.Author.Needs.{needs}
 use Rattle.text.proofs.join.Statement.{statement}
 use Rattle.text.proofs.join.Tie as tie
 
-mul-result : tie.Need-mul-result
-mul-result c = search needs
-
-add-result : tie.Need-add-result
-add-result c = search needs
-
 returns : tie.Need-returns
 returns c = search (tests, needs)
 
@@ -20,4 +14,4 @@ returns-3 : tie.Need-returns-3
 returns-3 c = search (tests, needs)
 
 pub join-spec : {M : Type 1} → statement M
-join-spec = tie.close (tie.spec mul-result add-result returns returns-2 returns-3)
+join-spec = tie.close (tie.spec (λ c. search needs) (λ c. search needs) returns returns-2 returns-3)

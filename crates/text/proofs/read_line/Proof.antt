@@ -17,39 +17,18 @@ abbrev μ-loop : tie.MeasureT-loop
 abbrev bytes : tie.At-loop Inv-loop μ-loop → List ℕ
 bytes p = p .before .before .before .args .s .now
 
-no-line-requires : tie.Need-no-line-requires Inv-loop μ-loop
-no-line-requires c κs = search needs
-
 loop-holds : tie.Need-loop-holds Inv-loop μ-loop
 loop-holds c = rw (c .no-line .ensures) (starts _ _)
-
-shared-slice-read-a : tie.Need-shared-slice-read-a Inv-loop μ-loop
-shared-slice-read-a c = search needs
-
-add-j : tie.Need-add-j Inv-loop μ-loop
-add-j c = search needs
 
 returns : tie.Need-returns Inv-loop μ-loop
 returns c =
     let p = c .before .before .before in
     stops _ _ _ _ (p .loop .inv) (at-stop (bytes p) (p .loop .i) (search needs) (c .if1 .taken))
 
-no-line-requires-2 : tie.Need-no-line-requires-2 Inv-loop μ-loop
-no-line-requires-2 c κs = search needs
-
 returns-2 : tie.Need-returns-2 Inv-loop μ-loop
 returns-2 c =
     let p = c .before .before .before .before .before in
     fails _ _ _ _ (p .loop .inv) _ (c .no-line2 .ensures) (at-odd (bytes p) (p .loop .i) (search needs) (c .before .before .if1 .left) (search needs))
-
-shared-slice-read-pair : tie.Need-shared-slice-read-pair Inv-loop μ-loop
-shared-slice-read-pair c = search needs
-
-pair-requires : tie.Need-pair-requires Inv-loop μ-loop
-pair-requires c κs = search needs
-
-no-line-requires-3 : tie.Need-no-line-requires-3 Inv-loop μ-loop
-no-line-requires-3 c κs = search needs
 
 returns-3 : tie.Need-returns-3 Inv-loop μ-loop
 returns-3 c =
@@ -57,17 +36,8 @@ returns-3 c =
     fails _ _ _ _ (p .loop .inv) _ (c .no-line3 .ensures)
     (at-bad (bytes p) (p .loop .i) (search needs) (c .before .before .before .before .before .if1 .left) (search needs) (search needs))
 
-add-i : tie.Need-add-i Inv-loop μ-loop
-add-i c = search needs
-
-cast-grow : tie.Need-cast-grow Inv-loop μ-loop
-cast-grow c = search needs
-
 grow-requires : tie.Need-grow-requires Inv-loop μ-loop
 grow-requires c κs = omega (arith, count-le _ _ _ _ (c .before .before .before .before .before .before .before .loop .inv))
-
-loop-less : tie.Need-loop-less Inv-loop μ-loop
-loop-less c = search needs
 
 loop-again : tie.Need-loop-again Inv-loop μ-loop
 loop-again c =
@@ -75,9 +45,6 @@ loop-again c =
     rw (c .grow .ensures, c .before .before .pair .ensures)
     (goes-on _ _ _ _ (p .loop .inv) _
     (at-more (bytes p) (p .loop .i) (search needs) (c .before .before .before .before .before .if1 .left) (search needs) (search needs)))
-
-no-line-requires-4 : tie.Need-no-line-requires-4 Inv-loop μ-loop
-no-line-requires-4 c κs = search needs
 
 returns-4 : tie.Need-returns-4 Inv-loop μ-loop
 returns-4 c =
@@ -87,24 +54,7 @@ returns-4 c =
 pub read-line-spec : {M : Type 1} → statement M
 read-line-spec =
     tie.close
-    (tie.spec
-    Inv-loop
-    μ-loop
-    no-line-requires
-    loop-holds
-    shared-slice-read-a
-    add-j
-    returns
-    no-line-requires-2
-    returns-2
-    shared-slice-read-pair
-    pair-requires
-    no-line-requires-3
-    returns-3
-    add-i
-    cast-grow
-    grow-requires
-    loop-less
-    loop-again
-    no-line-requires-4
+    (tie.spec Inv-loop μ-loop (λ c κs. search needs) loop-holds (λ c. search needs) (λ c. search needs) returns
+    (λ c κs. search needs) returns-2 (λ c. search needs) (λ c κs. search needs) (λ c κs. search needs) returns-3
+    (λ c. search needs) (λ c. search needs) grow-requires (λ c. search needs) loop-again (λ c κs. search needs)
     returns-4)

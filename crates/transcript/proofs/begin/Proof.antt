@@ -6,20 +6,11 @@ use Rattle.transcript.proofs.Given.{gives-too-long, gives-file}
 use Rattle.transcript.proofs.begin.Statement.{statement}
 use Rattle.transcript.proofs.begin.Tie as tie
 
-edit-refusal-requires : tie.Need-edit-refusal-requires
-edit-refusal-requires c κs = search needs
-
-nothing-more-requires : tie.Need-nothing-more-requires
-nothing-more-requires c κs = search needs
-
 returns : tie.Need-returns
 returns c =
     let a = c .before .before .before .before .before .args in
     let n : length (a .out .now) ≡ 180235 = search needs in
     gives-too-long (a .input .now) (a .out .now) (c .before .before .before .if1 .taken) (rw n at (c .before .edit-refusal .ensures)) (c .nothing-more .ensures)
-
-begin-file-requires : tie.Need-begin-file-requires
-begin-file-requires c κs = search needs
 
 returns-2 : tie.Need-returns-2
 returns-2 c =
@@ -28,5 +19,4 @@ returns-2 c =
 
 pub begin-spec : {M : Type 1} → statement M
 begin-spec =
-    tie.close
-    (tie.spec edit-refusal-requires nothing-more-requires returns begin-file-requires returns-2)
+    tie.close (tie.spec (λ c κs. search needs) (λ c κs. search needs) returns (λ c κs. search needs) returns-2)

@@ -13,32 +13,8 @@ use Rattle.transcript.proofs.begin_file.Tie as tie
 zeros : length {A = ℕ} (replicate 16384 0) ≡ 16384
 zeros = length-replicate {A = ℕ} 16384 0
 
-file-size-requires : tie.Need-file-size-requires
-file-size-requires c κs = search needs
-
 slice-aggregate-analyze : tie.Need-slice-aggregate-analyze
 slice-aggregate-analyze c = file-counted _ _ (c .before .file-size .ensures) .1
-
-slice-aggregate-analyze-2 : tie.Need-slice-aggregate-analyze-2
-slice-aggregate-analyze-2 c = search needs
-
-slice-aggregate-analyze-3 : tie.Need-slice-aggregate-analyze-3
-slice-aggregate-analyze-3 c = search needs
-
-analyze-requires : tie.Need-analyze-requires
-analyze-requires c κs = search needs
-
-enum-known-answer : tie.Need-enum-known-answer
-enum-known-answer c = search needs
-
-file-refusal-requires : tie.Need-file-refusal-requires
-file-refusal-requires c κs = search needs
-
-nothing-more-requires : tie.Need-nothing-more-requires
-nothing-more-requires c κs = search needs
-
-enum-known-answer-2 : tie.Need-enum-known-answer-2
-enum-known-answer-2 c = search needs
 
 slice-aggregate-hold : tie.Need-slice-aggregate-hold
 slice-aggregate-hold c = file-counted _ _ (c .before .before .before .before .before .before .before .before .before .before .file-size .ensures) .1
@@ -47,9 +23,6 @@ hold-requires : tie.Need-hold-requires
 hold-requires c κs =
     let k = file-counted _ _ (c .before .before .before .before .before .before .before .before .before .before .file-size .ensures) in
     omega (arith, k .0, k .1, c .before .before .before .before .before .before .before .before .before .before .before .before .pre)
-
-put-held-requires : tie.Need-put-held-requires
-put-held-requires c κs = search needs
 
 returns : tie.Need-returns
 returns c =
@@ -71,18 +44,6 @@ returns-2 c =
 pub begin-file-spec : {M : Type 1} → statement M
 begin-file-spec =
     tie.close
-    (tie.spec
-    file-size-requires
-    slice-aggregate-analyze
-    slice-aggregate-analyze-2
-    slice-aggregate-analyze-3
-    analyze-requires
-    enum-known-answer
-    file-refusal-requires
-    nothing-more-requires
-    enum-known-answer-2
-    slice-aggregate-hold
-    hold-requires
-    put-held-requires
-    returns
-    returns-2)
+    (tie.spec (λ c κs. search needs) slice-aggregate-analyze (λ c. search needs) (λ c. search needs)
+    (λ c κs. search needs) (λ c. search needs) (λ c κs. search needs) (λ c κs. search needs) (λ c. search needs)
+    slice-aggregate-hold hold-requires (λ c κs. search needs) returns returns-2)

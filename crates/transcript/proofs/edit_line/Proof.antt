@@ -7,22 +7,10 @@ use Rattle.transcript.proofs.Given.{gives-turn}
 use Rattle.transcript.proofs.edit_line.Statement.{statement}
 use Rattle.transcript.proofs.edit_line.Tie as tie
 
-line-size-requires : tie.Need-line-size-requires
-line-size-requires c κs = search needs
-
 add-past : tie.Need-add-past
 add-past c =
     let a = c .before .before .args in
     ⊎-elim (λ w. search needs) (λ w. search needs) (line-within (a .input .now) (a .at) (c .line-size .result) (c .line-size .ensures))
-
-line-at-requires : tie.Need-line-at-requires
-line-at-requires c κs = search needs
-
-edit-held-requires : tie.Need-edit-held-requires
-edit-held-requires c κs = search needs
-
-put-edited-requires : tie.Need-put-edited-requires
-put-edited-requires c κs = search needs
 
 returns : tie.Need-returns
 returns c =
@@ -33,10 +21,5 @@ returns c =
 pub edit-line-spec : {M : Type 1} → statement M
 edit-line-spec =
     tie.close
-    (tie.spec
-    line-size-requires
-    add-past
-    line-at-requires
-    edit-held-requires
-    put-edited-requires
+    (tie.spec (λ c κs. search needs) add-past (λ c κs. search needs) (λ c κs. search needs) (λ c κs. search needs)
     returns)

@@ -5,12 +5,6 @@ use lib.ListN.{replicate}
 use Rattle.transcript.proofs.hold.Statement.{statement}
 use Rattle.transcript.proofs.hold.Tie as tie
 
-slice-aggregate-copy : tie.Need-slice-aggregate-copy
-slice-aggregate-copy c = search needs
-
-copy-requires : tie.Need-copy-requires
-copy-requires c κs = search needs
-
 returns : tie.Need-returns
 returns c =
     let a = c .before .before .before .before .args in
@@ -18,4 +12,4 @@ returns c =
     λ i. record { file = copied (a .file .now) (replicate 16384 0) (k .0) (k .1) i; marks = a .marks }
 
 pub hold-spec : {M : Type 1} → statement M
-hold-spec = tie.close (tie.spec slice-aggregate-copy copy-requires returns)
+hold-spec = tie.close (tie.spec (λ c. search needs) (λ c κs. search needs) returns)

@@ -8,24 +8,6 @@ use Rattle.transcript.proofs.Answered.{file-stays, file-wrote}
 use Rattle.transcript.proofs.hold_next.Statement.{statement}
 use Rattle.transcript.proofs.hold_next.Tie as tie
 
-enum-known-answer : tie.Need-enum-known-answer
-enum-known-answer c = search needs
-
-enum-known-answer-2 : tie.Need-enum-known-answer-2
-enum-known-answer-2 c = search needs
-
-slice-aggregate-within : tie.Need-slice-aggregate-within
-slice-aggregate-within c = search needs
-
-within-requires : tie.Need-within-requires
-within-requires c κs = search needs
-
-array-share-prefix-output : tie.Need-array-share-prefix-output
-array-share-prefix-output c = search needs
-
-slice-aggregate-hold : tie.Need-slice-aggregate-hold
-slice-aggregate-hold c = search needs
-
 hold-requires : tie.Need-hold-requires
 hold-requires c κs =
     let w = c .before .before .within .ensures in
@@ -46,13 +28,5 @@ returns-2 c =
 pub hold-next-spec : {M : Type 1} → statement M
 hold-next-spec =
     tie.close
-    (tie.spec
-    enum-known-answer
-    enum-known-answer-2
-    slice-aggregate-within
-    within-requires
-    array-share-prefix-output
-    slice-aggregate-hold
-    hold-requires
-    returns
-    returns-2)
+    (tie.spec (λ c. search needs) (λ c. search needs) (λ c. search needs) (λ c κs. search needs) (λ c. search needs)
+    (λ c. search needs) hold-requires returns returns-2)

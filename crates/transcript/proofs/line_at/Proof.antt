@@ -4,22 +4,10 @@ use Rattle.transcript.proofs.Parts.{line-ends, line-is}
 use Rattle.transcript.proofs.line_at.Statement.{statement}
 use Rattle.transcript.proofs.line_at.Tie as tie
 
-within-requires : tie.Need-within-requires
-within-requires c κs = search needs
-
-line-size-requires : tie.Need-line-size-requires
-line-size-requires c κs = search needs
-
 add-next : tie.Need-add-next
 add-next c =
     let h = line-ends (c .before .before .before .args .input .now) (c .before .within .result) (c .line-size .result) (c .before .within .ensures .inside) (c .line-size .ensures) in
     search needs
-
-sub-result : tie.Need-sub-result
-sub-result c = search needs
-
-part-result-start : tie.Need-part-result-start
-part-result-start c = search needs
 
 part-result-end : tie.Need-part-result-end
 part-result-end c =
@@ -32,11 +20,5 @@ returns c = line-is (c .before .before .before .before .args .input .now) (c .be
 pub line-at-spec : {M : Type 1} → statement M
 line-at-spec =
     tie.close
-    (tie.spec
-    within-requires
-    line-size-requires
-    add-next
-    sub-result
-    part-result-start
-    part-result-end
-    returns)
+    (tie.spec (λ c κs. search needs) (λ c κs. search needs) add-next (λ c. search needs) (λ c. search needs)
+    part-result-end returns)

@@ -5,18 +5,6 @@ use borrow.Author.Needs.{needs}
 use Rattle.transcript.proofs.put_edited.Statement.{statement}
 use Rattle.transcript.proofs.put_edited.Tie as tie
 
-enum-known-answer : tie.Need-enum-known-answer
-enum-known-answer c = search needs
-
-edit-refusal-requires : tie.Need-edit-refusal-requires
-edit-refusal-requires c κs = search needs
-
-enum-known-answer-2 : tie.Need-enum-known-answer-2
-enum-known-answer-2 c = search needs
-
-put-held-requires : tie.Need-put-held-requires
-put-held-requires c κs = search needs
-
 returns : tie.Need-returns
 returns c =
     let n : length (c .before .before .before .before .before .args .out .now) ≡ 180235 = search needs in
@@ -28,10 +16,5 @@ returns-2 c = rw (c .before .before .before .before .answer2 .given .1) (c .put-
 pub put-edited-spec : {M : Type 1} → statement M
 put-edited-spec =
     tie.close
-    (tie.spec
-    enum-known-answer
-    edit-refusal-requires
-    enum-known-answer-2
-    put-held-requires
-    returns
+    (tie.spec (λ c. search needs) (λ c κs. search needs) (λ c. search needs) (λ c κs. search needs) returns
     returns-2)

@@ -20,19 +20,10 @@ abbrev μ-loop : tie.MeasureT-loop
 loop-holds : tie.Need-loop-holds Inv-loop μ-loop
 loop-holds c p r = sought-none p _ _
 
-is-violation-requires : tie.Need-is-violation-requires Inv-loop μ-loop
-is-violation-requires c κs = search needs
-
 returns : tie.Need-returns Inv-loop μ-loop
 returns c p r =
     let told = c .before .is-violation .ensures p r in
     sought-here (c .before .before .before .loop .inv p r) (omega arith) (omega arith) (sym told ∙ c .if1 .taken)
-
-add-i : tie.Need-add-i Inv-loop μ-loop
-add-i c = search needs
-
-loop-less : tie.Need-loop-less Inv-loop μ-loop
-loop-less c = search needs
 
 loop-again : tie.Need-loop-again Inv-loop μ-loop
 loop-again c p r =
@@ -45,13 +36,5 @@ returns-2 c p r = sought-all (c .before .loop .inv p r) (omega arith) (omega ari
 pub first-violation-spec : {M : Type 1} → statement M
 first-violation-spec =
     tie.close
-    (tie.spec
-    Inv-loop
-    μ-loop
-    loop-holds
-    is-violation-requires
-    returns
-    add-i
-    loop-less
-    loop-again
-    returns-2)
+    (tie.spec Inv-loop μ-loop loop-holds (λ c κs. search needs) returns (λ c. search needs) (λ c. search needs)
+    loop-again returns-2)

@@ -6,16 +6,9 @@ use Rattle.reach.specs.Configurations.{stateOf}
 use Rattle.analysis.proofs.count.is_violation.Statement.{statement}
 use Rattle.analysis.proofs.count.is_violation.Tie as tie
 
-shared-slice-read-result : tie.Need-shared-slice-read-result
-shared-slice-read-result c = search needs
-
-shared-slice-read-result-2 : tie.Need-shared-slice-read-result-2
-shared-slice-read-result-2 c = search needs
-
 returns : tie.Need-returns
 unfolding stateOf
 returns c p r = rw (r .rejects (c .before .before .args .i % 8) (omega arith))
 
 pub is-violation-spec : {M : Type 1} → statement M
-is-violation-spec =
-    tie.close (tie.spec shared-slice-read-result shared-slice-read-result-2 returns)
+is-violation-spec = tie.close (tie.spec (λ c. search needs) (λ c. search needs) returns)

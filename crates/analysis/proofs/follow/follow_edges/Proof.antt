@@ -17,20 +17,8 @@ abbrev μ-loop : tie.MeasureT-loop
 loop-holds : tie.Need-loop-holds Inv-loop μ-loop
 loop-holds c = loop-start _ _ _ _ _ (c .before .before .before .before .before .pre .1 .0) (c .before .before .before .before .before .pre .1 .1)
 
-mul-follow-edge : tie.Need-mul-follow-edge Inv-loop μ-loop
-mul-follow-edge c = search needs
-
-shared-slice-read-follow-edge : tie.Need-shared-slice-read-follow-edge Inv-loop μ-loop
-shared-slice-read-follow-edge c = search needs
-
 follow-edge-requires : tie.Need-follow-edge-requires Inv-loop μ-loop
 follow-edge-requires c κs = ((c .before .before .before .before .before .before .before .before .before .before .pre .0 .1, c .before .before .before .before .before .before .before .before .before .before .pre .0 .2, c .before .before .before .before .before .before .before .before .before .before .pre .0 .3), (c .before .before .before .before .loop .inv .marks-length, c .before .before .before .before .loop .inv .pending-length))
-
-add-i : tie.Need-add-i Inv-loop μ-loop
-add-i c = search needs
-
-loop-less : tie.Need-loop-less Inv-loop μ-loop
-loop-less c = search needs
 
 loop-again : tie.Need-loop-again Inv-loop μ-loop
 loop-again c =
@@ -50,16 +38,5 @@ returns c = loop-end (c .before .loop .inv) (omega arith)
 pub follow-edges-spec : {M : Type 1} → statement M
 follow-edges-spec =
     tie.close
-    (tie.spec
-    Inv-loop
-    μ-loop
-    loop-holds
-    mul-follow-edge
-    shared-slice-read-follow-edge
-    follow-edge-requires
-    add-i
-    loop-less
-    loop-again
-    same-length
-    same-length-2
-    returns)
+    (tie.spec Inv-loop μ-loop loop-holds (λ c. search needs) (λ c. search needs) follow-edge-requires
+    (λ c. search needs) (λ c. search needs) loop-again same-length same-length-2 returns)

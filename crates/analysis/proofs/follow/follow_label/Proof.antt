@@ -3,30 +3,6 @@ use borrow.Author.Needs.{needs}
 use Rattle.analysis.proofs.follow.follow_label.Statement.{statement}
 use Rattle.analysis.proofs.follow.follow_label.Tie as tie
 
-wide-requires : tie.Need-wide-requires
-wide-requires c κs = search needs
-
-mul-place : tie.Need-mul-place
-mul-place c = search needs
-
-wide-requires-2 : tie.Need-wide-requires-2
-wide-requires-2 c κs = search needs
-
-add-place : tie.Need-add-place
-add-place c = search needs
-
-mul-place-2 : tie.Need-mul-place-2
-mul-place-2 c = search needs
-
-mark-each-requires : tie.Need-mark-each-requires
-mark-each-requires c κs = search needs
-
-same-length : tie.Need-same-length
-same-length c = search needs
-
-same-length-2 : tie.Need-same-length-2
-same-length-2 c = search needs
-
 returns : tie.Need-returns
 returns c =
     let e = c .before .before .before .before .mark-each .ensures in
@@ -34,15 +10,6 @@ returns c =
 
 returns-2 : tie.Need-returns-2
 returns-2 c = (label-none _ _ _ _ _ (c .before .if1 .left) (c .if2 .taken) nothing, λ h. h)
-
-follow-call-requires : tie.Need-follow-call-requires
-follow-call-requires c κs = search needs
-
-same-length-3 : tie.Need-same-length-3
-same-length-3 c = search needs
-
-same-length-4 : tie.Need-same-length-4
-same-length-4 c = search needs
 
 returns-3 : tie.Need-returns-3
 returns-3 c =
@@ -55,19 +22,6 @@ returns-4 c = (label-past _ _ _ _ _ (c .before .before .if1 .left) (c .before .i
 pub follow-label-spec : {M : Type 1} → statement M
 follow-label-spec =
     tie.close
-    (tie.spec
-    wide-requires
-    mul-place
-    wide-requires-2
-    add-place
-    mul-place-2
-    mark-each-requires
-    same-length
-    same-length-2
-    returns
-    returns-2
-    follow-call-requires
-    same-length-3
-    same-length-4
-    returns-3
-    returns-4)
+    (tie.spec (λ c κs. search needs) (λ c. search needs) (λ c κs. search needs) (λ c. search needs)
+    (λ c. search needs) (λ c κs. search needs) (λ c. search needs) (λ c. search needs) returns returns-2
+    (λ c κs. search needs) (λ c. search needs) (λ c. search needs) returns-3 returns-4)

@@ -17,20 +17,8 @@ abbrev μ-loop : tie.MeasureT-loop
 loop-holds : tie.Need-loop-holds Inv-loop μ-loop
 loop-holds c = loop-start _ _ _ _ _ (c .before .before .before .pre .1 .0) (c .before .before .before .pre .1 .1)
 
-mul-wake-caller : tie.Need-mul-wake-caller Inv-loop μ-loop
-mul-wake-caller c = search needs
-
-shared-slice-read-wake-caller : tie.Need-shared-slice-read-wake-caller Inv-loop μ-loop
-shared-slice-read-wake-caller c = search needs
-
 wake-caller-requires : tie.Need-wake-caller-requires Inv-loop μ-loop
 wake-caller-requires c κs = (c .before .before .before .before .before .before .before .pre .0 .1, (c .before .before .before .loop .inv .marks-length, c .before .before .before .loop .inv .pending-length))
-
-add-i : tie.Need-add-i Inv-loop μ-loop
-add-i c = search needs
-
-loop-less : tie.Need-loop-less Inv-loop μ-loop
-loop-less c = search needs
 
 loop-again : tie.Need-loop-again Inv-loop μ-loop
 loop-again c =
@@ -47,15 +35,5 @@ returns c = loop-end (c .before .loop .inv) (omega arith)
 pub wake-callers-spec : {M : Type 1} → statement M
 wake-callers-spec =
     tie.close
-    (tie.spec
-    Inv-loop
-    μ-loop
-    loop-holds
-    mul-wake-caller
-    shared-slice-read-wake-caller
-    wake-caller-requires
-    add-i
-    loop-less
-    loop-again
-    same-length
-    returns)
+    (tie.spec Inv-loop μ-loop loop-holds (λ c. search needs) (λ c. search needs) wake-caller-requires
+    (λ c. search needs) (λ c. search needs) loop-again same-length returns)

@@ -17,15 +17,6 @@ node-fits : (f n : ℕ) → f < 16 → n < 16 → number f n 0 0 + 64 ≤ 16384
 unfolding number
 node-fits f n hf hn = omega arith
 
-next-states-requires : tie.Need-next-states-requires
-next-states-requires c κs = search needs
-
-in-use-requires : tie.Need-in-use-requires
-in-use-requires c κs = search needs
-
-number-of-requires : tie.Need-number-of-requires
-number-of-requires c κs = search needs
-
 array-share-prefix-keys : tie.Need-array-share-prefix-keys
 array-share-prefix-keys c = omega (arith, room (c .before .before .before .before .before .before .before .before .before), c .before .in-use .ensures)
 
@@ -34,12 +25,6 @@ slice-aggregate-follow-part c =
     let keys = c .before .before .before .before .before .before .before .before .before .before .args .p .edges .keys in
     let u = c .before .before .in-use in
     sym (length-take-le (u .result) keys (omega (arith, room (c .before .before .before .before .before .before .before .before .before .before), u .ensures)))
-
-slice-aggregate-follow-part-2 : tie.Need-slice-aggregate-follow-part-2
-slice-aggregate-follow-part-2 c = search needs
-
-add-follow-part : tie.Need-add-follow-part
-add-follow-part c = search needs
 
 follow-part-requires : tie.Need-follow-part-requires
 follow-part-requires c κs =
@@ -53,12 +38,6 @@ follow-part-requires c κs =
       (_, all-edges (z .args .p) (room z) (u .ensures) (z .pre .0 .0) (t .ensures) (rw (n .ensures .0) (z .pre .1))),
     )
 
-same-length : tie.Need-same-length
-same-length c = search needs
-
-same-length-2 : tie.Need-same-length-2
-same-length-2 c = search needs
-
 returns : tie.Need-returns
 returns c =
     let z = c .before .before .before .before .before .before .before .before .before .before .before .before .before .before .before .before .before .before in
@@ -71,15 +50,6 @@ returns c =
 pub follow-added-spec : {M : Type 1} → statement M
 follow-added-spec =
     tie.close
-    (tie.spec
-    next-states-requires
-    in-use-requires
-    number-of-requires
-    array-share-prefix-keys
-    slice-aggregate-follow-part
-    slice-aggregate-follow-part-2
-    add-follow-part
-    follow-part-requires
-    same-length
-    same-length-2
-    returns)
+    (tie.spec (λ c κs. search needs) (λ c κs. search needs) (λ c κs. search needs) array-share-prefix-keys
+    slice-aggregate-follow-part (λ c. search needs) (λ c. search needs) follow-part-requires (λ c. search needs)
+    (λ c. search needs) returns)

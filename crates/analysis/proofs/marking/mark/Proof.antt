@@ -5,24 +5,6 @@ use borrow.Author.Needs.{needs}
 use Rattle.analysis.proofs.marking.mark.Statement.{statement}
 use Rattle.analysis.proofs.marking.mark.Tie as tie
 
-slice-read-if2 : tie.Need-slice-read-if2
-slice-read-if2 c = search needs
-
-slice-write-marks : tie.Need-slice-write-marks
-slice-write-marks c = search needs
-
-slice-write-pending : tie.Need-slice-write-pending
-slice-write-pending c = search needs
-
-lower-requires : tie.Need-lower-requires
-lower-requires c κs = search needs
-
-same-length : tie.Need-same-length
-same-length c = search needs
-
-same-length-2 : tie.Need-same-length-2
-same-length-2 c = search needs
-
 returns : tie.Need-returns
 returns c =
     let z = c .before .before .before .before .before .before in
@@ -47,13 +29,5 @@ returns-3 c =
 pub mark-spec : {M : Type 1} → statement M
 mark-spec =
     tie.close
-    (tie.spec
-    slice-read-if2
-    slice-write-marks
-    slice-write-pending
-    lower-requires
-    same-length
-    same-length-2
-    returns
-    returns-2
-    returns-3)
+    (tie.spec (λ c. search needs) (λ c. search needs) (λ c. search needs) (λ c κs. search needs) (λ c. search needs)
+    (λ c. search needs) returns returns-2 returns-3)

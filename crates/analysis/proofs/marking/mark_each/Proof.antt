@@ -16,23 +16,8 @@ abbrev μ-loop : tie.MeasureT-loop
 loop-holds : tie.Need-loop-holds Inv-loop μ-loop
 loop-holds c = loop-start _ 8 _ _ _ (c .before .before .before .pre .1 .0) (c .before .before .before .pre .1 .1)
 
-add-mark-when : tie.Need-add-mark-when Inv-loop μ-loop
-add-mark-when c = search needs
-
-shared-slice-read-mark-when : tie.Need-shared-slice-read-mark-when Inv-loop μ-loop
-shared-slice-read-mark-when c = search needs
-
-add-mark-when-2 : tie.Need-add-mark-when-2 Inv-loop μ-loop
-add-mark-when-2 c = search needs
-
 mark-when-requires : tie.Need-mark-when-requires Inv-loop μ-loop
 mark-when-requires c κs = (c .before .before .before .before .loop .inv .marks-length, c .before .before .before .before .loop .inv .pending-length)
-
-add-s : tie.Need-add-s Inv-loop μ-loop
-add-s c = search needs
-
-loop-less : tie.Need-loop-less Inv-loop μ-loop
-loop-less c = search needs
 
 loop-again : tie.Need-loop-again Inv-loop μ-loop
 loop-again c =
@@ -52,17 +37,5 @@ returns c = loop-end (c .before .loop .inv) (omega arith)
 pub mark-each-spec : {M : Type 1} → statement M
 mark-each-spec =
     tie.close
-    (tie.spec
-    Inv-loop
-    μ-loop
-    loop-holds
-    add-mark-when
-    shared-slice-read-mark-when
-    add-mark-when-2
-    mark-when-requires
-    add-s
-    loop-less
-    loop-again
-    same-length
-    same-length-2
-    returns)
+    (tie.spec Inv-loop μ-loop loop-holds (λ c. search needs) (λ c. search needs) (λ c. search needs)
+    mark-when-requires (λ c. search needs) (λ c. search needs) loop-again same-length same-length-2 returns)

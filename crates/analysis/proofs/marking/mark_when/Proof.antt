@@ -3,15 +3,6 @@ use borrow.Author.Needs.{needs}
 use Rattle.analysis.proofs.marking.mark_when.Statement.{statement}
 use Rattle.analysis.proofs.marking.mark_when.Tie as tie
 
-mark-requires : tie.Need-mark-requires
-mark-requires c κs = search needs
-
-same-length : tie.Need-same-length
-same-length c = search needs
-
-same-length-2 : tie.Need-same-length-2
-same-length-2 c = search needs
-
 returns : tie.Need-returns
 unfolding markWhen
 returns c =
@@ -24,4 +15,4 @@ unfolding markWhen
 returns-2 c = (record { becomes = λ k n. rw (c .if1 .left) }, λ h. h)
 
 pub mark-when-spec : {M : Type 1} → statement M
-mark-when-spec = tie.close (tie.spec mark-requires same-length same-length-2 returns returns-2)
+mark-when-spec = tie.close (tie.spec (λ c κs. search needs) (λ c. search needs) (λ c. search needs) returns returns-2)

@@ -5,18 +5,6 @@ use borrow.Author.Needs.{needs}
 use Rattle.analysis.proofs.marking.wake.Statement.{statement}
 use Rattle.analysis.proofs.marking.wake.Tie as tie
 
-shared-slice-read-if2 : tie.Need-shared-slice-read-if2
-shared-slice-read-if2 c = search needs
-
-slice-write-pending : tie.Need-slice-write-pending
-slice-write-pending c = search needs
-
-lower-requires : tie.Need-lower-requires
-lower-requires c κs = search needs
-
-same-length : tie.Need-same-length
-same-length c = search needs
-
 returns : tie.Need-returns
 returns c =
     let z = c .before .before .before .before .before .before in
@@ -41,11 +29,5 @@ returns-3 c =
 pub wake-spec : {M : Type 1} → statement M
 wake-spec =
     tie.close
-    (tie.spec
-    shared-slice-read-if2
-    slice-write-pending
-    lower-requires
-    same-length
-    returns
-    returns-2
+    (tie.spec (λ c. search needs) (λ c. search needs) (λ c κs. search needs) (λ c. search needs) returns returns-2
     returns-3)

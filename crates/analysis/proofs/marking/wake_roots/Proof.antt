@@ -16,20 +16,8 @@ abbrev μ-loop : tie.MeasureT-loop
 loop-holds : tie.Need-loop-holds Inv-loop μ-loop
 loop-holds c = loop-start _ 8 _ _ _ (c .before .before .pre .1 .0) (c .before .before .pre .1 .1)
 
-mul-wake : tie.Need-mul-wake Inv-loop μ-loop
-mul-wake c = search needs
-
-add-wake : tie.Need-add-wake Inv-loop μ-loop
-add-wake c = search needs
-
 wake-requires : tie.Need-wake-requires Inv-loop μ-loop
 wake-requires c κs = (c .before .before .loop .inv .marks-length, c .before .before .loop .inv .pending-length)
-
-add-r : tie.Need-add-r Inv-loop μ-loop
-add-r c = search needs
-
-loop-less : tie.Need-loop-less Inv-loop μ-loop
-loop-less c = search needs
 
 loop-again : tie.Need-loop-again Inv-loop μ-loop
 loop-again c =
@@ -46,15 +34,5 @@ returns c = loop-end (c .before .loop .inv) (omega arith)
 pub wake-roots-spec : {M : Type 1} → statement M
 wake-roots-spec =
     tie.close
-    (tie.spec
-    Inv-loop
-    μ-loop
-    loop-holds
-    mul-wake
-    add-wake
-    wake-requires
-    add-r
-    loop-less
-    loop-again
-    same-length
-    returns)
+    (tie.spec Inv-loop μ-loop loop-holds (λ c. search needs) (λ c. search needs) wake-requires (λ c. search needs)
+    (λ c. search needs) loop-again same-length returns)

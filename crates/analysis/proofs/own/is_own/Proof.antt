@@ -9,22 +9,10 @@ use borrow.Author.Needs.{needs}
 use Rattle.analysis.proofs.own.is_own.Statement.{statement}
 use Rattle.analysis.proofs.own.is_own.Tie as tie
 
-slice-aggregate-analyze-program : tie.Need-slice-aggregate-analyze-program
-slice-aggregate-analyze-program c = search needs
-
 analyze-program-requires : tie.Need-analyze-program-requires
 analyze-program-requires c κs =
     let z = c .before .before .before .before in
     (z .pre .0, (length-replicate {A = ℕ} 16384 0, z .pre .1))
-
-slice-aggregate-same : tie.Need-slice-aggregate-same
-slice-aggregate-same c = search needs
-
-same-requires : tie.Need-same-requires
-same-requires c κs = search needs
-
-same-length : tie.Need-same-length
-same-length c = search needs
 
 returns : tie.Need-returns
 returns c =
@@ -34,10 +22,5 @@ returns c =
 pub is-own-spec : {M : Type 1} → statement M
 is-own-spec =
     tie.close
-    (tie.spec
-    slice-aggregate-analyze-program
-    analyze-program-requires
-    slice-aggregate-same
-    same-requires
-    same-length
-    returns)
+    (tie.spec (λ c. search needs) analyze-program-requires (λ c. search needs) (λ c κs. search needs)
+    (λ c. search needs) returns)

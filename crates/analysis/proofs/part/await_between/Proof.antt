@@ -17,31 +17,16 @@ Inv-loop marks pending₀ low high i₀ pending i =
 abbrev μ-loop : tie.MeasureT-loop
 μ-loop marks pending₀ low high i₀ pending i = high - i
 
-clear-requires : tie.Need-clear-requires Inv-loop μ-loop
-clear-requires c κs = search needs
-
 loop-holds : tie.Need-loop-holds Inv-loop μ-loop
 loop-holds c =
     let z = c .before .before .before .before .before .before in
     let cleared = c .before .before .clear .ensures ∙ ap (λ (n : ℕ). replicate n 0) (z .pre .1) in
     (omega arith, rw cleared (await-start (z .args .low) (z .args .high) (z .args .marks .now)))
 
-shared-slice-read-unless-exit : tie.Need-shared-slice-read-unless-exit Inv-loop μ-loop
-shared-slice-read-unless-exit c = search needs
-
-unless-exit-requires : tie.Need-unless-exit-requires Inv-loop μ-loop
-unless-exit-requires c κs = search needs
-
 slice-write-pending : tie.Need-slice-write-pending Inv-loop μ-loop
 slice-write-pending c =
     let p = c .before .before .before in
     omega (arith, p .loop .inv .1 .len, p .before .before .before .before .before .before .before .pre .2)
-
-add-i : tie.Need-add-i Inv-loop μ-loop
-add-i c = search needs
-
-loop-less : tie.Need-loop-less Inv-loop μ-loop
-loop-less c = search needs
 
 loop-again : tie.Need-loop-again Inv-loop μ-loop
 loop-again c =
@@ -68,16 +53,5 @@ returns c =
 pub await-between-spec : {M : Type 1} → statement M
 await-between-spec =
     tie.close
-    (tie.spec
-    Inv-loop
-    μ-loop
-    clear-requires
-    loop-holds
-    shared-slice-read-unless-exit
-    unless-exit-requires
-    slice-write-pending
-    add-i
-    loop-less
-    loop-again
-    same-length
-    returns)
+    (tie.spec Inv-loop μ-loop (λ c κs. search needs) loop-holds (λ c. search needs) (λ c κs. search needs)
+    slice-write-pending (λ c. search needs) (λ c. search needs) loop-again same-length returns)

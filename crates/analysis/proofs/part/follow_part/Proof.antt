@@ -5,27 +5,12 @@ use borrow.Author.Needs.{needs}
 use Rattle.analysis.proofs.part.follow_part.Statement.{statement}
 use Rattle.analysis.proofs.part.follow_part.Tie as tie
 
-summaries-of-requires : tie.Need-summaries-of-requires
-summaries-of-requires c κs = search needs
-
-await-between-requires : tie.Need-await-between-requires
-await-between-requires c κs = search needs
-
-slice-aggregate-follow-pending : tie.Need-slice-aggregate-follow-pending
-slice-aggregate-follow-pending c = search needs
-
 follow-pending-requires : tie.Need-follow-pending-requires
 follow-pending-requires c κs =
     let z = c .before .before .before .before .before .before .before .before .before .before .before .before .before .before .before in
     let kn = c .before .before .before .before .before .before .before .before .before .summaries-of .ensures in
     let pe = c .before .before .before .before .before .await-between .ensures in
     ((omega arith, z .pre .0 .0, none-under (z .args .low) (z .args .high) (z .args .marks .now) pe), (_, part-ends (z .pre .1 .1) kn pe))
-
-same-length : tie.Need-same-length
-same-length c = search needs
-
-same-length-2 : tie.Need-same-length-2
-same-length-2 c = search needs
 
 returns : tie.Need-returns
 returns c =
@@ -38,11 +23,5 @@ returns c =
 pub follow-part-spec : {M : Type 1} → statement M
 follow-part-spec =
     tie.close
-    (tie.spec
-    summaries-of-requires
-    await-between-requires
-    slice-aggregate-follow-pending
-    follow-pending-requires
-    same-length
-    same-length-2
-    returns)
+    (tie.spec (λ c κs. search needs) (λ c κs. search needs) (λ c. search needs) follow-pending-requires
+    (λ c. search needs) (λ c. search needs) returns)

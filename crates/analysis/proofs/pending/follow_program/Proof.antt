@@ -8,18 +8,6 @@ use borrow.Author.Needs.{needs}
 use Rattle.analysis.proofs.pending.follow_program.Statement.{statement}
 use Rattle.analysis.proofs.pending.follow_program.Tie as tie
 
-next-states-requires : tie.Need-next-states-requires
-next-states-requires c κs = search needs
-
-in-use-requires : tie.Need-in-use-requires
-in-use-requires c κs = search needs
-
-slice-aggregate-follow-pending : tie.Need-slice-aggregate-follow-pending
-slice-aggregate-follow-pending c = search needs
-
-slice-aggregate-follow-pending-2 : tie.Need-slice-aggregate-follow-pending-2
-slice-aggregate-follow-pending-2 c = search needs
-
 follow-pending-requires : tie.Need-follow-pending-requires
 follow-pending-requires c κs =
     let z = c .before .before .before .before .before .before .before .before .before .before .before .before .before .before in
@@ -37,15 +25,6 @@ follow-pending-requires c κs =
       (p, record { tables = record { well-formed = z .pre .0 .0; edges = e; answers = t .ensures }; shape = z .pre .1 .0; ends = z .pre .1 .1 }),
     )
 
-same-length : tie.Need-same-length
-same-length c = search needs
-
-same-length-2 : tie.Need-same-length-2
-same-length-2 c = search needs
-
-same-length-3 : tie.Need-same-length-3
-same-length-3 c = search needs
-
 returns : tie.Need-returns
 returns c =
     let z = c .before .before .before .before .before .before .before .before .before .before .before .before .before .before .before .before .before .before .before .before .before in
@@ -62,13 +41,5 @@ returns c =
 pub follow-program-spec : {M : Type 1} → statement M
 follow-program-spec =
     tie.close
-    (tie.spec
-    next-states-requires
-    in-use-requires
-    slice-aggregate-follow-pending
-    slice-aggregate-follow-pending-2
-    follow-pending-requires
-    same-length
-    same-length-2
-    same-length-3
-    returns)
+    (tie.spec (λ c κs. search needs) (λ c κs. search needs) (λ c. search needs) (λ c. search needs)
+    follow-pending-requires (λ c. search needs) (λ c. search needs) (λ c. search needs) returns)

@@ -4,24 +4,12 @@ use borrow.Author.Needs.{needs}
 use Rattle.analysis.proofs.run.analyze_program.Statement.{statement}
 use Rattle.analysis.proofs.run.analyze_program.Tie as tie
 
-begin-requires : tie.Need-begin-requires
-begin-requires c κs = search needs
-
-slice-aggregate-follow-program : tie.Need-slice-aggregate-follow-program
-slice-aggregate-follow-program c = search needs
-
 follow-program-requires : tie.Need-follow-program-requires
 follow-program-requires c κs =
     let z = c .before .before .before .before .before .before .before .before .before .before .before .before .before .before in
     let p = programOf (z .args .p) in
     let s = c .before .before .before .before .before .before .before .begin .ensures in
     ((z .pre .0, none-yet _), (start-shape p (z .pre .0) _ _ s, comes-to-an-end p (z .pre .0) _ _ s))
-
-same-length : tie.Need-same-length
-same-length c = search needs
-
-same-length-2 : tie.Need-same-length-2
-same-length-2 c = search needs
 
 returns : tie.Need-returns
 returns c =
@@ -32,10 +20,5 @@ returns c =
 pub analyze-program-spec : {M : Type 1} → statement M
 analyze-program-spec =
     tie.close
-    (tie.spec
-    begin-requires
-    slice-aggregate-follow-program
-    follow-program-requires
-    same-length
-    same-length-2
-    returns)
+    (tie.spec (λ c κs. search needs) (λ c. search needs) follow-program-requires (λ c. search needs)
+    (λ c. search needs) returns)

@@ -6,21 +6,6 @@ use borrow.Author.Needs.{needs}
 use Rattle.analysis.proofs.run.begin.Statement.{statement}
 use Rattle.analysis.proofs.run.begin.Tie as tie
 
-clear-requires : tie.Need-clear-requires
-clear-requires c κs = search needs
-
-clear-requires-2 : tie.Need-clear-requires-2
-clear-requires-2 c κs = search needs
-
-open-initial-requires : tie.Need-open-initial-requires
-open-initial-requires c κs = search needs
-
-same-length : tie.Need-same-length
-same-length c = search needs
-
-same-length-2 : tie.Need-same-length-2
-same-length-2 c = search needs
-
 returns : tie.Need-returns
 unfolding none-set
 returns c =
@@ -32,10 +17,5 @@ returns c =
 pub begin-spec : {M : Type 1} → statement M
 begin-spec =
     tie.close
-    (tie.spec
-    clear-requires
-    clear-requires-2
-    open-initial-requires
-    same-length
-    same-length-2
-    returns)
+    (tie.spec (λ c κs. search needs) (λ c κs. search needs) (λ c κs. search needs) (λ c. search needs)
+    (λ c. search needs) returns)

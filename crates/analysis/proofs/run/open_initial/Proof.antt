@@ -16,9 +16,6 @@ Inv-loop marks₀ pending₀ list count low₀ i₀ marks pending low i = Loopin
 abbrev μ-loop : tie.MeasureT-loop
 μ-loop marks₀ pending₀ list count low₀ i₀ marks pending low i = count - i
 
-in-use-requires : tie.Need-in-use-requires Inv-loop μ-loop
-in-use-requires c κs = search needs
-
 loop-holds : tie.Need-loop-holds Inv-loop μ-loop
 loop-holds c = loop-start _ _ _ _ _ (c .before .before .before .before .pre .0) (c .before .before .before .before .pre .1)
 
@@ -28,17 +25,8 @@ array-read-q c =
     let room : length (z .args .initial .list) ≡ 8 = search needs in
     omega (arith, c .before .before .in-use .ensures)
 
-number-of-requires : tie.Need-number-of-requires Inv-loop μ-loop
-number-of-requires c κs = search needs
-
 mark-requires : tie.Need-mark-requires Inv-loop μ-loop
 mark-requires c κs = (c .before .before .before .before .loop .inv .marks-length, c .before .before .before .before .loop .inv .pending-length)
-
-add-i : tie.Need-add-i Inv-loop μ-loop
-add-i c = search needs
-
-loop-less : tie.Need-loop-less Inv-loop μ-loop
-loop-less c = search needs
 
 loop-again : tie.Need-loop-again Inv-loop μ-loop
 loop-again c =
@@ -64,17 +52,5 @@ returns c =
 pub open-initial-spec : {M : Type 1} → statement M
 open-initial-spec =
     tie.close
-    (tie.spec
-    Inv-loop
-    μ-loop
-    in-use-requires
-    loop-holds
-    array-read-q
-    number-of-requires
-    mark-requires
-    add-i
-    loop-less
-    loop-again
-    same-length
-    same-length-2
-    returns)
+    (tie.spec Inv-loop μ-loop (λ c κs. search needs) loop-holds array-read-q (λ c κs. search needs) mark-requires
+    (λ c. search needs) (λ c. search needs) loop-again same-length same-length-2 returns)

@@ -26,23 +26,8 @@ returns c =
     let n = room p in
     members-all (p .loop .inv) (omega arith)
 
-array-read-q : tie.Need-array-read-q Inv-loop μ-loop
-array-read-q c = search needs
-
-cast-q : tie.Need-cast-q Inv-loop μ-loop
-cast-q c = search needs
-
 slice-aggregate-set-flag : tie.Need-slice-aggregate-set-flag Inv-loop μ-loop
 slice-aggregate-set-flag c = sym (c .before .before .before .loop .inv .size)
-
-set-flag-requires : tie.Need-set-flag-requires Inv-loop μ-loop
-set-flag-requires c κs = search needs
-
-add-i : tie.Need-add-i Inv-loop μ-loop
-add-i c = search needs
-
-loop-less : tie.Need-loop-less Inv-loop μ-loop
-loop-less c = search needs
 
 loop-again : tie.Need-loop-again Inv-loop μ-loop
 loop-again c =
@@ -59,16 +44,5 @@ returns-2 c =
 pub flags-of-spec : {M : Type 1} → statement M
 flags-of-spec =
     tie.close
-    (tie.spec
-    Inv-loop
-    μ-loop
-    loop-holds
-    returns
-    array-read-q
-    cast-q
-    slice-aggregate-set-flag
-    set-flag-requires
-    add-i
-    loop-less
-    loop-again
-    returns-2)
+    (tie.spec Inv-loop μ-loop loop-holds returns (λ c. search needs) (λ c. search needs) slice-aggregate-set-flag
+    (λ c κs. search needs) (λ c. search needs) (λ c. search needs) loop-again returns-2)

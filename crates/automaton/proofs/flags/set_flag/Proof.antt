@@ -5,17 +5,8 @@ use borrow.Author.Needs.{needs}
 use Rattle.automaton.proofs.flags.set_flag.Statement.{statement}
 use Rattle.automaton.proofs.flags.set_flag.Tie as tie
 
-slice-write-flags : tie.Need-slice-write-flags
-slice-write-flags c = search needs
-
-same-length : tie.Need-same-length
-same-length c = search needs
-
-returns : tie.Need-returns
-returns c = search needs
-
 returns-2 : tie.Need-returns-2
 returns-2 c = sym (set-out _ _ _ (c .if1 .left))
 
 pub set-flag-spec : {M : Type 1} → statement M
-set-flag-spec = tie.close (tie.spec slice-write-flags same-length returns returns-2)
+set-flag-spec = tie.close (tie.spec (λ c. search needs) (λ c. search needs) (λ c. search needs) returns-2)

@@ -26,26 +26,8 @@ returns c =
     let n = room p in
     transitions-all (p .loop .inv) _ (omega arith) refl
 
-mul-place-of : tie.Need-mul-place-of Inv-loop μ-loop
-mul-place-of c = search needs
-
-array-read-place-of : tie.Need-array-read-place-of Inv-loop μ-loop
-array-read-place-of c = search needs
-
-place-of-requires : tie.Need-place-of-requires Inv-loop μ-loop
-place-of-requires c κs = search needs
-
 slice-aggregate-set-flag : tie.Need-slice-aggregate-set-flag Inv-loop μ-loop
 slice-aggregate-set-flag c = sym (c .before .before .before .before .loop .inv .size)
-
-set-flag-requires : tie.Need-set-flag-requires Inv-loop μ-loop
-set-flag-requires c κs = search needs
-
-add-i : tie.Need-add-i Inv-loop μ-loop
-add-i c = search needs
-
-loop-less : tie.Need-loop-less Inv-loop μ-loop
-loop-less c = search needs
 
 loop-again : tie.Need-loop-again Inv-loop μ-loop
 loop-again c =
@@ -63,17 +45,5 @@ returns-2 c =
 pub next-states-spec : {M : Type 1} → statement M
 next-states-spec =
     tie.close
-    (tie.spec
-    Inv-loop
-    μ-loop
-    loop-holds
-    returns
-    mul-place-of
-    array-read-place-of
-    place-of-requires
-    slice-aggregate-set-flag
-    set-flag-requires
-    add-i
-    loop-less
-    loop-again
-    returns-2)
+    (tie.spec Inv-loop μ-loop loop-holds returns (λ c. search needs) (λ c. search needs) (λ c κs. search needs)
+    slice-aggregate-set-flag (λ c κs. search needs) (λ c. search needs) (λ c. search needs) loop-again returns-2)

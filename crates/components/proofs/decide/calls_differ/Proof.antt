@@ -11,12 +11,6 @@ use Rattle.components.proofs.decide.calls_differ.Tie as tie
 room : (c : tie.Start) → length (c .args .p .edges .keys) ≡ 256
 room c = search needs
 
-in-use-requires : tie.Need-in-use-requires
-in-use-requires c κs = search needs
-
-slice-aggregate-some-differ : tie.Need-slice-aggregate-some-differ
-slice-aggregate-some-differ c = search needs
-
 some-differ-requires : tie.Need-some-differ-requires
 some-differ-requires c κs =
     let z = c .before .before .before .before .before .before .before in
@@ -32,4 +26,4 @@ returns c =
     record { if-yes = λ e. differing-call k (s .if-yes e); if-no = λ e d. s .if-no e (call-differing k d) }
 
 pub calls-differ-spec : {M : Type 1} → statement M
-calls-differ-spec = tie.close (tie.spec in-use-requires slice-aggregate-some-differ some-differ-requires returns)
+calls-differ-spec = tie.close (tie.spec (λ c κs. search needs) (λ c. search needs) some-differ-requires returns)

@@ -5,9 +5,6 @@ use Rattle.components.proofs.Deciding.{said-yes}
 use Rattle.components.proofs.decide.is_reopened.Statement.{statement}
 use Rattle.components.proofs.decide.is_reopened.Tie as tie
 
-shared-slice-read-if1 : tie.Need-shared-slice-read-if1
-shared-slice-read-if1 c = search needs
-
 returns : tie.Need-returns
 returns c = said-yes (inl (c .if1 .taken))
 
@@ -20,4 +17,4 @@ returns-2 c =
     record { if-yes = λ e. inr (s .if-yes e); if-no = λ e x. ⊎-elim (λ m. m (c .before .if1 .left)) (s .if-no e) x }
 
 pub is-reopened-spec : {M : Type 1} → statement M
-is-reopened-spec = tie.close (tie.spec shared-slice-read-if1 returns calls-differ-requires returns-2)
+is-reopened-spec = tie.close (tie.spec (λ c. search needs) returns calls-differ-requires returns-2)

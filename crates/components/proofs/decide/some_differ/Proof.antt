@@ -17,25 +17,10 @@ abbrev μ-loop : tie.MeasureT-loop
 loop-holds : tie.Need-loop-holds Inv-loop μ-loop
 loop-holds c = λ j h. absurd (omega arith)
 
-mul-edge-differs : tie.Need-mul-edge-differs Inv-loop μ-loop
-mul-edge-differs c = search needs
-
-shared-slice-read-edge-differs : tie.Need-shared-slice-read-edge-differs Inv-loop μ-loop
-shared-slice-read-edge-differs c = search needs
-
-edge-differs-requires : tie.Need-edge-differs-requires Inv-loop μ-loop
-edge-differs-requires c κs = search needs
-
 returns : tie.Need-returns Inv-loop μ-loop
 returns c =
     let l = c .before .before .before .before in
     said-yes (record { at = l .loop .i; below = omega arith; differing = c .before .edge-differs .ensures .if-yes (c .if1 .taken) })
-
-add-i : tie.Need-add-i Inv-loop μ-loop
-add-i c = search needs
-
-loop-less : tie.Need-loop-less Inv-loop μ-loop
-loop-less c = search needs
 
 loop-again : tie.Need-loop-again Inv-loop μ-loop
 loop-again c = none-more _ (c .before .before .before .before .loop .inv) (c .before .edge-differs .ensures .if-no (c .if1 .left))
@@ -46,15 +31,5 @@ returns-2 c = said-no (λ d. c .before .loop .inv (d .at) (omega (arith, d .belo
 pub some-differ-spec : {M : Type 1} → statement M
 some-differ-spec =
     tie.close
-    (tie.spec
-    Inv-loop
-    μ-loop
-    loop-holds
-    mul-edge-differs
-    shared-slice-read-edge-differs
-    edge-differs-requires
-    returns
-    add-i
-    loop-less
-    loop-again
-    returns-2)
+    (tie.spec Inv-loop μ-loop loop-holds (λ c. search needs) (λ c. search needs) (λ c κs. search needs) returns
+    (λ c. search needs) (λ c. search needs) loop-again returns-2)

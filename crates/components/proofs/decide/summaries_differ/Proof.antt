@@ -14,38 +14,11 @@ abbrev μ-loop : tie.MeasureT-loop
 loop-holds : tie.Need-loop-holds Inv-loop μ-loop
 loop-holds c = λ j h. absurd (omega arith)
 
-mul-was : tie.Need-mul-was Inv-loop μ-loop
-mul-was c = search needs
-
-add-was : tie.Need-add-was Inv-loop μ-loop
-add-was c = search needs
-
-shared-slice-read-was : tie.Need-shared-slice-read-was Inv-loop μ-loop
-shared-slice-read-was c = search needs
-
-mul-is : tie.Need-mul-is Inv-loop μ-loop
-mul-is c = search needs
-
-add-is : tie.Need-add-is Inv-loop μ-loop
-add-is c = search needs
-
-add-is-2 : tie.Need-add-is-2 Inv-loop μ-loop
-add-is-2 c = search needs
-
-shared-slice-read-is : tie.Need-shared-slice-read-is Inv-loop μ-loop
-shared-slice-read-is c = search needs
-
 returns : tie.Need-returns Inv-loop μ-loop
 returns c =
     let z = c .before .before .before .before .before in
     let l = c .before .before .before .before in
     said-yes (found-differs _ _ (z .args .g) (omega arith) (l .loop .i) (omega arith) (apart-yes _ _ (c .if1 .taken)))
-
-add-i : tie.Need-add-i Inv-loop μ-loop
-add-i c = search needs
-
-loop-less : tie.Need-loop-less Inv-loop μ-loop
-loop-less c = search needs
 
 loop-again : tie.Need-loop-again Inv-loop μ-loop
 loop-again c = none-more _ (c .before .before .before .before .loop .inv) (apart-no _ _ (c .if1 .left))
@@ -56,19 +29,6 @@ returns-2 c = said-no (none-differs _ _ (c .before .before .args .g) (omega arit
 pub summaries-differ-spec : {M : Type 1} → statement M
 summaries-differ-spec =
     tie.close
-    (tie.spec
-    Inv-loop
-    μ-loop
-    loop-holds
-    mul-was
-    add-was
-    shared-slice-read-was
-    mul-is
-    add-is
-    add-is-2
-    shared-slice-read-is
-    returns
-    add-i
-    loop-less
-    loop-again
-    returns-2)
+    (tie.spec Inv-loop μ-loop loop-holds (λ c. search needs) (λ c. search needs) (λ c. search needs)
+    (λ c. search needs) (λ c. search needs) (λ c. search needs) (λ c. search needs) returns (λ c. search needs)
+    (λ c. search needs) loop-again returns-2)

@@ -14,21 +14,6 @@ old-roots-requires c κs = let z = c .before .before .before .before .before .pr
 summaries-of-requires : tie.Need-summaries-of-requires
 summaries-of-requires c κs = let z = c .before .before .before .before .before .before .before .before .pre .1 in fresh-length (z .0) (z .2)
 
-slice-aggregate-visit-all : tie.Need-slice-aggregate-visit-all
-slice-aggregate-visit-all c = search needs
-
-slice-aggregate-visit-all-2 : tie.Need-slice-aggregate-visit-all-2
-slice-aggregate-visit-all-2 c = search needs
-
-slice-aggregate-visit-all-3 : tie.Need-slice-aggregate-visit-all-3
-slice-aggregate-visit-all-3 c = search needs
-
-slice-aggregate-visit-all-4 : tie.Need-slice-aggregate-visit-all-4
-slice-aggregate-visit-all-4 c = search needs
-
-slice-aggregate-visit-all-5 : tie.Need-slice-aggregate-visit-all-5
-slice-aggregate-visit-all-5 c = search needs
-
 visit-all-requires : tie.Need-visit-all-requires
 visit-all-requires c κs =
     let z = c .before .before .before .before .before .before .before .before .before .before .before .before .before .before .before .before .before .pre in
@@ -40,15 +25,6 @@ cut-to-live-requires c κs =
     let z = c .before .before .before .before .before .before .before .before .before .before .before .before .before .before .before .before .before .before .before .before .before .before .before .before .before .pre .1 in
     let t = turning-start (z .1) (z .2) (c .before .before .before .before .before .before .before .before .before .before .before .before .before .before .before .before .before .before .before .before .before .before .call-graph .ensures) (c .before .before .before .before .before .before .before .before .before .before .before .before .before .before .before .before .before .before .before .old-roots .ensures) (c .before .before .before .before .before .before .before .before .before .before .before .before .before .before .before .before .summaries-of .ensures) in
     (z .1 .well-formed, c .before .before .before .before .before .before .before .visit-all .ensures (z .0) t .working .marks-length)
-
-clear-requires : tie.Need-clear-requires
-clear-requires c κs = search needs
-
-same-length : tie.Need-same-length
-same-length c = search needs
-
-same-length-2 : tie.Need-same-length-2
-same-length-2 c = search needs
 
 returns : tie.Need-returns
 returns c =
@@ -64,18 +40,6 @@ returns c =
 pub drop-inside-out-spec : {M : Type 1} → statement M
 drop-inside-out-spec =
     tie.close
-    (tie.spec
-    call-graph-requires
-    old-roots-requires
-    summaries-of-requires
-    slice-aggregate-visit-all
-    slice-aggregate-visit-all-2
-    slice-aggregate-visit-all-3
-    slice-aggregate-visit-all-4
-    slice-aggregate-visit-all-5
-    visit-all-requires
-    cut-to-live-requires
-    clear-requires
-    same-length
-    same-length-2
-    returns)
+    (tie.spec call-graph-requires old-roots-requires summaries-of-requires (λ c. search needs) (λ c. search needs)
+    (λ c. search needs) (λ c. search needs) (λ c. search needs) visit-all-requires cut-to-live-requires
+    (λ c κs. search needs) (λ c. search needs) (λ c. search needs) returns)

@@ -5,14 +5,8 @@ use Rattle.components.proofs.Turning.{done-skipped, rank-skipped, at-tu
 use Rattle.components.proofs.drop.visit.Statement.{statement}
 use Rattle.components.proofs.drop.visit.Tie as tie
 
-slice-read-if1 : tie.Need-slice-read-if1
-slice-read-if1 c = search needs
-
 returns : tie.Need-returns
 returns c = λ old t. done-skipped t (c .if1 .taken)
-
-rank-requires : tie.Need-rank-requires
-rank-requires c κs = search needs
 
 returns-2 : tie.Need-returns-2
 returns-2 c = λ old t. rank-skipped t (c .before .rank .ensures) (c .if2 .taken)
@@ -21,18 +15,6 @@ work-component-requires : tie.Need-work-component-requires
 work-component-requires c κs =
     let z = c .before .before .before .before .before .before .before .before .before .before .before .before .before .before .before .pre in
     ((omega arith, z .0 .0, z .0 .1, c .before .before .before .before .before .before .if1 .left), (z .1 .0, at-turn (z .1 .1) (c .before .before .before .before .before .rank .ensures) (c .before .before .before .before .if2 .left)))
-
-same-length : tie.Need-same-length
-same-length c = search needs
-
-same-length-2 : tie.Need-same-length-2
-same-length-2 c = search needs
-
-same-length-3 : tie.Need-same-length-3
-same-length-3 c = search needs
-
-same-length-4 : tie.Need-same-length-4
-same-length-4 c = search needs
 
 returns-3 : tie.Need-returns-3
 returns-3 c =
@@ -43,14 +25,5 @@ returns-3 c =
 pub visit-spec : {M : Type 1} → statement M
 visit-spec =
     tie.close
-    (tie.spec
-    slice-read-if1
-    returns
-    rank-requires
-    returns-2
-    work-component-requires
-    same-length
-    same-length-2
-    same-length-3
-    same-length-4
-    returns-3)
+    (tie.spec (λ c. search needs) returns (λ c κs. search needs) returns-2 work-component-requires
+    (λ c. search needs) (λ c. search needs) (λ c. search needs) (λ c. search needs) returns-3)

@@ -11,9 +11,6 @@ use Rattle.components.proofs.drop.work_component.Tie as tie
 component-requires : tie.Need-component-requires
 component-requires c κs = let z = c .before .before .before .before .before .before .before .pre in (z .1 .1 .graph .len, z .0 .0)
 
-slice-aggregate-is-reopened : tie.Need-slice-aggregate-is-reopened
-slice-aggregate-is-reopened c = search needs
-
 is-reopened-requires : tie.Need-is-reopened-requires
 is-reopened-requires c κs =
     let z = c .before .before .before .before .before .before .before .before .before .before .before .pre in
@@ -21,9 +18,6 @@ is-reopened-requires c κs =
     let o = c .before .before .before .component .ok in
     let len : length (c .before .before .before .component .result .flags) ≡ 16 = search (needs, o) in
     ((len, t .old-summaries .len, t .working .marks-length, z .0 .1), t .drop .well-formed)
-
-slice-aggregate-component-pass : tie.Need-slice-aggregate-component-pass
-slice-aggregate-component-pass c = search needs
 
 component-pass-requires : tie.Need-component-pass-requires
 component-pass-requires c κs =
@@ -35,9 +29,6 @@ component-pass-requires c κs =
     let is = component-members (t .graph) (z .pre .0 .0) (s .component .ensures) in
     ((t .drop .well-formed, z .pre .0 .2), may-pass (z .args .f) t (z .pre .0 .0) (z .pre .0 .3) len is)
 
-slice-aggregate-join : tie.Need-slice-aggregate-join
-slice-aggregate-join c = search needs
-
 join-requires : tie.Need-join-requires
 join-requires c κs =
     let s = c .before .before .before .before .before .before .before .before .before .before .before .before .before .before .before in
@@ -45,27 +36,12 @@ join-requires c κs =
     let len : length (s .component .result .flags) ≡ 16 = search (needs, o) in
     (s .before .before .before .before .before .before .before .before .pre .1 .1 .working .reopened-length, len)
 
-slice-aggregate-join-2 : tie.Need-slice-aggregate-join-2
-slice-aggregate-join-2 c = search needs
-
 join-requires-2 : tie.Need-join-requires-2
 join-requires-2 c κs =
     let s = c .before .before .before .before .before .before .before .before .before .before .before .before .before .before .before .before .before .before .before .before in
     let o = s .component .ok in
     let len : length (s .component .result .flags) ≡ 16 = search (needs, o) in
     (s .before .before .before .before .before .before .before .before .pre .1 .1 .working .done-length, len)
-
-same-length : tie.Need-same-length
-same-length c = search needs
-
-same-length-2 : tie.Need-same-length-2
-same-length-2 c = search needs
-
-same-length-3 : tie.Need-same-length-3
-same-length-3 c = search needs
-
-same-length-4 : tie.Need-same-length-4
-same-length-4 c = search needs
 
 returns : tie.Need-returns
 returns c =
@@ -77,21 +53,12 @@ returns c =
     component-worked (z .args .f) t (z .pre .0 .0) (z .pre .0 .3) len (component-members (t .graph) (z .pre .0 .0) (s .component .ensures))
     (c .before .before .before .before .before .before .before .before .before .before .before .before .before .before .before .before .before .before .before .is-reopened .ensures .if-yes (c .before .before .before .before .before .before .before .before .before .before .before .before .before .before .before .before .before .before .if1 .taken)) (c .before .before .before .before .before .before .before .before .before .before .before .before .before .before .component-pass .ensures .0) (joined-members (t .working .reopened-length) (c .before .before .before .before .before .before .before .join .ensures)) (joined-members (t .working .done-length) (c .before .before .join2 .ensures))
 
-slice-aggregate-join-3 : tie.Need-slice-aggregate-join-3
-slice-aggregate-join-3 c = search needs
-
 join-requires-3 : tie.Need-join-requires-3
 join-requires-3 c κs =
     let s = c .before .before .before .before .before .before .before in
     let o = s .component .ok in
     let len : length (s .component .result .flags) ≡ 16 = search (needs, o) in
     (s .before .before .before .before .before .before .before .before .pre .1 .1 .working .done-length, len)
-
-same-length-5 : tie.Need-same-length-5
-same-length-5 c = search needs
-
-same-length-6 : tie.Need-same-length-6
-same-length-6 c = search needs
 
 returns-2 : tie.Need-returns-2
 returns-2 c =
@@ -106,23 +73,7 @@ returns-2 c =
 pub work-component-spec : {M : Type 1} → statement M
 work-component-spec =
     tie.close
-    (tie.spec
-    component-requires
-    slice-aggregate-is-reopened
-    is-reopened-requires
-    slice-aggregate-component-pass
-    component-pass-requires
-    slice-aggregate-join
-    join-requires
-    slice-aggregate-join-2
-    join-requires-2
-    same-length
-    same-length-2
-    same-length-3
-    same-length-4
-    returns
-    slice-aggregate-join-3
-    join-requires-3
-    same-length-5
-    same-length-6
-    returns-2)
+    (tie.spec component-requires (λ c. search needs) is-reopened-requires (λ c. search needs)
+    component-pass-requires (λ c. search needs) join-requires (λ c. search needs) join-requires-2
+    (λ c. search needs) (λ c. search needs) (λ c. search needs) (λ c. search needs) returns (λ c. search needs)
+    join-requires-3 (λ c. search needs) (λ c. search needs) returns-2)

@@ -19,14 +19,8 @@ Inv-loop keys count leads₀ more₀ leads more = (length leads ≡ 256) × ((p 
 abbrev μ-loop : tie.MeasureT-loop
 μ-loop keys count leads₀ more₀ leads more = left 256 leads more
 
-in-use-requires : tie.Need-in-use-requires Inv-loop μ-loop
-in-use-requires c κs = search needs
-
 loop-holds : tie.Need-loop-holds Inv-loop μ-loop
 loop-holds c = (refl, λ p k. growing-start refl (λ i x. none-on 256 x))
-
-slice-aggregate-lead-further : tie.Need-slice-aggregate-lead-further Inv-loop μ-loop
-slice-aggregate-lead-further c = search needs
 
 slice-aggregate-lead-further-2 : tie.Need-slice-aggregate-lead-further-2 Inv-loop μ-loop
 slice-aggregate-lead-further-2 c = sym (c .before .before .before .loop .inv .0)
@@ -56,14 +50,5 @@ returns c = let z = c .before .before .before .before .before in
 pub call-graph-spec : {M : Type 1} → statement M
 call-graph-spec =
     tie.close
-    (tie.spec
-    Inv-loop
-    μ-loop
-    in-use-requires
-    loop-holds
-    slice-aggregate-lead-further
-    slice-aggregate-lead-further-2
-    lead-further-requires
-    loop-less
-    loop-again
-    returns)
+    (tie.spec Inv-loop μ-loop (λ c κs. search needs) loop-holds (λ c. search needs) slice-aggregate-lead-further-2
+    lead-further-requires loop-less loop-again returns)

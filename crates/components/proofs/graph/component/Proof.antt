@@ -18,17 +18,8 @@ abbrev μ-loop : tie.MeasureT-loop
 loop-holds : tie.Need-loop-holds Inv-loop μ-loop
 loop-holds c = filling-none _ 16 _ refl
 
-is-together-requires : tie.Need-is-together-requires Inv-loop μ-loop
-is-together-requires c κs = search needs
-
 array-write-flags : tie.Need-array-write-flags Inv-loop μ-loop
 array-write-flags c = omega (arith, c .before .before .loop .inv .len)
-
-add-g : tie.Need-add-g Inv-loop μ-loop
-add-g c = search needs
-
-loop-less : tie.Need-loop-less Inv-loop μ-loop
-loop-less c = search needs
 
 loop-again : tie.Need-loop-again Inv-loop μ-loop
 loop-again c = filling-more (c .before .before .loop .inv) (omega arith) (c .is-together .ensures)
@@ -39,13 +30,5 @@ returns c = filling-all (c .before .loop .inv) (omega arith)
 pub component-spec : {M : Type 1} → statement M
 component-spec =
     tie.close
-    (tie.spec
-    Inv-loop
-    μ-loop
-    loop-holds
-    is-together-requires
-    array-write-flags
-    add-g
-    loop-less
-    loop-again
-    returns)
+    (tie.spec Inv-loop μ-loop loop-holds (λ c κs. search needs) array-write-flags (λ c. search needs)
+    (λ c. search needs) loop-again returns)

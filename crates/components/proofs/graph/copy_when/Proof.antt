@@ -5,21 +5,9 @@ use borrow.Author.Needs.{needs}
 use Rattle.components.proofs.graph.copy_when.Statement.{statement}
 use Rattle.components.proofs.graph.copy_when.Tie as tie
 
-is-set-requires : tie.Need-is-set-requires
-is-set-requires c κs = search needs
-
-set-flag-requires : tie.Need-set-flag-requires
-set-flag-requires c κs = search needs
-
-same-length : tie.Need-same-length
-same-length c = search needs
-
 returns : tie.Need-returns
 unfolding copyWhen
 returns c = c .before .before .set-flag .ensures ∙ rw (rw (c .before .before .before .before .before .is-set .ensures) at (c .before .before .before .before .if1 .taken))
-
-same-length-2 : tie.Need-same-length-2
-same-length-2 c = search needs
 
 returns-2 : tie.Need-returns-2
 unfolding copyWhen
@@ -28,4 +16,5 @@ returns-2 c = rw (rw (c .before .is-set .ensures) at (c .if1 .left))
 pub copy-when-spec : {M : Type 1} → statement M
 copy-when-spec =
     tie.close
-    (tie.spec is-set-requires set-flag-requires same-length returns same-length-2 returns-2)
+    (tie.spec (λ c κs. search needs) (λ c κs. search needs) (λ c. search needs) returns (λ c. search needs)
+    returns-2)

@@ -9,15 +9,6 @@ use borrow.Author.Needs.{needs}
 use Rattle.components.proofs.graph.is_counted.Statement.{statement}
 use Rattle.components.proofs.graph.is_counted.Tie as tie
 
-mul-if1 : tie.Need-mul-if1
-mul-if1 c = search needs
-
-add-if1 : tie.Need-add-if1
-add-if1 c = search needs
-
-shared-slice-read-if1 : tie.Need-shared-slice-read-if1
-shared-slice-read-if1 c = search needs
-
 returns : tie.Need-returns
 returns c =
     let z = c .before .before in
@@ -31,4 +22,4 @@ returns-2 c =
     (rw passed-over, omega arith)
 
 pub is-counted-spec : {M : Type 1} → statement M
-is-counted-spec = tie.close (tie.spec mul-if1 add-if1 shared-slice-read-if1 returns returns-2)
+is-counted-spec = tie.close (tie.spec (λ c. search needs) (λ c. search needs) (λ c. search needs) returns returns-2)

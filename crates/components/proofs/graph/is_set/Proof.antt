@@ -5,9 +5,6 @@ use borrow.Author.Needs.{needs}
 use Rattle.components.proofs.graph.is_set.Statement.{statement}
 use Rattle.components.proofs.graph.is_set.Tie as tie
 
-shared-slice-read-result : tie.Need-shared-slice-read-result
-shared-slice-read-result c = search needs
-
 returns : tie.Need-returns
 returns c = refl
 
@@ -16,4 +13,4 @@ returns-2 c = let d : getD (c .before .args .flags .now) (c .before .args .at) 0
     rw d
 
 pub is-set-spec : {M : Type 1} → statement M
-is-set-spec = tie.close (tie.spec shared-slice-read-result returns returns-2)
+is-set-spec = tie.close (tie.spec (λ c. search needs) returns returns-2)

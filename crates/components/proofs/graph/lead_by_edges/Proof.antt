@@ -18,21 +18,6 @@ abbrev μ-loop : tie.MeasureT-loop
 loop-holds : tie.Need-loop-holds Inv-loop μ-loop
 loop-holds c = turning-start _ _ _
 
-mul-lead-by-edge : tie.Need-mul-lead-by-edge Inv-loop μ-loop
-mul-lead-by-edge c = search needs
-
-shared-slice-read-lead-by-edge : tie.Need-shared-slice-read-lead-by-edge Inv-loop μ-loop
-shared-slice-read-lead-by-edge c = search needs
-
-lead-by-edge-requires : tie.Need-lead-by-edge-requires Inv-loop μ-loop
-lead-by-edge-requires c κs = search needs
-
-add-i : tie.Need-add-i Inv-loop μ-loop
-add-i c = search needs
-
-loop-less : tie.Need-loop-less Inv-loop μ-loop
-loop-less c = search needs
-
 loop-again : tie.Need-loop-again Inv-loop μ-loop
 loop-again c = turning-turn (c .before .before .before .before .before .before .loop .inv) (omega arith) (c .before .before .lead-by-edge .ensures) (c .before .before .lead-by-edge .kept .0)
 
@@ -45,15 +30,5 @@ returns c = turning-end (c .before .loop .inv) (omega arith)
 pub lead-by-edges-spec : {M : Type 1} → statement M
 lead-by-edges-spec =
     tie.close
-    (tie.spec
-    Inv-loop
-    μ-loop
-    loop-holds
-    mul-lead-by-edge
-    shared-slice-read-lead-by-edge
-    lead-by-edge-requires
-    add-i
-    loop-less
-    loop-again
-    same-length
-    returns)
+    (tie.spec Inv-loop μ-loop loop-holds (λ c. search needs) (λ c. search needs) (λ c κs. search needs)
+    (λ c. search needs) (λ c. search needs) loop-again same-length returns)

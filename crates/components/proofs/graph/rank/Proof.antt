@@ -17,18 +17,6 @@ abbrev μ-loop : tie.MeasureT-loop
 loop-holds : tie.Need-loop-holds Inv-loop μ-loop
 loop-holds c = (rank-none _ _, omega arith, omega arith)
 
-is-counted-requires : tie.Need-is-counted-requires Inv-loop μ-loop
-is-counted-requires c κs = search needs
-
-add-n : tie.Need-add-n Inv-loop μ-loop
-add-n c = search needs
-
-add-g : tie.Need-add-g Inv-loop μ-loop
-add-g c = search needs
-
-loop-less : tie.Need-loop-less Inv-loop μ-loop
-loop-less c = search needs
-
 loop-again : tie.Need-loop-again Inv-loop μ-loop
 loop-again c = let p = c .before .before .loop in
     (rank-next _ _ _ (p .inv .0) (c .is-counted .ensures .0), omega (arith, p .inv .1), omega (arith, p .inv .2))
@@ -39,13 +27,5 @@ returns c = rank-all _ _ (omega (arith, c .before .loop .inv .2)) (c .before .lo
 pub rank-spec : {M : Type 1} → statement M
 rank-spec =
     tie.close
-    (tie.spec
-    Inv-loop
-    μ-loop
-    loop-holds
-    is-counted-requires
-    add-n
-    add-g
-    loop-less
-    loop-again
-    returns)
+    (tie.spec Inv-loop μ-loop loop-holds (λ c κs. search needs) (λ c. search needs) (λ c. search needs)
+    (λ c. search needs) loop-again returns)

@@ -8,16 +8,10 @@ use borrow.Author.Needs.{needs}
 use Rattle.components.proofs.pass.component_pass.Statement.{statement}
 use Rattle.components.proofs.pass.component_pass.Tie as tie
 
-next-states-requires : tie.Need-next-states-requires
-next-states-requires c κs = search needs
-
 reset-requires : tie.Need-reset-requires
 reset-requires c κs =
     let z = c .before .before .before .before .before .before .before .before .pre .1 in
     (z .members-length, z .roots-length, z .marks-length)
-
-slice-aggregate-rounds : tie.Need-slice-aggregate-rounds
-slice-aggregate-rounds c = search needs
 
 rounds-requires : tie.Need-rounds-requires
 rounds-requires c κs =
@@ -26,14 +20,8 @@ rounds-requires c κs =
     let flags : length (c .before .before .before .before .before .before .before .before .next-states .result .flags) ≡ 2048 = search (needs, o) in
     ((z .1 .members-length, flags, z .0 .1), (first-ready (z .0 .0) (z .1) (c .before .before .before .before .before .reset .ensures), c .before .before .before .before .before .before .before .before .next-states .ensures))
 
-clear-requires : tie.Need-clear-requires
-clear-requires c κs = search needs
-
 same-length : tie.Need-same-length
 same-length c = c .before .before .before .before .before .before .before .before .rounds .ensures .len ∙ sym (c .before .before .before .before .before .before .before .before .before .before .before .before .before .before .before .before .before .before .before .before .before .before .before .pre .1 .marks-length)
-
-same-length-2 : tie.Need-same-length-2
-same-length-2 c = search needs
 
 returns : tie.Need-returns
 unfolding none-set
@@ -45,12 +33,5 @@ returns c =
 pub component-pass-spec : {M : Type 1} → statement M
 component-pass-spec =
     tie.close
-    (tie.spec
-    next-states-requires
-    reset-requires
-    slice-aggregate-rounds
-    rounds-requires
-    clear-requires
-    same-length
-    same-length-2
-    returns)
+    (tie.spec (λ c κs. search needs) reset-requires (λ c. search needs) rounds-requires (λ c κs. search needs)
+    same-length (λ c. search needs) returns)

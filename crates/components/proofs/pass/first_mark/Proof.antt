@@ -4,9 +4,6 @@ use borrow.Author.Needs.{needs}
 use Rattle.components.proofs.pass.first_mark.Statement.{statement}
 use Rattle.components.proofs.pass.first_mark.Tie as tie
 
-shared-slice-read-if1 : tie.Need-shared-slice-read-if1
-shared-slice-read-if1 c = search needs
-
 returns : tie.Need-returns
 returns c = simp (eq-eqb _ _ (c .if1 .taken))
 
@@ -15,15 +12,6 @@ returns-2 c = simp (ne-eqb _ _ (c .before .if1 .left), ne-eqb _ _ (c .if2 .taken
 
 returns-3 : tie.Need-returns-3
 returns-3 c = simp (ne-eqb _ _ (c .before .before .if1 .left), eq-eqb _ _ (c .before .if2 .left), ne-eqb _ _ (c .if3 .taken))
-
-mul-if4 : tie.Need-mul-if4
-mul-if4 c = search needs
-
-add-if4 : tie.Need-add-if4
-add-if4 c = search needs
-
-shared-slice-read-if4 : tie.Need-shared-slice-read-if4
-shared-slice-read-if4 c = search needs
 
 returns-4 : tie.Need-returns-4
 returns-4 c = simp (ne-eqb _ _ (c .before .before .before .before .if1 .left), eq-eqb _ _ (c .before .before .before .if2 .left), eq-eqb _ _ (c .before .before .if3 .left), eq-eqb _ _ (c .if4 .taken))
@@ -34,13 +22,5 @@ returns-5 c = simp (ne-eqb _ _ (c .before .before .before .before .if1 .left), e
 pub first-mark-spec : {M : Type 1} → statement M
 first-mark-spec =
     tie.close
-    (tie.spec
-    shared-slice-read-if1
-    returns
-    returns-2
-    returns-3
-    mul-if4
-    add-if4
-    shared-slice-read-if4
-    returns-4
-    returns-5)
+    (tie.spec (λ c. search needs) returns returns-2 returns-3 (λ c. search needs) (λ c. search needs)
+    (λ c. search needs) returns-4 returns-5)

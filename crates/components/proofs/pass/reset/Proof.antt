@@ -33,12 +33,6 @@ slice-write-marks c =
     let w = c .before .before .before .loop .inv in
     omega (arith, w .len)
 
-add-i : tie.Need-add-i Inv-loop μ-loop
-add-i c = search needs
-
-loop-less : tie.Need-loop-less Inv-loop μ-loop
-loop-less c = search needs
-
 loop-again : tie.Need-loop-again Inv-loop μ-loop
 loop-again c =
     let w = c .before .before .before .loop .inv in
@@ -55,15 +49,5 @@ returns c = filling-all (c .before .loop .inv) (omega arith)
 pub reset-spec : {M : Type 1} → statement M
 reset-spec =
     tie.close
-    (tie.spec
-    Inv-loop
-    μ-loop
-    loop-holds
-    slice-read-first-mark
-    first-mark-requires
-    slice-write-marks
-    add-i
-    loop-less
-    loop-again
-    same-length
-    returns)
+    (tie.spec Inv-loop μ-loop loop-holds slice-read-first-mark first-mark-requires slice-write-marks
+    (λ c. search needs) (λ c. search needs) loop-again same-length returns)

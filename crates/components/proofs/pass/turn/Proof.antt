@@ -12,17 +12,8 @@ use Rattle.components.proofs.pass.turn.Tie as tie
 room : (c : tie.Start) → length (c .args .p .edges .keys) ≡ 256
 room c = search needs
 
-shared-slice-read-if1 : tie.Need-shared-slice-read-if1
-shared-slice-read-if1 c = search needs
-
 returns : tie.Need-returns
 returns c = no-turn (c .before .before .before .before .before .before .pre .1 .0) _ (c .if1 .taken)
-
-in-use-requires : tie.Need-in-use-requires
-in-use-requires c κs = search needs
-
-slice-aggregate-first-of : tie.Need-slice-aggregate-first-of
-slice-aggregate-first-of c = search needs
 
 first-of-requires : tie.Need-first-of-requires
 first-of-requires c κs =
@@ -30,23 +21,11 @@ first-of-requires c κs =
     let u = c .before .in-use .ensures in
     omega (arith, h, u)
 
-slice-aggregate-first-of-2 : tie.Need-slice-aggregate-first-of-2
-slice-aggregate-first-of-2 c = search needs
-
-add-first-of : tie.Need-add-first-of
-add-first-of c = search needs
-
 first-of-requires-2 : tie.Need-first-of-requires-2
 first-of-requires-2 c κs =
     let h = room (c .before .before .before .before .before .before .before .before .before .before .before .before) in
     let u = c .before .before .before .in-use .ensures in
     omega (arith, h, u)
-
-mul-low : tie.Need-mul-low
-mul-low c = search needs
-
-mul-follow-part : tie.Need-mul-follow-part
-mul-follow-part c = search needs
 
 sub-follow-part : tie.Need-sub-follow-part
 sub-follow-part c = part-starts (c .before .before .first-of .ensures) (c .first-of2 .ensures)
@@ -64,20 +43,11 @@ part-follow-part-end c =
     let y = c .before .first-of2 .ensures .within in
     omega (arith, h, u, x, y)
 
-add-follow-part : tie.Need-add-follow-part
-add-follow-part c = search needs
-
 follow-part-requires : tie.Need-follow-part-requires
 follow-part-requires c κs =
     let z = c .before .before .before .before .before .before .before .before .before .before .before .before .before .before .before .before .before in
     let e = routine-edges (z .args .p .edges .count) (room z) (c .before .before .before .before .before .before .before .before .in-use .ensures) (c .before .before .before .before .before .before .first-of .ensures) (c .before .before .before .before .first-of2 .ensures) (z .pre .1 .0 .well-formed .edges-ascend) in
     ((z .pre .0 .2, z .pre .0 .3, omega (arith, z .pre .0 .1)), (_, turn-followable (z .args .f) (z .pre .1 .0) e (z .pre .1 .1)))
-
-same-length : tie.Need-same-length
-same-length c = search needs
-
-same-length-2 : tie.Need-same-length-2
-same-length-2 c = search needs
 
 returns-2 : tie.Need-returns-2
 returns-2 c =
@@ -88,22 +58,7 @@ returns-2 c =
 pub turn-spec : {M : Type 1} → statement M
 turn-spec =
     tie.close
-    (tie.spec
-    shared-slice-read-if1
-    returns
-    in-use-requires
-    slice-aggregate-first-of
-    first-of-requires
-    slice-aggregate-first-of-2
-    add-first-of
-    first-of-requires-2
-    mul-low
-    mul-follow-part
-    sub-follow-part
-    part-follow-part-start
-    part-follow-part-end
-    add-follow-part
-    follow-part-requires
-    same-length
-    same-length-2
-    returns-2)
+    (tie.spec (λ c. search needs) returns (λ c κs. search needs) (λ c. search needs) first-of-requires
+    (λ c. search needs) (λ c. search needs) first-of-requires-2 (λ c. search needs) (λ c. search needs)
+    sub-follow-part part-follow-part-start part-follow-part-end (λ c. search needs) follow-part-requires
+    (λ c. search needs) (λ c. search needs) returns-2)

@@ -18,30 +18,6 @@ abbrev μ-loop : tie.MeasureT-loop
 loop-holds : tie.Need-loop-holds Inv-loop μ-loop
 loop-holds c = filling-none _ 16384 _ (c .before .before .pre .1)
 
-slice-read-both-set : tie.Need-slice-read-both-set Inv-loop μ-loop
-slice-read-both-set c = search needs
-
-mul-both-set : tie.Need-mul-both-set Inv-loop μ-loop
-mul-both-set c = search needs
-
-add-both-set : tie.Need-add-both-set Inv-loop μ-loop
-add-both-set c = search needs
-
-shared-slice-read-both-set : tie.Need-shared-slice-read-both-set Inv-loop μ-loop
-shared-slice-read-both-set c = search needs
-
-both-set-requires : tie.Need-both-set-requires Inv-loop μ-loop
-both-set-requires c κs = search needs
-
-slice-write-marks : tie.Need-slice-write-marks Inv-loop μ-loop
-slice-write-marks c = search needs
-
-add-i : tie.Need-add-i Inv-loop μ-loop
-add-i c = search needs
-
-loop-less : tie.Need-loop-less Inv-loop μ-loop
-loop-less c = search needs
-
 loop-again : tie.Need-loop-again Inv-loop μ-loop
 loop-again c = let p = c .before .before .before .before .loop in
     filling-more (p .inv) (omega arith) (rw (p .inv .left (p .i) (omega arith)) at (c .both-set .ensures))
@@ -55,18 +31,6 @@ returns c = let w = filling-all (c .before .loop .inv) (omega arith) in (w .len,
 pub cut-spec : {M : Type 1} → statement M
 cut-spec =
     tie.close
-    (tie.spec
-    Inv-loop
-    μ-loop
-    loop-holds
-    slice-read-both-set
-    mul-both-set
-    add-both-set
-    shared-slice-read-both-set
-    both-set-requires
-    slice-write-marks
-    add-i
-    loop-less
-    loop-again
-    same-length
-    returns)
+    (tie.spec Inv-loop μ-loop loop-holds (λ c. search needs) (λ c. search needs) (λ c. search needs)
+    (λ c. search needs) (λ c κs. search needs) (λ c. search needs) (λ c. search needs) (λ c. search needs)
+    loop-again same-length returns)

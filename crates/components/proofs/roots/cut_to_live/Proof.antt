@@ -5,18 +5,6 @@ use borrow.Author.Needs.{needs}
 use Rattle.components.proofs.roots.cut_to_live.Statement.{statement}
 use Rattle.components.proofs.roots.cut_to_live.Tie as tie
 
-live-roots-requires : tie.Need-live-roots-requires
-live-roots-requires c κs = search needs
-
-slice-aggregate-cut : tie.Need-slice-aggregate-cut
-slice-aggregate-cut c = search needs
-
-cut-requires : tie.Need-cut-requires
-cut-requires c κs = search needs
-
-same-length : tie.Need-same-length
-same-length c = search needs
-
 returns : tie.Need-returns
 returns c = let z = c .before .before .before .before .before .before .before .before .before in
     let e = c .before .before .cut .ensures in
@@ -24,4 +12,4 @@ returns c = let z = c .before .before .before .before .before .before .before .b
 
 pub cut-to-live-spec : {M : Type 1} → statement M
 cut-to-live-spec =
-    tie.close (tie.spec live-roots-requires slice-aggregate-cut cut-requires same-length returns)
+    tie.close (tie.spec (λ c κs. search needs) (λ c. search needs) (λ c κs. search needs) (λ c. search needs) returns)

@@ -18,23 +18,8 @@ Inv-loop marks keys count states flags₀ more₀ flags more = (length flags ≡
 abbrev μ-loop : tie.MeasureT-loop
 μ-loop marks keys count states flags₀ more₀ flags more = left 128 flags more
 
-in-use-requires : tie.Need-in-use-requires Inv-loop μ-loop
-in-use-requires c κs = search needs
-
-cast-states : tie.Need-cast-states Inv-loop μ-loop
-cast-states c = search needs
-
-slice-aggregate-roots-of-main : tie.Need-slice-aggregate-roots-of-main Inv-loop μ-loop
-slice-aggregate-roots-of-main c = search needs
-
-roots-of-main-requires : tie.Need-roots-of-main-requires Inv-loop μ-loop
-roots-of-main-requires c κs = search needs
-
 loop-holds : tie.Need-loop-holds Inv-loop μ-loop
 loop-holds c = (c .before .roots-of-main .kept .1 .0, λ p b. live-start b (c .before .before .before .before .before .before .before .before .before .before .args .marks .now))
-
-slice-aggregate-roots-further : tie.Need-slice-aggregate-roots-further Inv-loop μ-loop
-slice-aggregate-roots-further c = search needs
 
 slice-aggregate-roots-further-2 : tie.Need-slice-aggregate-roots-further-2 Inv-loop μ-loop
 slice-aggregate-roots-further-2 c = sym (c .before .before .before .loop .inv .0)
@@ -66,17 +51,6 @@ returns c = let z = c .before .before .before .before .before .before .before .b
 pub live-roots-spec : {M : Type 1} → statement M
 live-roots-spec =
     tie.close
-    (tie.spec
-    Inv-loop
-    μ-loop
-    in-use-requires
-    cast-states
-    slice-aggregate-roots-of-main
-    roots-of-main-requires
-    loop-holds
-    slice-aggregate-roots-further
-    slice-aggregate-roots-further-2
-    roots-further-requires
-    loop-less
-    loop-again
+    (tie.spec Inv-loop μ-loop (λ c κs. search needs) (λ c. search needs) (λ c. search needs) (λ c κs. search needs)
+    loop-holds (λ c. search needs) slice-aggregate-roots-further-2 roots-further-requires loop-less loop-again
     returns)

@@ -18,26 +18,8 @@ abbrev μ-loop : tie.MeasureT-loop
 loop-holds : tie.Need-loop-holds Inv-loop μ-loop
 loop-holds c = filling-none _ 128 _ refl
 
-mul-flags : tie.Need-mul-flags Inv-loop μ-loop
-mul-flags c = search needs
-
-mul-flags-2 : tie.Need-mul-flags-2 Inv-loop μ-loop
-mul-flags-2 c = search needs
-
-add-flags : tie.Need-add-flags Inv-loop μ-loop
-add-flags c = search needs
-
-shared-slice-read-flags : tie.Need-shared-slice-read-flags Inv-loop μ-loop
-shared-slice-read-flags c = search needs
-
 array-write-flags : tie.Need-array-write-flags Inv-loop μ-loop
 array-write-flags c = omega (arith, c .before .before .loop .inv .len)
-
-add-i : tie.Need-add-i Inv-loop μ-loop
-add-i c = search needs
-
-loop-less : tie.Need-loop-less Inv-loop μ-loop
-loop-less c = search needs
 
 loop-again : tie.Need-loop-again Inv-loop μ-loop
 loop-again c = filling-more (c .before .before .loop .inv) (omega arith) refl
@@ -48,16 +30,5 @@ returns c = entries-flagged (c .before .before .args .marks .now) (filling-all (
 pub old-roots-spec : {M : Type 1} → statement M
 old-roots-spec =
     tie.close
-    (tie.spec
-    Inv-loop
-    μ-loop
-    loop-holds
-    mul-flags
-    mul-flags-2
-    add-flags
-    shared-slice-read-flags
-    array-write-flags
-    add-i
-    loop-less
-    loop-again
-    returns)
+    (tie.spec Inv-loop μ-loop loop-holds (λ c. search needs) (λ c. search needs) (λ c. search needs)
+    (λ c. search needs) array-write-flags (λ c. search needs) (λ c. search needs) loop-again returns)

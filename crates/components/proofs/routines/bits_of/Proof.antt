@@ -14,23 +14,11 @@ abbrev μ-loop : tie.MeasureT-loop
 loop-holds : tie.Need-loop-holds Inv-loop μ-loop
 loop-holds c = bitted-start _
 
-sub-i : tie.Need-sub-i Inv-loop μ-loop
-sub-i c = search needs
-
 mul-n : tie.Need-mul-n Inv-loop μ-loop
 mul-n c = let b = bitted-small (c .before .loop .inv) in search (needs, b)
 
-shared-slice-read-bit-of : tie.Need-shared-slice-read-bit-of Inv-loop μ-loop
-shared-slice-read-bit-of c = search needs
-
-bit-of-requires : tie.Need-bit-of-requires Inv-loop μ-loop
-bit-of-requires c κs = search needs
-
 add-n : tie.Need-add-n Inv-loop μ-loop
 add-n c = let b = bitted-small (c .before .before .before .loop .inv) in search (needs, b)
-
-loop-less : tie.Need-loop-less Inv-loop μ-loop
-loop-less c = search needs
 
 loop-again : tie.Need-loop-again Inv-loop μ-loop
 loop-again c = bitted-turn _ _ (c .before .before .before .loop .inv) (omega arith) (c .bit-of .ensures .0)
@@ -41,15 +29,5 @@ returns c = bitted-end (c .before .loop .inv) (omega arith)
 pub bits-of-spec : {M : Type 1} → statement M
 bits-of-spec =
     tie.close
-    (tie.spec
-    Inv-loop
-    μ-loop
-    loop-holds
-    sub-i
-    mul-n
-    shared-slice-read-bit-of
-    bit-of-requires
-    add-n
-    loop-less
-    loop-again
-    returns)
+    (tie.spec Inv-loop μ-loop loop-holds (λ c. search needs) mul-n (λ c. search needs) (λ c κs. search needs) add-n
+    (λ c. search needs) loop-again returns)

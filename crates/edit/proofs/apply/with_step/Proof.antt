@@ -9,9 +9,6 @@ use borrow.Author.Needs.{needs}
 use Rattle.edit.proofs.apply.with_step.Statement.{statement}
 use Rattle.edit.proofs.apply.with_step.Tie as tie
 
-step-key-requires : tie.Need-step-key-requires
-step-key-requires c κs = search needs
-
 insert-key-requires : tie.Need-insert-key-requires
 insert-key-requires c κs = let z = c .before .before .before .before in as-many edgeOf (keysOf (z .args .p .edges)) 256 (z .pre .1)
 
@@ -24,4 +21,4 @@ returns c =
     refl
 
 pub with-step-spec : {M : Type 1} → statement M
-with-step-spec = tie.close (tie.spec step-key-requires insert-key-requires returns)
+with-step-spec = tie.close (tie.spec (λ c κs. search needs) insert-key-requires returns)

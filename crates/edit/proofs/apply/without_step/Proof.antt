@@ -9,12 +9,6 @@ use borrow.Author.Needs.{needs}
 use Rattle.edit.proofs.apply.without_step.Statement.{statement}
 use Rattle.edit.proofs.apply.without_step.Tie as tie
 
-step-key-requires : tie.Need-step-key-requires
-step-key-requires c κs = search needs
-
-remove-key-requires : tie.Need-remove-key-requires
-remove-key-requires c κs = search needs
-
 returns : tie.Need-returns
 returns c =
     let z = c .before .before .before .before .before in
@@ -24,4 +18,4 @@ returns c =
     refl
 
 pub without-step-spec : {M : Type 1} → statement M
-without-step-spec = tie.close (tie.spec step-key-requires remove-key-requires returns)
+without-step-spec = tie.close (tie.spec (λ c κs. search needs) (λ c κs. search needs) returns)

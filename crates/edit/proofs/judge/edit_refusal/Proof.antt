@@ -8,21 +8,6 @@ use borrow.Author.Needs.{needs}
 use Rattle.edit.proofs.judge.edit_refusal.Statement.{statement}
 use Rattle.edit.proofs.judge.edit_refusal.Tie as tie
 
-old-key-requires : tie.Need-old-key-requires
-old-key-requires c κs = search needs
-
-has-key-requires : tie.Need-has-key-requires
-has-key-requires c κs = search needs
-
-new-key-requires : tie.Need-new-key-requires
-new-key-requires c κs = search needs
-
-has-key-requires-2 : tie.Need-has-key-requires-2
-has-key-requires-2 c κs = search needs
-
-refusal-by-requires : tie.Need-refusal-by-requires
-refusal-by-requires c κs = search needs
-
 returns : tie.Need-returns
 returns c =
     let z = c .before .before .before .before .before .before in
@@ -38,10 +23,5 @@ returns c =
 pub edit-refusal-spec : {M : Type 1} → statement M
 edit-refusal-spec =
     tie.close
-    (tie.spec
-    old-key-requires
-    has-key-requires
-    new-key-requires
-    has-key-requires-2
-    refusal-by-requires
-    returns)
+    (tie.spec (λ c κs. search needs) (λ c κs. search needs) (λ c κs. search needs) (λ c κs. search needs)
+    (λ c κs. search needs) returns)

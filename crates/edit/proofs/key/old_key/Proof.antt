@@ -2,20 +2,11 @@ use borrow.Author.Needs.{needs}
 use Rattle.edit.proofs.key.old_key.Statement.{statement}
 use Rattle.edit.proofs.key.old_key.Tie as tie
 
-enum-known-e : tie.Need-enum-known-e
-enum-known-e c = search needs
-
 step-key-requires : tie.Need-step-key-requires
 step-key-requires c κs = rw (c .before .e .given .1) at (c .before .before .before .pre)
 
-enum-known-e-2 : tie.Need-enum-known-e-2
-enum-known-e-2 c = search needs
-
 step-key-requires-2 : tie.Need-step-key-requires-2
 step-key-requires-2 c κs = rw (c .before .e2 .given .1) at (c .before .before .before .pre)
-
-enum-known-e-3 : tie.Need-enum-known-e-3
-enum-known-e-3 c = search needs
 
 step-key-requires-3 : tie.Need-step-key-requires-3
 step-key-requires-3 c κs = rw (c .before .e3 .given .1) at (c .before .before .before .pre)
@@ -32,13 +23,5 @@ returns-3 c = rw (c .before .before .e3 .given .1) (c .step-key3 .ensures)
 pub old-key-spec : {M : Type 1} → statement M
 old-key-spec =
     tie.close
-    (tie.spec
-    enum-known-e
-    step-key-requires
-    enum-known-e-2
-    step-key-requires-2
-    enum-known-e-3
-    step-key-requires-3
-    returns
-    returns-2
-    returns-3)
+    (tie.spec (λ c. search needs) step-key-requires (λ c. search needs) step-key-requires-2 (λ c. search needs)
+    step-key-requires-3 returns returns-2 returns-3)

@@ -10,12 +10,6 @@ use borrow.Author.Needs.{needs}
 use Rattle.edit.proofs.line.only_line.Statement.{statement}
 use Rattle.edit.proofs.line.only_line.Tie as tie
 
-read-line-requires : tie.Need-read-line-requires
-read-line-requires c κs = search needs
-
-line-if-requires : tie.Need-line-if-requires
-line-if-requires c κs = search needs
-
 returns : tie.Need-returns
 returns c =
     let s = c .before .before .before .before .args .s .now in
@@ -23,4 +17,4 @@ returns c =
     c .line-if .ensures ∙ ap f (c .before .before .read-line .ensures)
 
 pub only-line-spec : {M : Type 1} → statement M
-only-line-spec = tie.close (tie.spec read-line-requires line-if-requires returns)
+only-line-spec = tie.close (tie.spec (λ c κs. search needs) (λ c κs. search needs) returns)

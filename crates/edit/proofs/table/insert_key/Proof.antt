@@ -23,9 +23,6 @@ few c =
     let n = room c in
     omega (arith, count-small (s .args .t .count) (s .args .t .keys) (omega (arith, s .pre)))
 
-no-keys-requires : tie.Need-no-keys-requires Inv-loop μ-loop
-no-keys-requires c κs = search needs
-
 loop-holds : tie.Need-loop-holds Inv-loop μ-loop
 loop-holds c = (put-start _ _ _ (c .no-keys .ensures .0) (c .no-keys .ensures .1), omega arith)
 
@@ -37,12 +34,6 @@ array-read-k c = let n = few (c .before) in omega arith
 
 put-next-requires : tie.Need-put-next-requires Inv-loop μ-loop
 put-next-requires c κs = let n = few (c .before) in (c .before .loop .inv .0 .few, omega arith)
-
-add-i : tie.Need-add-i Inv-loop μ-loop
-add-i c = search needs
-
-loop-less : tie.Need-loop-less Inv-loop μ-loop
-loop-less c = search needs
 
 loop-again : tie.Need-loop-again Inv-loop μ-loop
 loop-again c =
@@ -67,16 +58,5 @@ returns c =
 pub insert-key-spec : {M : Type 1} → statement M
 insert-key-spec =
     tie.close
-    (tie.spec
-    Inv-loop
-    μ-loop
-    no-keys-requires
-    loop-holds
-    mul-k
-    array-read-k
-    put-next-requires
-    add-i
-    loop-less
-    loop-again
-    put-last-requires
-    returns)
+    (tie.spec Inv-loop μ-loop (λ c κs. search needs) loop-holds mul-k array-read-k put-next-requires
+    (λ c. search needs) (λ c. search needs) loop-again put-last-requires returns)

@@ -7,11 +7,8 @@ use Rattle.edit.proofs.table.keep_next.Tie as tie
 returns : tie.Need-returns
 returns c = not-kept _ _ _ (c .if1 .taken)
 
-with-key-requires : tie.Need-with-key-requires
-with-key-requires c κs = search needs
-
 returns-2 : tie.Need-returns-2
 returns-2 c = kept _ _ _ _ (c .before .if1 .left) (c .with-key .ensures)
 
 pub keep-next-spec : {M : Type 1} → statement M
-keep-next-spec = tie.close (tie.spec returns with-key-requires returns-2)
+keep-next-spec = tie.close (tie.spec returns (λ c κs. search needs) returns-2)

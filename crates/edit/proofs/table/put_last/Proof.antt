@@ -4,9 +4,6 @@ use Rattle.edit.proofs.Making.{last-one, last-none}
 use Rattle.edit.proofs.table.put_last.Statement.{statement}
 use Rattle.edit.proofs.table.put_last.Tie as tie
 
-with-key-requires : tie.Need-with-key-requires
-with-key-requires c κs = search needs
-
 returns : tie.Need-returns
 returns c = last-one _ _ _ _ (c .before .if1 .taken) (c .with-key .ensures)
 
@@ -14,4 +11,4 @@ returns-2 : tie.Need-returns-2
 returns-2 c = last-none _ _ _ (c .if1 .left)
 
 pub put-last-spec : {M : Type 1} → statement M
-put-last-spec = tie.close (tie.spec with-key-requires returns returns-2)
+put-last-spec = tie.close (tie.spec (λ c κs. search needs) returns returns-2)

@@ -8,9 +8,6 @@ use Rattle.edit.proofs.Making.{next-two, next-one}
 use Rattle.edit.proofs.table.put_next.Statement.{statement}
 use Rattle.edit.proofs.table.put_next.Tie as tie
 
-with-key-requires : tie.Need-with-key-requires
-with-key-requires c κs = search needs
-
 with-key-requires-2 : tie.Need-with-key-requires-2
 with-key-requires-2 c κs =
     let a = c .before .before .before .args in
@@ -20,13 +17,9 @@ with-key-requires-2 c κs =
 returns : tie.Need-returns
 returns c = next-two _ _ _ _ _ _ (c .before .before .if1 .taken) (c .before .with-key .ensures) (c .with-key2 .ensures)
 
-with-key-requires-3 : tie.Need-with-key-requires-3
-with-key-requires-3 c κs = search needs
-
 returns-2 : tie.Need-returns-2
 returns-2 c = next-one _ _ _ _ _ (c .before .if1 .left) (c .with-key3 .ensures)
 
 pub put-next-spec : {M : Type 1} → statement M
 put-next-spec =
-    tie.close
-    (tie.spec with-key-requires with-key-requires-2 returns with-key-requires-3 returns-2)
+    tie.close (tie.spec (λ c κs. search needs) with-key-requires-2 returns (λ c κs. search needs) returns-2)

@@ -5,20 +5,13 @@ use borrow.Author.Needs.{needs}
 use Rattle.prune.proofs.support.call_supports.Statement.{statement}
 use Rattle.prune.proofs.support.call_supports.Tie as tie
 
-entry-supports-requires : tie.Need-entry-supports-requires
-entry-supports-requires c κs = search needs
-
 returns : tie.Need-returns
 unfolding callSupports
 returns c = rw (← (c .before .entry-supports .ensures), c .if1 .taken) refl
-
-return-supports-requires : tie.Need-return-supports-requires
-return-supports-requires c κs = search needs
 
 returns-2 : tie.Need-returns-2
 unfolding callSupports
 returns-2 c = rw (← (c .before .before .entry-supports .ensures), c .before .if1 .left) (c .return-supports .ensures)
 
 pub call-supports-spec : {M : Type 1} → statement M
-call-supports-spec =
-    tie.close (tie.spec entry-supports-requires returns return-supports-requires returns-2)
+call-supports-spec = tie.close (tie.spec (λ c κs. search needs) returns (λ c κs. search needs) returns-2)

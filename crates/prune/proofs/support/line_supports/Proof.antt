@@ -5,18 +5,6 @@ use borrow.Author.Needs.{needs}
 use Rattle.prune.proofs.support.line_supports.Statement.{statement}
 use Rattle.prune.proofs.support.line_supports.Tie as tie
 
-transition-requires : tie.Need-transition-requires
-transition-requires c κs = search needs
-
-cast-is-kept : tie.Need-cast-is-kept
-cast-is-kept c = search needs
-
-add-is-kept : tie.Need-add-is-kept
-add-is-kept c = search needs
-
-is-kept-requires : tie.Need-is-kept-requires
-is-kept-requires c κs = search needs
-
 returns : tie.Need-returns
 unfolding lineSupports
 returns c =
@@ -33,4 +21,5 @@ returns-2 c =
 pub line-supports-spec : {M : Type 1} → statement M
 line-supports-spec =
     tie.close
-    (tie.spec transition-requires cast-is-kept add-is-kept is-kept-requires returns returns-2)
+    (tie.spec (λ c κs. search needs) (λ c. search needs) (λ c. search needs) (λ c κs. search needs) returns
+    returns-2)

@@ -7,15 +7,6 @@ use borrow.Author.Needs.{needs}
 use Rattle.prune.proofs.support.lines_to_try.Statement.{statement}
 use Rattle.prune.proofs.support.lines_to_try.Tie as tie
 
-cast-routine : tie.Need-cast-routine
-cast-routine c = search needs
-
-cast-target : tie.Need-cast-target
-cast-target c = search needs
-
-cast-label : tie.Need-cast-label
-cast-label c = search needs
-
 returns : tie.Need-returns
 unfolding linesToTry
 returns c = (rw (c .before .if1 .taken, lt-ltb _ _ (c .if2 .taken)) refl, omega arith)
@@ -30,4 +21,4 @@ returns-3 c = (rw (c .if1 .left) refl, omega arith)
 
 pub lines-to-try-spec : {M : Type 1} → statement M
 lines-to-try-spec =
-    tie.close (tie.spec cast-routine cast-target cast-label returns returns-2 returns-3)
+    tie.close (tie.spec (λ c. search needs) (λ c. search needs) (λ c. search needs) returns returns-2 returns-3)

@@ -17,33 +17,12 @@ abbrev μ-loop : tie.MeasureT-loop
 loop-holds : tie.Need-loop-holds Inv-loop μ-loop
 loop-holds c = try-all _ _
 
-add-is-kept : tie.Need-add-is-kept Inv-loop μ-loop
-add-is-kept c = search needs
-
-is-kept-requires : tie.Need-is-kept-requires Inv-loop μ-loop
-is-kept-requires c κs = search needs
-
-mul-is-kept : tie.Need-mul-is-kept Inv-loop μ-loop
-mul-is-kept c = search needs
-
-add-is-kept-2 : tie.Need-add-is-kept-2 Inv-loop μ-loop
-add-is-kept-2 c = search needs
-
-is-kept-requires-2 : tie.Need-is-kept-requires-2 Inv-loop μ-loop
-is-kept-requires-2 c κs = search needs
-
 returns : tie.Need-returns Inv-loop μ-loop
 unfolding returnKept
 returns c =
     let p = c .before .before .before .before in
     try-found (p .loop .inv) (c .before .before .before .loop-test .taken)
     (rw (← (c .before .before .is-kept .ensures), ← (c .before .is-kept2 .ensures)) (c .if1 .taken))
-
-add-y : tie.Need-add-y Inv-loop μ-loop
-add-y c = search needs
-
-loop-less : tie.Need-loop-less Inv-loop μ-loop
-loop-less c = search needs
 
 loop-again : tie.Need-loop-again Inv-loop μ-loop
 loop-again c =
@@ -58,17 +37,5 @@ returns-2 c = try-none (c .before .loop .inv) (c .loop-test .left)
 pub return-kept-spec : {M : Type 1} → statement M
 return-kept-spec =
     tie.close
-    (tie.spec
-    Inv-loop
-    μ-loop
-    loop-holds
-    add-is-kept
-    is-kept-requires
-    mul-is-kept
-    add-is-kept-2
-    is-kept-requires-2
-    returns
-    add-y
-    loop-less
-    loop-again
-    returns-2)
+    (tie.spec Inv-loop μ-loop loop-holds (λ c. search needs) (λ c κs. search needs) (λ c. search needs)
+    (λ c. search needs) (λ c κs. search needs) returns (λ c. search needs) (λ c. search needs) loop-again returns-2)

@@ -17,24 +17,9 @@ abbrev μ-loop : tie.MeasureT-loop
 loop-holds : tie.Need-loop-holds Inv-loop μ-loop
 loop-holds c = try-all _ _
 
-mul-is-kept : tie.Need-mul-is-kept Inv-loop μ-loop
-mul-is-kept c = search needs
-
-add-is-kept : tie.Need-add-is-kept Inv-loop μ-loop
-add-is-kept c = search needs
-
-is-kept-requires : tie.Need-is-kept-requires Inv-loop μ-loop
-is-kept-requires c κs = search needs
-
 returns : tie.Need-returns Inv-loop μ-loop
 unfolding rootKept
 returns c = try-found (c .before .before .before .loop .inv) (c .before .before .loop-test .taken) (sym (c .before .is-kept .ensures) ∙ c .if1 .taken)
-
-add-x : tie.Need-add-x Inv-loop μ-loop
-add-x c = search needs
-
-loop-less : tie.Need-loop-less Inv-loop μ-loop
-loop-less c = search needs
 
 loop-again : tie.Need-loop-again Inv-loop μ-loop
 loop-again c = try-next (c .before .before .before .loop .inv) (c .before .before .loop-test .taken) (sym (c .before .is-kept .ensures) ∙ c .if1 .left)
@@ -46,15 +31,5 @@ returns-2 c = try-none (c .before .loop .inv) (c .loop-test .left)
 pub root-kept-spec : {M : Type 1} → statement M
 root-kept-spec =
     tie.close
-    (tie.spec
-    Inv-loop
-    μ-loop
-    loop-holds
-    mul-is-kept
-    add-is-kept
-    is-kept-requires
-    returns
-    add-x
-    loop-less
-    loop-again
-    returns-2)
+    (tie.spec Inv-loop μ-loop loop-holds (λ c. search needs) (λ c. search needs) (λ c κs. search needs) returns
+    (λ c. search needs) (λ c. search needs) loop-again returns-2)

@@ -29,56 +29,17 @@ abbrev μ-scan : tie.MeasureT-scan
 scan-holds : tie.Need-scan-holds Inv-loop μ-loop Inv-scan μ-scan
 scan-holds c = (search needs, refl, record { decide = refl })
 
-mul-key : tie.Need-mul-key Inv-loop μ-loop Inv-scan μ-scan
-mul-key c = search needs
-
-shared-slice-read-key : tie.Need-shared-slice-read-key Inv-loop μ-loop Inv-scan μ-scan
-shared-slice-read-key c = search needs
-
-call-supports-requires : tie.Need-call-supports-requires Inv-loop μ-loop Inv-scan μ-scan
-call-supports-requires c κs = search needs
-
-lines-to-try-requires : tie.Need-lines-to-try-requires Inv-loop μ-loop Inv-scan μ-scan
-lines-to-try-requires c κs = search needs
-
-cast-number-of : tie.Need-cast-number-of Inv-loop μ-loop Inv-scan μ-scan
-cast-number-of c = search needs
-
-number-of-requires : tie.Need-number-of-requires Inv-loop μ-loop Inv-scan μ-scan
-number-of-requires c κs = search needs
-
-cast-action : tie.Need-cast-action Inv-loop μ-loop Inv-scan μ-scan
-cast-action c = search needs
-
 loop-holds : tie.Need-loop-holds Inv-loop μ-loop Inv-scan μ-scan
 loop-holds c = (search needs, search needs, record { decide = refl })
-
-mul-line-supports : tie.Need-mul-line-supports Inv-loop μ-loop Inv-scan μ-scan
-mul-line-supports c = search needs
 
 shared-slice-read-line-supports :
     tie.Need-shared-slice-read-line-supports Inv-loop μ-loop Inv-scan μ-scan
 shared-slice-read-line-supports c = search needs
 
-line-supports-requires : tie.Need-line-supports-requires Inv-loop μ-loop Inv-scan μ-scan
-line-supports-requires c κs = search needs
-
-add-j : tie.Need-add-j Inv-loop μ-loop Inv-scan μ-scan
-add-j c = search needs
-
-loop-less : tie.Need-loop-less Inv-loop μ-loop Inv-scan μ-scan
-loop-less c = search needs
-
 loop-again : tie.Need-loop-again Inv-loop μ-loop Inv-scan μ-scan
 loop-again c =
     let p = c .before .before .before .before in
     (omega arith, p .loop .inv .1, passed (asks-key _) (p .loop .inv .2) (omega arith) (omega arith) (sym (c .before .line-supports .ensures) ∙ c .if2 .left))
-
-add-i : tie.Need-add-i Inv-loop μ-loop Inv-scan μ-scan
-add-i c = search needs
-
-scan-less : tie.Need-scan-less Inv-loop μ-loop Inv-scan μ-scan
-scan-less c = search needs
 
 scan-again : tie.Need-scan-again Inv-loop μ-loop Inv-scan μ-scan
 scan-again c =
@@ -115,29 +76,7 @@ returns-3 c =
 pub supported-spec : {M : Type 1} → statement M
 supported-spec =
     tie.close
-    (tie.spec
-    Inv-loop
-    μ-loop
-    Inv-scan
-    μ-scan
-    scan-holds
-    mul-key
-    shared-slice-read-key
-    call-supports-requires
-    lines-to-try-requires
-    cast-number-of
-    number-of-requires
-    cast-action
-    loop-holds
-    mul-line-supports
-    shared-slice-read-line-supports
-    line-supports-requires
-    add-j
-    loop-less
-    loop-again
-    add-i
-    scan-less
-    scan-again
-    returns
-    returns-2
-    returns-3)
+    (tie.spec Inv-loop μ-loop Inv-scan μ-scan scan-holds (λ c. search needs) (λ c. search needs)
+    (λ c κs. search needs) (λ c κs. search needs) (λ c. search needs) (λ c κs. search needs) (λ c. search needs)
+    loop-holds (λ c. search needs) shared-slice-read-line-supports (λ c κs. search needs) (λ c. search needs)
+    (λ c. search needs) loop-again (λ c. search needs) (λ c. search needs) scan-again returns returns-2 returns-3)

@@ -8,12 +8,6 @@ use borrow.Author.Needs.{needs}
 use Rattle.reader.proofs.extend.automaton_after.Statement.{statement}
 use Rattle.reader.proofs.extend.automaton_after.Tie as tie
 
-number-requires : tie.Need-number-requires
-number-requires c κs = search needs
-
-transition-key-requires : tie.Need-transition-key-requires
-transition-key-requires c κs = search needs
-
 add-key-requires : tie.Need-add-key-requires
 add-key-requires c κs = λ e. let z = c .before .before .before .before .before in as-many transitionOf (keysOf (z .args .a .transitions)) 256 (z .pre .transitions (eqb-true _ 4 e))
 
@@ -22,18 +16,6 @@ add-state-requires c κs = λ e. c .before .before .before .before .before .befo
 
 add-state-requires-2 : tie.Need-add-state-requires-2
 add-state-requires-2 c κs = λ e. c .before .before .before .before .before .before .before .pre .rejecting (eqb-true _ 6 e)
-
-number-requires-2 : tie.Need-number-requires-2
-number-requires-2 c κs = search needs
-
-choose-requires : tie.Need-choose-requires
-choose-requires c κs = search needs
-
-number-requires-3 : tie.Need-number-requires-3
-number-requires-3 c κs = search needs
-
-choose-requires-2 : tie.Need-choose-requires-2
-choose-requires-2 c κs = search needs
 
 returns : tie.Need-returns
 returns c =
@@ -46,14 +28,5 @@ returns c =
 pub automaton-after-spec : {M : Type 1} → statement M
 automaton-after-spec =
     tie.close
-    (tie.spec
-    number-requires
-    transition-key-requires
-    add-key-requires
-    add-state-requires
-    add-state-requires-2
-    number-requires-2
-    choose-requires
-    number-requires-3
-    choose-requires-2
-    returns)
+    (tie.spec (λ c κs. search needs) (λ c κs. search needs) add-key-requires add-state-requires add-state-requires-2
+    (λ c κs. search needs) (λ c κs. search needs) (λ c κs. search needs) (λ c κs. search needs) returns)

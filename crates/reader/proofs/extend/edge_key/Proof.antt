@@ -9,9 +9,6 @@ use borrow.Author.Needs.{needs}
 use Rattle.reader.proofs.extend.edge_key.Statement.{statement}
 use Rattle.reader.proofs.extend.edge_key.Tie as tie
 
-word-of-requires : tie.Need-word-of-requires
-word-of-requires c κs = search needs
-
 returns : tie.Need-returns
 returns c =
     let l = c .before .args .l in
@@ -21,4 +18,4 @@ returns c =
     ap edgeOf (c .word-of .ensures) ∙ edge-key (num l 1) (num l 2) (num l 3) (num l 4) (omega arith) (omega arith) (omega arith)
 
 pub edge-key-spec : {M : Type 1} → statement M
-edge-key-spec = tie.close (tie.spec word-of-requires returns)
+edge-key-spec = tie.close (tie.spec (λ c κs. search needs) returns)

@@ -9,26 +9,14 @@ use borrow.Author.Needs.{needs}
 use Rattle.reader.proofs.extend.program_after.Statement.{statement}
 use Rattle.reader.proofs.extend.program_after.Tie as tie
 
-number-requires : tie.Need-number-requires
-number-requires c κs = search needs
-
 add-node-requires : tie.Need-add-node-requires
 add-node-requires c κs = λ e. c .before .before .before .before .pre .nodes (eqb-true _ 2 e)
-
-edge-key-requires : tie.Need-edge-key-requires
-edge-key-requires c κs = search needs
 
 add-key-requires : tie.Need-add-key-requires
 add-key-requires c κs = λ e. let z = c .before .before .before .before .before .before in as-many edgeOf (keysOf (z .args .p .edges)) 256 (z .pre .edges (eqb-true _ 3 e))
 
 automaton-after-requires : tie.Need-automaton-after-requires
 automaton-after-requires c κs = c .before .before .before .before .before .before .before .pre .automaton
-
-number-requires-2 : tie.Need-number-requires-2
-number-requires-2 c κs = search needs
-
-choose-requires : tie.Need-choose-requires
-choose-requires c κs = search needs
 
 returns : tie.Need-returns
 returns c =
@@ -39,12 +27,5 @@ returns c =
 pub program-after-spec : {M : Type 1} → statement M
 program-after-spec =
     tie.close
-    (tie.spec
-    number-requires
-    add-node-requires
-    edge-key-requires
-    add-key-requires
-    automaton-after-requires
-    number-requires-2
-    choose-requires
-    returns)
+    (tie.spec (λ c κs. search needs) add-node-requires (λ c κs. search needs) add-key-requires
+    automaton-after-requires (λ c κs. search needs) (λ c κs. search needs) returns)

@@ -10,9 +10,6 @@ use borrow.Author.Needs.{needs}
 use Rattle.reader.proofs.extend.transition_key.Statement.{statement}
 use Rattle.reader.proofs.extend.transition_key.Tie as tie
 
-word-of-requires : tie.Need-word-of-requires
-word-of-requires c κs = search needs
-
 returns : tie.Need-returns
 returns c =
     let l = c .before .args .l in
@@ -22,4 +19,4 @@ returns c =
     ap (λ (x : ℕ). transitionOf (x / 256)) (c .word-of .ensures) ∙ transition-key (num l 1) (num l 2) (num l 3) (num l 4) (omega arith) (omega arith) (omega arith)
 
 pub transition-key-spec : {M : Type 1} → statement M
-transition-key-spec = tie.close (tie.spec word-of-requires returns)
+transition-key-spec = tie.close (tie.spec (λ c κs. search needs) returns)

@@ -7,21 +7,6 @@ use borrow.Author.Needs.{needs}
 use Rattle.reader.proofs.judge.fault_of.Statement.{statement}
 use Rattle.reader.proofs.judge.fault_of.Tie as tie
 
-limits-of-requires : tie.Need-limits-of-requires
-limits-of-requires c κs = search needs
-
-nodes-in-use-requires : tie.Need-nodes-in-use-requires
-nodes-in-use-requires c κs = search needs
-
-keys-in-use-requires : tie.Need-keys-in-use-requires
-keys-in-use-requires c κs = search needs
-
-keys-in-use-requires-2 : tie.Need-keys-in-use-requires-2
-keys-in-use-requires-2 c κs = search needs
-
-fault-by-requires : tie.Need-fault-by-requires
-fault-by-requires c κs = search needs
-
 returns : tie.Need-returns
 unfolding judge judgeAs
 returns c =
@@ -40,10 +25,5 @@ returns c =
 pub fault-of-spec : {M : Type 1} → statement M
 fault-of-spec =
     tie.close
-    (tie.spec
-    limits-of-requires
-    nodes-in-use-requires
-    keys-in-use-requires
-    keys-in-use-requires-2
-    fault-by-requires
-    returns)
+    (tie.spec (λ c κs. search needs) (λ c κs. search needs) (λ c κs. search needs) (λ c κs. search needs)
+    (λ c κs. search needs) returns)

@@ -8,9 +8,6 @@ use Rattle.reader.proofs.Views.{past-count, past-array}
 use Rattle.reader.proofs.judge.node_count.Statement.{statement}
 use Rattle.reader.proofs.judge.node_count.Tie as tie
 
-array-read-result : tie.Need-array-read-result
-array-read-result c = search needs
-
 returns : tie.Need-returns
 returns c =
     let a = c .before .before .before .args in
@@ -31,4 +28,4 @@ returns-3 c =
     sym (past-count (a .n .count) (a .n .list) (a .f) h)
 
 pub node-count-spec : {M : Type 1} → statement M
-node-count-spec = tie.close (tie.spec array-read-result returns returns-2 returns-3)
+node-count-spec = tie.close (tie.spec (λ c. search needs) returns returns-2 returns-3)

@@ -20,12 +20,6 @@ follow-added-requires c κs =
       added-closed (z .args .s) p _ (z .pre .0 .0) (z .pre .0 .1) e (z .pre .1 .0),
     )
 
-same-length : tie.Need-same-length
-same-length c = search needs
-
-same-length-2 : tie.Need-same-length-2
-same-length-2 c = search needs
-
 returns : tie.Need-returns
 returns c =
     let z = c .before .before .before .before .before .before .before .before .before .before in
@@ -33,4 +27,4 @@ returns c =
 
 pub add-step-spec : {M : Type 1} → statement M
 add-step-spec =
-    tie.close (tie.spec with-step-requires follow-added-requires same-length same-length-2 returns)
+    tie.close (tie.spec with-step-requires follow-added-requires (λ c. search needs) (λ c. search needs) returns)

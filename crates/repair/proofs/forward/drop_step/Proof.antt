@@ -19,12 +19,6 @@ prune-marks-requires c κs =
     let after = dropped-well-formed (z .args .s) p _ before (z .pre .0 .1) (c .before .before .without-step .ensures) in
     (search (before, after), z .pre .1)
 
-same-length : tie.Need-same-length
-same-length c = search needs
-
-same-length-2 : tie.Need-same-length-2
-same-length-2 c = search needs
-
 returns : tie.Need-returns
 returns c =
     let z = c .before .before .before .before .before .before .before .before .before .before in
@@ -32,5 +26,4 @@ returns c =
 
 pub drop-step-spec : {M : Type 1} → statement M
 drop-step-spec =
-    tie.close
-    (tie.spec without-step-requires prune-marks-requires same-length same-length-2 returns)
+    tie.close (tie.spec without-step-requires prune-marks-requires (λ c. search needs) (λ c. search needs) returns)

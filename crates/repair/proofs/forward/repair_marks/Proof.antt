@@ -8,33 +8,21 @@ use borrow.Author.Needs.{needs}
 use Rattle.repair.proofs.forward.repair_marks.Statement.{statement}
 use Rattle.repair.proofs.forward.repair_marks.Tie as tie
 
-enum-known-e : tie.Need-enum-known-e
-enum-known-e c = search needs
-
 add-step-requires : tie.Need-add-step-requires
 add-step-requires c κs =
     let z = c .before .before .before .before .before .before .before in
     ((z .pre .0 .0, rw (c .before .before .before .e .given .1) at (z .pre .0 .1)), z .pre .1)
-
-enum-known-e-2 : tie.Need-enum-known-e-2
-enum-known-e-2 c = search needs
 
 drop-step-requires : tie.Need-drop-step-requires
 drop-step-requires c κs =
     let z = c .before .before .before .before .before .before .before in
     ((z .pre .0 .0, rw (c .before .before .before .e2 .given .1) at (z .pre .0 .1)), (ap length (z .pre .1 .0) ∙ marks-length _, z .pre .1 .1))
 
-enum-known-e-3 : tie.Need-enum-known-e-3
-enum-known-e-3 c = search needs
-
 drop-step-requires-2 : tie.Need-drop-step-requires-2
 drop-step-requires-2 c κs =
     let z = c .before .before .before .before .before .before .before in
     let a = rw (c .before .before .before .e3 .given .1) at (z .pre .0 .1) in
     ((z .pre .0 .0, drop-applies _ _ (programOf (z .args .p)) a), (ap length (z .pre .1 .0) ∙ marks-length _, z .pre .1 .1))
-
-relabelled-requires : tie.Need-relabelled-requires
-relabelled-requires c κs = search needs
 
 add-step-requires-2 : tie.Need-add-step-requires-2
 add-step-requires-2 c κs =
@@ -46,21 +34,9 @@ add-step-requires-2 c κs =
     let after = between-well-formed _ _ p _ p before a x in
     ((search (before, after), rw (c .before .before .relabelled .ensures) (between-applies _ _ p _ p before a x)), (x .own, ap length (x .clear) ∙ none-length))
 
-same-length : tie.Need-same-length
-same-length c = search needs
-
-same-length-2 : tie.Need-same-length-2
-same-length-2 c = search needs
-
 returns : tie.Need-returns
 returns c =
     rw (c .before .before .before .before .before .before .before .before .e .given .1) (c .before .before .before .before .add-step .ensures)
-
-same-length-3 : tie.Need-same-length-3
-same-length-3 c = search needs
-
-same-length-4 : tie.Need-same-length-4
-same-length-4 c = search needs
 
 returns-2 : tie.Need-returns-2
 returns-2 c =
@@ -68,12 +44,6 @@ returns-2 c =
     let a = rw (c .before .before .before .before .before .before .before .before .e2 .given .1) at (z .pre .0 .1) in
     rw (c .before .before .before .before .before .before .before .before .e2 .given .1)
     (dropped _ (programOf (z .args .p)) _ (z .pre .0 .0) a (z .pre .1 .0) (c .before .before .before .before .drop-step .ensures))
-
-same-length-5 : tie.Need-same-length-5
-same-length-5 c = search needs
-
-same-length-6 : tie.Need-same-length-6
-same-length-6 c = search needs
 
 returns-3 : tie.Need-returns-3
 returns-3 c =
@@ -87,21 +57,6 @@ returns-3 c =
 pub repair-marks-spec : {M : Type 1} → statement M
 repair-marks-spec =
     tie.close
-    (tie.spec
-    enum-known-e
-    add-step-requires
-    enum-known-e-2
-    drop-step-requires
-    enum-known-e-3
-    drop-step-requires-2
-    relabelled-requires
-    add-step-requires-2
-    same-length
-    same-length-2
-    returns
-    same-length-3
-    same-length-4
-    returns-2
-    same-length-5
-    same-length-6
-    returns-3)
+    (tie.spec (λ c. search needs) add-step-requires (λ c. search needs) drop-step-requires (λ c. search needs)
+    drop-step-requires-2 (λ c κs. search needs) add-step-requires-2 (λ c. search needs) (λ c. search needs) returns
+    (λ c. search needs) (λ c. search needs) returns-2 (λ c. search needs) (λ c. search needs) returns-3)

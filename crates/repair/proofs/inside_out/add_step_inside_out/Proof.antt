@@ -8,9 +8,6 @@ use borrow.Author.Needs.{needs}
 use Rattle.repair.proofs.inside_out.add_step_inside_out.Statement.{statement}
 use Rattle.repair.proofs.inside_out.add_step_inside_out.Tie as tie
 
-slice-aggregate-copy : tie.Need-slice-aggregate-copy
-slice-aggregate-copy c = search needs
-
 copy-requires : tie.Need-copy-requires
 copy-requires c κs =
     let z = c .before .before .before .before in
@@ -20,17 +17,8 @@ copy-requires c κs =
 add-step-requires : tie.Need-add-step-requires
 add-step-requires c κs = let z = c .before .before .before .before .before .before .before .before in (z .pre .0, z .pre .1)
 
-slice-aggregate-gained : tie.Need-slice-aggregate-gained
-slice-aggregate-gained c = search needs
-
 gained-requires : tie.Need-gained-requires
 gained-requires c κs = (search needs, ap length (c .before .before .before .before .before .before .add-step .ensures .own) ∙ marks-length _)
-
-same-length : tie.Need-same-length
-same-length c = search needs
-
-same-length-2 : tie.Need-same-length-2
-same-length-2 c = search needs
 
 returns : tie.Need-returns
 returns c =
@@ -43,12 +31,5 @@ returns c =
 pub add-step-inside-out-spec : {M : Type 1} → statement M
 add-step-inside-out-spec =
     tie.close
-    (tie.spec
-    slice-aggregate-copy
-    copy-requires
-    add-step-requires
-    slice-aggregate-gained
-    gained-requires
-    same-length
-    same-length-2
-    returns)
+    (tie.spec (λ c. search needs) copy-requires add-step-requires (λ c. search needs) gained-requires
+    (λ c. search needs) (λ c. search needs) returns)

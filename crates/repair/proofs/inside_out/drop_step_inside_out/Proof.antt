@@ -20,12 +20,6 @@ drop-inside-out-requires c κs =
     let after = drop-of (z .args .s) p (z .pre .0 .0) (z .pre .0 .1) _ (c .before .before .without-step .ensures) in
     ((z .pre .1 .1, drop-routine (z .args .s) p (z .pre .0 .0) (z .pre .0 .1)), (p, search (before, after), z .pre .1 .0))
 
-same-length : tie.Need-same-length
-same-length c = search needs
-
-same-length-2 : tie.Need-same-length-2
-same-length-2 c = search needs
-
 returns : tie.Need-returns
 returns c =
     let z = c .before .before .before .before .before .before .before .before .before .before in
@@ -38,4 +32,4 @@ returns c =
 pub drop-step-inside-out-spec : {M : Type 1} → statement M
 drop-step-inside-out-spec =
     tie.close
-    (tie.spec without-step-requires drop-inside-out-requires same-length same-length-2 returns)
+    (tie.spec without-step-requires drop-inside-out-requires (λ c. search needs) (λ c. search needs) returns)

@@ -6,15 +6,6 @@ use borrow.Author.Needs.{needs}
 use Rattle.repair.proofs.inside_out.either.Statement.{statement}
 use Rattle.repair.proofs.inside_out.either.Tie as tie
 
-slice-aggregate-join : tie.Need-slice-aggregate-join
-slice-aggregate-join c = search needs
-
-slice-aggregate-join-2 : tie.Need-slice-aggregate-join-2
-slice-aggregate-join-2 c = search needs
-
-join-requires : tie.Need-join-requires
-join-requires c κs = search needs
-
 returns : tie.Need-returns
 returns c =
     let z = c .before .before .before .before .before .before in
@@ -22,5 +13,4 @@ returns c =
     joined-members len (c .before .join .ensures)
 
 pub either-spec : {M : Type 1} → statement M
-either-spec =
-    tie.close (tie.spec slice-aggregate-join slice-aggregate-join-2 join-requires returns)
+either-spec = tie.close (tie.spec (λ c. search needs) (λ c. search needs) (λ c κs. search needs) returns)

@@ -16,20 +16,8 @@ abbrev μ-loop : tie.MeasureT-loop
 loop-holds : tie.Need-loop-holds Inv-loop μ-loop
 loop-holds c = gaining-start _ _
 
-shared-slice-read-was : tie.Need-shared-slice-read-was Inv-loop μ-loop
-shared-slice-read-was c = search needs
-
-shared-slice-read-is : tie.Need-shared-slice-read-is Inv-loop μ-loop
-shared-slice-read-is c = search needs
-
 array-write-flags : tie.Need-array-write-flags Inv-loop μ-loop
 array-write-flags c = omega arith
-
-add-i : tie.Need-add-i Inv-loop μ-loop
-add-i c = search needs
-
-loop-less : tie.Need-loop-less Inv-loop μ-loop
-loop-less c = search needs
 
 loop-again : tie.Need-loop-again Inv-loop μ-loop
 loop-again c =
@@ -45,14 +33,5 @@ returns c = gaining-end (c .before .loop .inv) (omega arith)
 pub gained-spec : {M : Type 1} → statement M
 gained-spec =
     tie.close
-    (tie.spec
-    Inv-loop
-    μ-loop
-    loop-holds
-    shared-slice-read-was
-    shared-slice-read-is
-    array-write-flags
-    add-i
-    loop-less
-    loop-again
-    returns)
+    (tie.spec Inv-loop μ-loop loop-holds (λ c. search needs) (λ c. search needs) array-write-flags
+    (λ c. search needs) (λ c. search needs) loop-again returns)

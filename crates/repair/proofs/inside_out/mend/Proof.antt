@@ -13,17 +13,8 @@ use Rattle.repair.proofs.forward.repair_marks.Reads as repair-marks-rea
 use Rattle.repair.proofs.inside_out.rework_marks.Reads as rework-marks-reads
 
 -- src/inside_out.rt:132:9
-rework-marks-requires : tie.Need-rework-marks-requires
-rework-marks-requires c κs = search needs
-
 -- src/inside_out.rt:132:9
-same-length : tie.Need-same-length
-same-length c = search needs
-
 -- src/inside_out.rt:132:9
-same-length-2 : tie.Need-same-length-2
-same-length-2 c = search needs
-
 -- src/inside_out.rt:132:9
 returns : tie.Need-returns
 returns c =
@@ -31,17 +22,8 @@ returns c =
     (r .0, λ i. r .1)
 
 -- src/inside_out.rt:134:9
-repair-marks-requires : tie.Need-repair-marks-requires
-repair-marks-requires c κs = search needs
-
 -- src/inside_out.rt:119:1
-same-length-3 : tie.Need-same-length-3
-same-length-3 c = search needs
-
 -- src/inside_out.rt:119:1
-same-length-4 : tie.Need-same-length-4
-same-length-4 c = search needs
-
 -- src/inside_out.rt:119:1
 returns-2 : tie.Need-returns-2
 returns-2 c =
@@ -51,12 +33,5 @@ returns-2 c =
 pub mend-spec : {M : Type 1} → statement M
 mend-spec =
     tie.close
-    (tie.spec
-    rework-marks-requires
-    same-length
-    same-length-2
-    returns
-    repair-marks-requires
-    same-length-3
-    same-length-4
-    returns-2)
+    (tie.spec (λ c κs. search needs) (λ c. search needs) (λ c. search needs) returns (λ c κs. search needs)
+    (λ c. search needs) (λ c. search needs) returns-2)

@@ -14,9 +14,6 @@ drop-step-inside-out-requires c κs =
     let z = c .before .before .before .before in
     ((z .pre .0 .0, drop-applies (z .args .s) (z .args .l) (programOf (z .args .p)) (z .pre .0 .1)), z .pre .1)
 
-relabelled-requires : tie.Need-relabelled-requires
-relabelled-requires c κs = search needs
-
 add-step-inside-out-requires : tie.Need-add-step-inside-out-requires
 add-step-inside-out-requires c κs =
     let z = c .before .before .before .before .before .before .before .before .before .before .before .before in
@@ -24,15 +21,6 @@ add-step-inside-out-requires c κs =
     let x = c .before .before .before .before .before .before .before .drop-step-inside-out .ensures .0 in
     let a = between-applies (z .args .s) (z .args .l) p _ p (z .pre .0 .0) (z .pre .0 .1) x in
     ((between-well-formed (z .args .s) (z .args .l) p _ p (z .pre .0 .0) (z .pre .0 .1) x, rw (c .before .before .relabelled .ensures) a), (x .own, ap length (x .clear) ∙ none-length))
-
-either-requires : tie.Need-either-requires
-either-requires c κs = search needs
-
-same-length : tie.Need-same-length
-same-length c = search needs
-
-same-length-2 : tie.Need-same-length-2
-same-length-2 c = search needs
 
 returns : tie.Need-returns
 returns c =
@@ -45,11 +33,5 @@ returns c =
 pub replace-step-inside-out-spec : {M : Type 1} → statement M
 replace-step-inside-out-spec =
     tie.close
-    (tie.spec
-    drop-step-inside-out-requires
-    relabelled-requires
-    add-step-inside-out-requires
-    either-requires
-    same-length
-    same-length-2
-    returns)
+    (tie.spec drop-step-inside-out-requires (λ c κs. search needs) add-step-inside-out-requires
+    (λ c κs. search needs) (λ c. search needs) (λ c. search needs) returns)

@@ -22,24 +22,6 @@ flagged v = marked v .before .before
 abbrev start : tie.After-count-violations → tie.Start
 start v = flagged v .before .before .before .before
 
-rejecting-flags-requires : tie.Need-rejecting-flags-requires
-rejecting-flags-requires c κs = search needs
-
-count-marks-requires : tie.Need-count-marks-requires
-count-marks-requires c κs = search needs
-
-slice-aggregate-count-violations : tie.Need-slice-aggregate-count-violations
-slice-aggregate-count-violations c = search needs
-
-count-violations-requires : tie.Need-count-violations-requires
-count-violations-requires c κs = search needs
-
-slice-aggregate-put-violations : tie.Need-slice-aggregate-put-violations
-slice-aggregate-put-violations c = search needs
-
-put-violations-requires : tie.Need-put-violations-requires
-put-violations-requires c κs = search needs
-
 count-line-requires : tie.Need-count-line-requires
 count-line-requires c κs =
     let v = c .before .before .before .before .before in
@@ -57,9 +39,6 @@ put-line-requires c κs =
     let w = c .before .before .before .before in
     let z = start (w .before .before .before) in
     omega (arith, w .put-violations .ensures .0, w .put-violations .kept .1 .1 .0, z .pre .1)
-
-same-length : tie.Need-same-length
-same-length c = search needs
 
 returns : tie.Need-returns
 returns c =
@@ -79,14 +58,5 @@ returns c =
 pub put-block-spec : {M : Type 1} → statement M
 put-block-spec =
     tie.close
-    (tie.spec
-    rejecting-flags-requires
-    count-marks-requires
-    slice-aggregate-count-violations
-    count-violations-requires
-    slice-aggregate-put-violations
-    put-violations-requires
-    count-line-requires
-    put-line-requires
-    same-length
-    returns)
+    (tie.spec (λ c κs. search needs) (λ c κs. search needs) (λ c. search needs) (λ c κs. search needs)
+    (λ c. search needs) (λ c κs. search needs) count-line-requires put-line-requires (λ c. search needs) returns)

@@ -9,22 +9,10 @@ use Rattle.report.proofs.Blocks.{put-violation, put-nothing}
 use Rattle.report.proofs.put.put_violation.Statement.{statement}
 use Rattle.report.proofs.put.put_violation.Tie as tie
 
-shared-slice-read-is-violation : tie.Need-shared-slice-read-is-violation
-shared-slice-read-is-violation c = search needs
-
-shared-slice-read-is-violation-2 : tie.Need-shared-slice-read-is-violation-2
-shared-slice-read-is-violation-2 c = search needs
-
-violation-line-requires : tie.Need-violation-line-requires
-violation-line-requires c κs = search needs
-
 put-line-requires : tie.Need-put-line-requires
 put-line-requires c κs =
     let n : c .before .violation-line .result .count ≡ 5 = ap (λ (l : Line). l .count) (c .before .violation-line .ensures) in
     omega arith
-
-same-length : tie.Need-same-length
-same-length c = search needs
 
 returns : tie.Need-returns
 returns c =
@@ -45,11 +33,5 @@ returns-2 c =
 pub put-violation-spec : {M : Type 1} → statement M
 put-violation-spec =
     tie.close
-    (tie.spec
-    shared-slice-read-is-violation
-    shared-slice-read-is-violation-2
-    violation-line-requires
-    put-line-requires
-    same-length
-    returns
-    returns-2)
+    (tie.spec (λ c. search needs) (λ c. search needs) (λ c κs. search needs) put-line-requires (λ c. search needs)
+    returns returns-2)

@@ -8,36 +8,6 @@ use Rattle.writer.proofs.Written.{nodes-long}
 use Rattle.writer.proofs.put.frame_count.Statement.{statement}
 use Rattle.writer.proofs.put.frame_count.Tie as tie
 
-in-use-requires : tie.Need-in-use-requires
-in-use-requires c κs = search needs
-
-in-use-requires-2 : tie.Need-in-use-requires-2
-in-use-requires-2 c κs = search needs
-
-in-use-requires-3 : tie.Need-in-use-requires-3
-in-use-requires-3 c κs = search needs
-
-in-use-requires-4 : tie.Need-in-use-requires-4
-in-use-requires-4 c κs = search needs
-
-in-use-requires-5 : tie.Need-in-use-requires-5
-in-use-requires-5 c κs = search needs
-
-add-result : tie.Need-add-result
-add-result c = search needs
-
-add-result-2 : tie.Need-add-result-2
-add-result-2 c = search needs
-
-add-result-3 : tie.Need-add-result-3
-add-result-3 c = search needs
-
-add-result-4 : tie.Need-add-result-4
-add-result-4 c = search needs
-
-add-result-5 : tie.Need-add-result-5
-add-result-5 c = search needs
-
 returns : tie.Need-returns
 unfolding framesOf
 returns c =
@@ -52,15 +22,6 @@ returns c =
 pub frame-count-spec : {M : Type 1} → statement M
 frame-count-spec =
     tie.close
-    (tie.spec
-    in-use-requires
-    in-use-requires-2
-    in-use-requires-3
-    in-use-requires-4
-    in-use-requires-5
-    add-result
-    add-result-2
-    add-result-3
-    add-result-4
-    add-result-5
-    returns)
+    (tie.spec (λ c κs. search needs) (λ c κs. search needs) (λ c κs. search needs) (λ c κs. search needs)
+    (λ c κs. search needs) (λ c. search needs) (λ c. search needs) (λ c. search needs) (λ c. search needs)
+    (λ c. search needs) returns)

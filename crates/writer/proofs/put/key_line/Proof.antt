@@ -7,18 +7,6 @@ use borrow.Author.Tests.{eq-eqb, ne-eqb}
 use Rattle.writer.proofs.put.key_line.Statement.{statement}
 use Rattle.writer.proofs.put.key_line.Tie as tie
 
-cast-a : tie.Need-cast-a
-cast-a c = search needs
-
-cast-b : tie.Need-cast-b
-cast-b c = search needs
-
-cast-c : tie.Need-cast-c
-cast-c c = search needs
-
-cast-t12 : tie.Need-cast-t12
-cast-t12 c = search needs
-
 returns : tie.Need-returns
 returns c = simp (eq-eqb _ _ (c .if1 .taken))
 
@@ -32,4 +20,6 @@ returns-2 c =
     rw (ne-eqb _ _ (c .if1 .left), e .0, e .1 .0, e .1 .1)
 
 pub key-line-spec : {M : Type 1} → statement M
-key-line-spec = tie.close (tie.spec cast-a cast-b cast-c cast-t12 returns returns-2)
+key-line-spec =
+    tie.close
+    (tie.spec (λ c. search needs) (λ c. search needs) (λ c. search needs) (λ c. search needs) returns returns-2)

@@ -50,9 +50,6 @@ put-states-requires-2 c κs =
     let r = room (start (keys (c .before .before .before))) in
     omega arith
 
-same-length : tie.Need-same-length
-same-length c = search needs
-
 returns : tie.Need-returns
 returns c =
     let f = c .before .before in
@@ -61,5 +58,4 @@ returns c =
 
 pub put-automaton-spec : {M : Type 1} → statement M
 put-automaton-spec =
-    tie.close
-    (tie.spec put-keys-requires put-states-requires put-states-requires-2 same-length returns)
+    tie.close (tie.spec put-keys-requires put-states-requires put-states-requires-2 (λ c. search needs) returns)

@@ -17,34 +17,16 @@ Inv-loop out₀ at list count used pos₀ i₀ out pos i =
 abbrev μ-loop : tie.MeasureT-loop
 μ-loop out₀ at list count used pos₀ i₀ out pos i = used - i
 
-in-use-requires : tie.Need-in-use-requires Inv-loop μ-loop
-in-use-requires c κs = search needs
-
 loop-holds : tie.Need-loop-holds Inv-loop μ-loop
 loop-holds c =
     let a = c .before .before .before .args in
     let n : length (a .n .list) ≡ 16 = search needs in
     none-yet (numbered (a .n .list) (a .n .count) (c .in-use .result) (omega arith)) (c .before .before .before .pre)
 
-cast-line-of-three : tie.Need-cast-line-of-three Inv-loop μ-loop
-cast-line-of-three c = search needs
-
-array-read-line-of-three : tie.Need-array-read-line-of-three Inv-loop μ-loop
-array-read-line-of-three c = search needs
-
-line-of-three-requires : tie.Need-line-of-three-requires Inv-loop μ-loop
-line-of-three-requires c κs = search needs
-
 put-line-requires : tie.Need-put-line-requires Inv-loop μ-loop
 put-line-requires c κs =
     let p = c .before .before in
     room (p .before .loop .inv) (p .loop-test .taken) _ (c .before .line-of-three .ensures)
-
-add-i : tie.Need-add-i Inv-loop μ-loop
-add-i c = search needs
-
-loop-less : tie.Need-loop-less Inv-loop μ-loop
-loop-less c = search needs
 
 loop-again : tie.Need-loop-again Inv-loop μ-loop
 loop-again c =
@@ -61,17 +43,5 @@ returns c = all-put (c .before .loop .inv) (c .loop-test .left)
 pub put-nodes-spec : {M : Type 1} → statement M
 put-nodes-spec =
     tie.close
-    (tie.spec
-    Inv-loop
-    μ-loop
-    in-use-requires
-    loop-holds
-    cast-line-of-three
-    array-read-line-of-three
-    line-of-three-requires
-    put-line-requires
-    add-i
-    loop-less
-    loop-again
-    same-length
-    returns)
+    (tie.spec Inv-loop μ-loop (λ c κs. search needs) loop-holds (λ c. search needs) (λ c. search needs)
+    (λ c κs. search needs) put-line-requires (λ c. search needs) (λ c. search needs) loop-again same-length returns)

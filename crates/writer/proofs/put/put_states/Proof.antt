@@ -16,31 +16,16 @@ Inv-loop out₀ at kind list count used pos₀ i₀ out pos i =
 abbrev μ-loop : tie.MeasureT-loop
 μ-loop out₀ at kind list count used pos₀ i₀ out pos i = used - i
 
-in-use-requires : tie.Need-in-use-requires Inv-loop μ-loop
-in-use-requires c κs = search needs
-
 loop-holds : tie.Need-loop-holds Inv-loop μ-loop
 loop-holds c =
     let a = c .before .before .before .args in
     let n : length (a .s .list) ≡ 8 = search needs in
     none-yet (mapped (a .s .list) (a .s .count) (c .in-use .result) (omega arith) (λ q. a .kind ∷ q ∷ []) (λ q. omega arith)) (c .before .before .before .pre)
 
-array-read-line-of-two : tie.Need-array-read-line-of-two Inv-loop μ-loop
-array-read-line-of-two c = search needs
-
-line-of-two-requires : tie.Need-line-of-two-requires Inv-loop μ-loop
-line-of-two-requires c κs = search needs
-
 put-line-requires : tie.Need-put-line-requires Inv-loop μ-loop
 put-line-requires c κs =
     let p = c .before .before in
     room (p .before .loop .inv) (p .loop-test .taken) _ (c .before .line-of-two .ensures)
-
-add-i : tie.Need-add-i Inv-loop μ-loop
-add-i c = search needs
-
-loop-less : tie.Need-loop-less Inv-loop μ-loop
-loop-less c = search needs
 
 loop-again : tie.Need-loop-again Inv-loop μ-loop
 loop-again c =
@@ -57,16 +42,5 @@ returns c = all-put (c .before .loop .inv) (c .loop-test .left)
 pub put-states-spec : {M : Type 1} → statement M
 put-states-spec =
     tie.close
-    (tie.spec
-    Inv-loop
-    μ-loop
-    in-use-requires
-    loop-holds
-    array-read-line-of-two
-    line-of-two-requires
-    put-line-requires
-    add-i
-    loop-less
-    loop-again
-    same-length
-    returns)
+    (tie.spec Inv-loop μ-loop (λ c κs. search needs) loop-holds (λ c. search needs) (λ c κs. search needs)
+    put-line-requires (λ c. search needs) (λ c. search needs) loop-again same-length returns)

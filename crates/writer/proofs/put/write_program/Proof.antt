@@ -37,9 +37,6 @@ room : (h : tie.After-header-line)
     + length (text (automatonFrames (automatonOf (start h .args .p .automaton)))))) + 7 ≤ length (start h .args .out .now))
 room h = (ap (λ (l : Line). l .count) (h .header-line .ensures), rw (edge-frames, ← (file-long (programOf (start h .args .p)))) (start h .pre .1))
 
-header-line-requires : tie.Need-header-line-requires
-header-line-requires c κs = search needs
-
 put-line-requires : tie.Need-put-line-requires
 put-line-requires c κs =
     let r = room (c .before) in
@@ -61,26 +58,11 @@ put-automaton-requires c κs =
     let r = room h in
     (start h .pre .0, omega arith)
 
-frame-count-requires : tie.Need-frame-count-requires
-frame-count-requires c κs = search needs
-
-cast-line-of-three : tie.Need-cast-line-of-three
-cast-line-of-three c = search needs
-
-cast-line-of-three-2 : tie.Need-cast-line-of-three-2
-cast-line-of-three-2 c = search needs
-
-line-of-three-requires : tie.Need-line-of-three-requires
-line-of-three-requires c κs = search needs
-
 put-line-requires-2 : tie.Need-put-line-requires-2
 put-line-requires-2 c κs =
     let n : c .before .line-of-three .result .count ≡ 3 = ap (λ (l : Line). l .count) (c .before .line-of-three .ensures) in
     let r = room (header (line (nodes (keys (c .before .before .before .before .before))))) in
     omega arith
-
-same-length : tie.Need-same-length
-same-length c = search needs
 
 returns : tie.Need-returns
 returns c =
@@ -102,16 +84,6 @@ returns c =
 pub write-program-spec : {M : Type 1} → statement M
 write-program-spec =
     tie.close
-    (tie.spec
-    header-line-requires
-    put-line-requires
-    put-nodes-requires
-    put-keys-requires
-    put-automaton-requires
-    frame-count-requires
-    cast-line-of-three
-    cast-line-of-three-2
-    line-of-three-requires
-    put-line-requires-2
-    same-length
-    returns)
+    (tie.spec (λ c κs. search needs) put-line-requires put-nodes-requires put-keys-requires put-automaton-requires
+    (λ c κs. search needs) (λ c. search needs) (λ c. search needs) (λ c κs. search needs) put-line-requires-2
+    (λ c. search needs) returns)
