@@ -1,12 +1,12 @@
 //! How many edits a second the two repairs do, beside the analysis of the edited program.
 
 use crate::{desk, inside_out_desk, print_row, rates, Input};
-use reference::edit::{edited, Edit};
-use reference::file::{Label, Program, Step};
-use reference::lists::widened;
-use reference::repair::{self, InsideOutAnswer};
-use reference::standing::SHEET_SIZE;
-use reference::write::{write, OUTPUT_SIZE};
+use reference::model::edit::{edited, Edit};
+use reference::model::file::{Label, Program, Step};
+use reference::model::lists::widened;
+use reference::model::repair::{self, InsideOutAnswer};
+use reference::model::standing::SHEET_SIZE;
+use reference::model::write::{write, OUTPUT_SIZE};
 use std::time::{Duration, Instant};
 
 /// How many edits of each kind a program gets.

@@ -9,11 +9,11 @@ mod inside_out_desk;
 mod plain;
 
 use plain::{Search, Tables};
-use reference::file::Program;
-use reference::programs::{hub, program_of_shape, Shape};
-use reference::random::Random;
-use reference::standing::SHEET_SIZE;
-use reference::write::write;
+use reference::model::file::Program;
+use reference::generate::programs::{hub, program_of_shape, Shape};
+use reference::generate::random::Random;
+use reference::model::standing::SHEET_SIZE;
+use reference::model::write::write;
 use std::time::{Duration, Instant};
 
 /// How many programs of each kind are measured.

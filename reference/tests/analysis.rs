@@ -6,15 +6,15 @@
 mod desk;
 
 use desk::lent::{with_more_after, Lent, MARGIN};
-use reference::analysis::{self, Analysis, AnalyzeAnswer, Analyzed, NextAnswer, NONE};
-use reference::cases;
-use reference::file;
-use reference::generate;
-use reference::programs::{hub, program_of_seed, program_of_shape, SHAPES};
-use reference::random::Random;
-use reference::sheets::{foreign, FOREIGN};
-use reference::standing::SHEET_SIZE;
-use reference::write::write;
+use reference::cases::{self, sample};
+use reference::generate::files;
+use reference::generate::programs::{hub, program_of_seed, program_of_shape, SHAPES};
+use reference::generate::random::Random;
+use reference::generate::sheets::{foreign, FOREIGN};
+use reference::model::analysis::{self, Analysis, AnalyzeAnswer, Analyzed, NextAnswer, NONE};
+use reference::model::file;
+use reference::model::standing::SHEET_SIZE;
+use reference::model::write::write;
 
 /// Lengths that a buffer may not have.
 const WRONG_LENGTHS: [usize; 7] = [0, 1, 16, 8192, 16_383, 16_385, 20_000];
@@ -267,7 +267,7 @@ fn programs_of_many_seeds_agree() {
 fn damaged_files_agree() {
     let mut tally = Tally::default();
     for seed in 0..FILE_SEEDS {
-        let file = generate::file_of_seed(seed);
+        let file = files::file_of_seed(seed);
         compare(
             &mut Case::new(format!("file {seed}"), file, seed),
             &mut tally,
@@ -298,7 +298,7 @@ fn every_shape_agrees() {
 #[test]
 fn named_files_agree() {
     let mut tally = Tally::default();
-    for (place, case) in cases::all().into_iter().enumerate() {
+    for (place, case) in cases::files::all().into_iter().enumerate() {
         let mut case = Case::new(case.name, case.file, place as u64);
         compare(&mut case, &mut tally);
     }
@@ -337,7 +337,7 @@ fn listed(file: &[u8]) -> Vec<u32> {
 /// The sample with some lines in place of the lines from one to another, both counted from 1, and
 /// with its end count made right.
 fn edited(first: usize, last: usize, lines: &[&str]) -> Vec<u8> {
-    let sample = String::from_utf8(cases::SAMPLE.to_vec()).expect("digits");
+    let sample = String::from_utf8(sample::FILE.to_vec()).expect("digits");
     let mut text: Vec<&str> = sample.lines().collect();
     text.splice(first - 1..last, lines.iter().copied());
     text.pop();
@@ -349,8 +349,8 @@ fn edited(first: usize, last: usize, lines: &[&str]) -> Vec<u8> {
 #[test]
 fn cases_worked_out_by_hand() {
     let five = vec![0, 65, 129, 1024, 1089];
-    assert_eq!(worked(cases::SAMPLE), (five.clone(), [5, 0, 6]));
-    assert_eq!(listed(cases::SAMPLE), []);
+    assert_eq!(worked(sample::FILE), (five.clone(), [5, 0, 6]));
+    assert_eq!(listed(sample::FILE), []);
     let no_start = edited(11, 11, &[]);
     assert_eq!(worked(&no_start), (vec![], [0, 0, 0]));
     let entry_forbidden = edited(12, 12, &["4600", "4602"]);
@@ -367,7 +367,7 @@ fn cases_worked_out_by_hand() {
 
 #[test]
 fn each_byte_of_a_sheet_counts() {
-    let own = analysis::analyze(&file::read(cases::SAMPLE).expect("accepted")).sheet;
+    let own = analysis::analyze(&sample::program()).sheet;
     let mut work = vec![0xA5; SHEET_SIZE];
     for at in 0..SHEET_SIZE {
         let mut sheet = own.clone();
@@ -376,11 +376,11 @@ fn each_byte_of_a_sheet_counts() {
         } else {
             own[at] ^ 2
         };
-        let answer = desk::next_violation(cases::SAMPLE, &sheet, &mut work, 0);
+        let answer = desk::next_violation(sample::FILE, &sheet, &mut work, 0);
         let answer = (answer.refusal, answer.line, answer.found);
         assert_eq!(answer, (17, 0, 0), "byte {at}");
     }
-    let answer = desk::next_violation(cases::SAMPLE, &own, &mut work, 0);
+    let answer = desk::next_violation(sample::FILE, &own, &mut work, 0);
     assert_eq!((answer.refusal, answer.found), (0, NONE));
 }
 
@@ -410,11 +410,11 @@ fn buffers_of_no_bytes_may_be_null() {
         found: 0,
     };
     assert_eq!(desk::analyze_to_null(b""), refused(8, 1));
-    assert_eq!(desk::analyze_to_null(cases::SAMPLE), refused(9, 0));
+    assert_eq!(desk::analyze_to_null(sample::FILE), refused(9, 0));
     let mut marks = vec![7; SHEET_SIZE];
-    let answer = desk::analyze_without_work(cases::SAMPLE, &mut marks);
+    let answer = desk::analyze_without_work(sample::FILE, &mut marks);
     assert_eq!(answer, refused(11, 0));
     assert!(marks.iter().all(|&byte| byte == 7));
     assert_eq!(desk::next_violation_of_null(b""), not_found(8, 1));
-    assert_eq!(desk::next_violation_of_null(cases::SAMPLE), not_found(9, 0));
+    assert_eq!(desk::next_violation_of_null(sample::FILE), not_found(9, 0));
 }

@@ -4,17 +4,18 @@
 //! The program is the one that the environment variable `PALTHRENNI_BENCH` names; without it, the one
 //! in the project's folder `target/bin`.
 
-use reference::analysis::analyze;
-use reference::bench::{bench, MOST_INPUT};
-use reference::cases::{self, full_steps, largest};
-use reference::edit::{edit_of_line, edited};
-use reference::edits;
-use reference::file::{read, Program};
-use reference::generate;
-use reference::programs::{program_of_shape, Shape};
-use reference::random::Random;
-use reference::small::program;
-use reference::write::{line_of, write};
+use reference::cases::files::{full_steps, largest};
+use reference::cases::sample;
+use reference::cases::small::program;
+use reference::generate::edits;
+use reference::generate::files;
+use reference::generate::programs::{program_of_shape, Shape};
+use reference::generate::random::Random;
+use reference::model::analysis::analyze;
+use reference::model::bench::{bench, MOST_INPUT};
+use reference::model::edit::{edit_of_line, edited};
+use reference::model::file::{read, Program};
+use reference::model::write::{line_of, write};
 use std::env;
 use std::ffi::OsString;
 use std::io::{Read, Write};
@@ -146,9 +147,9 @@ fn input_of_seed(seed: u64) -> Vec<u8> {
     let count = random.below(most);
     let input = file_with_edits(random, &home, count);
     match random.below(100) {
-        0..=9 => generate::damage(random, &input),
-        10..=14 => [generate::file_of_seed(seed), input].concat(),
-        15..=24 => generate::file_of_seed(seed),
+        0..=9 => files::damage(random, &input),
+        10..=14 => [files::file_of_seed(seed), input].concat(),
+        15..=24 => files::file_of_seed(seed),
         25..=26 => {
             let length = random.pick(&[MOST_INPUT - 1, MOST_INPUT, MOST_INPUT + 1]);
             let filled = vec![b'\n'; length.saturating_sub(input.len())];
@@ -188,18 +189,18 @@ fn inputs_of_many_seeds_agree() {
 }
 
 fn after_sample(edits: &[u8]) -> Vec<u8> {
-    [cases::SAMPLE, edits].concat()
+    [sample::FILE, edits].concat()
 }
 
 /// The sample, filled up with empty lines to so many bytes.
 fn filled(length: usize) -> Vec<u8> {
-    after_sample(&vec![b'\n'; length - cases::SAMPLE.len()])
+    after_sample(&vec![b'\n'; length - sample::FILE.len()])
 }
 
 /// Inputs that are known by name, with how what is printed begins.
 fn named() -> Vec<(&'static str, Vec<u8>, &'static str)> {
     let edit = b"2B00000102\n";
-    let without_last_byte = cases::SAMPLE[..cases::SAMPLE.len() - 1].to_vec();
+    let without_last_byte = sample::FILE[..sample::FILE.len() - 1].to_vec();
     let routines = |count: u8| {
         let frames = (0..count).map(|routine| line_of(&[0x52, routine, 2]));
         let end = line_of(&[0x45, 0, count + 1]);
@@ -223,7 +224,7 @@ fn named() -> Vec<(&'static str, Vec<u8>, &'static str)> {
         ("16,384 bytes without 0A", vec![b'5'; 16_384], "21010001\n"),
         (
             "edits after a refused file",
-            [&cases::replaced(13, "45000B")[..], edit].concat(),
+            [&sample::replaced(13, "45000B")[..], edit].concat(),
             "2107000D\n",
         ),
         (
@@ -232,10 +233,10 @@ fn named() -> Vec<(&'static str, Vec<u8>, &'static str)> {
             "21030001\n",
         ),
         ("edits without a file", edit.to_vec(), "21020001\n"),
-        ("no end frame", cases::removed(13), "2108000D\n"),
+        ("no end frame", sample::removed(13), "2108000D\n"),
         (
             "no end frame, then an edit",
-            [&cases::removed(13)[..], edit].concat(),
+            [&sample::removed(13)[..], edit].concat(),
             "2102000D\n",
         ),
         (
@@ -253,10 +254,10 @@ fn named() -> Vec<(&'static str, Vec<u8>, &'static str)> {
             after_sample(b"2B00000102\n2D00000102"),
             "5A00050000\n5800020002\n5A00060001\n210C\n",
         ),
-        ("no edit", cases::SAMPLE.to_vec(), "5A00050000\n"),
+        ("no edit", sample::FILE.to_vec(), "5A00050000\n"),
         (
             "the file twice",
-            after_sample(cases::SAMPLE),
+            after_sample(sample::FILE),
             "5A00050000\n210C\n",
         ),
         (
@@ -352,7 +353,7 @@ fn large_inputs_agree() {
         input.truncate(MOST_INPUT);
         compare("the largest file", &input, random, &mut tally);
     }
-    let sample = read(cases::SAMPLE).expect("the sample is accepted");
+    let sample = sample::program();
     for _ in 0..5 {
         let mut input = file_with_edits(random, &sample, 1_600);
         input.truncate(MOST_INPUT);

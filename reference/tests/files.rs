@@ -5,10 +5,10 @@
 
 mod desk;
 
-use reference::cases;
-use reference::file::{self, Reading, FILE_END};
-use reference::generate;
-use reference::write::{self, ReadAnswer, WriteAnswer, OUTPUT_SHORT, OUTPUT_SIZE};
+use reference::cases::{self, sample};
+use reference::generate::files;
+use reference::model::file::{self, Reading, FILE_END};
+use reference::model::write::{self, ReadAnswer, WriteAnswer, OUTPUT_SHORT, OUTPUT_SIZE};
 use std::fmt::Display;
 
 /// Bytes before and after each output that nobody may change.
@@ -98,7 +98,7 @@ fn check_answer(name: &dyn Display, file: &[u8], answer: &WriteAnswer, length: u
 #[test]
 fn named_cases_agree_with_the_answers_worked_out_by_hand() {
     let mut tally = Tally::default();
-    for case in cases::all() {
+    for case in cases::files::all() {
         let wanted = ReadAnswer {
             refusal: case.refusal,
             line: case.line,
@@ -113,7 +113,7 @@ fn files_of_many_seeds_agree() {
     let mut tally = Tally::default();
     for seed in 0..SEEDS {
         let name = format!("seed {seed}");
-        let file = generate::file_of_seed(seed);
+        let file = files::file_of_seed(seed);
         compare(&name, &file, &mut tally);
         if desk::read(&file).refusal == 0 {
             comes_back(&name, &file);
@@ -148,22 +148,22 @@ fn report(name: &str, tally: &Tally) {
 #[test]
 fn the_sample_with_any_one_byte_wrong_agrees() {
     let mut tally = Tally::default();
-    for place in 0..=cases::SAMPLE.len() {
+    for place in 0..=sample::FILE.len() {
         for byte in 0..=255 {
-            let mut longer = cases::SAMPLE.to_vec();
+            let mut longer = sample::FILE.to_vec();
             longer.insert(place, byte);
             compare(&"a byte too many", &longer, &mut tally);
-            let mut changed = cases::SAMPLE.to_vec();
+            let mut changed = sample::FILE.to_vec();
             if place < changed.len() {
                 changed[place] = byte;
                 compare(&"a byte changed", &changed, &mut tally);
             }
         }
-        compare(&"cut short", &cases::SAMPLE[..place], &mut tally);
-        compare(&"begun late", &cases::SAMPLE[place..], &mut tally);
+        compare(&"cut short", &sample::FILE[..place], &mut tally);
+        compare(&"begun late", &sample::FILE[place..], &mut tally);
         let without = [
-            &cases::SAMPLE[..place],
-            cases::SAMPLE.get(place + 1..).unwrap_or(&[]),
+            &sample::FILE[..place],
+            sample::FILE.get(place + 1..).unwrap_or(&[]),
         ];
         compare(&"a byte left out", &without.concat(), &mut tally);
     }
@@ -173,9 +173,9 @@ fn the_sample_with_any_one_byte_wrong_agrees() {
 #[test]
 fn the_sample_with_any_number_changed_agrees() {
     let mut tally = Tally::default();
-    for place in 0..cases::SAMPLE.len() - 1 {
+    for place in 0..sample::FILE.len() - 1 {
         for number in 0..=255u8 {
-            let mut changed = cases::SAMPLE.to_vec();
+            let mut changed = sample::FILE.to_vec();
             let digits = format!("{number:02X}");
             if !changed[place..place + 2].contains(&0x0A) {
                 changed[place..place + 2].copy_from_slice(digits.as_bytes());
@@ -189,16 +189,16 @@ fn the_sample_with_any_number_changed_agrees() {
 #[test]
 fn the_sample_with_its_lines_rearranged_agrees() {
     let mut tally = Tally::default();
-    let lines = cases::SAMPLE.split(|&byte| byte == 0x0A);
+    let lines = sample::FILE.split(|&byte| byte == 0x0A);
     let lines: Vec<String> = lines.map(|line| line.escape_ascii().to_string()).collect();
     for one in 1..lines.len() {
-        compare(&"a line left out", &cases::removed(one), &mut tally);
+        compare(&"a line left out", &sample::removed(one), &mut tally);
         for other in 1..lines.len() {
-            let swapped = cases::swapped(one, other);
+            let swapped = sample::swapped(one, other);
             compare(&"two lines swapped", &swapped, &mut tally);
-            let replaced = cases::replaced(one, &lines[other - 1]);
+            let replaced = sample::replaced(one, &lines[other - 1]);
             compare(&"a line for another", &replaced, &mut tally);
-            let inserted = cases::inserted(one, &lines[other - 1]);
+            let inserted = sample::inserted(one, &lines[other - 1]);
             compare(&"a line put in", &inserted, &mut tally);
         }
     }
@@ -207,7 +207,7 @@ fn the_sample_with_its_lines_rearranged_agrees() {
 
 #[test]
 fn the_largest_file_fills_the_least_output() {
-    let largest = cases::largest();
+    let largest = cases::files::largest();
     assert_eq!(largest.len(), OUTPUT_SIZE);
     let mut tally = Tally::default();
     for _ in LENGTHS {
@@ -223,6 +223,6 @@ fn buffers_of_no_bytes_may_be_null() {
     let (read, write) = desk::read_and_write_null();
     assert_eq!((read.refusal, read.line), (8, 1));
     assert_eq!((write.refusal, write.line, write.written), (8, 1, 0));
-    let write = desk::write_to_null(cases::SAMPLE);
+    let write = desk::write_to_null(sample::FILE);
     assert_eq!((write.refusal, write.line, write.written), (10, 0, 0));
 }

@@ -11,18 +11,17 @@ mod inside_out_desk;
 
 use desk::trial::{self, Lending, Repair, Tally};
 use inside_out_desk::repair_inside_out;
-use reference::analysis::analyze;
-use reference::cases;
-use reference::edit::Edit;
-use reference::edit_cases;
-use reference::file::{read, Program};
-use reference::lists::{widened, Call};
-use reference::programs::{program_of_shape, Shape};
-use reference::random::Random;
-use reference::repair::Buffers;
-use reference::small::{dropped, program};
-use reference::standing::SHEET_SIZE;
-use reference::write::{write, OUTPUT_SIZE};
+use reference::cases::small::{dropped, program};
+use reference::cases::{self, sample};
+use reference::generate::programs::{program_of_shape, Shape};
+use reference::generate::random::Random;
+use reference::model::analysis::analyze;
+use reference::model::edit::Edit;
+use reference::model::file::{read, Program};
+use reference::model::lists::{widened, Call};
+use reference::model::repair::Buffers;
+use reference::model::standing::SHEET_SIZE;
+use reference::model::write::{write, OUTPUT_SIZE};
 
 const FORWARD: Repair = Repair {
     inside_out: false,
@@ -137,34 +136,30 @@ fn every_drop_of_small_programs_agrees() {
     );
 }
 
-fn sample() -> Program {
-    read(cases::SAMPLE).expect("the sample is accepted")
-}
-
 #[test]
 fn repairs_worked_out_by_hand() {
     let five = vec![0, 65, 129, 1024, 1089];
-    let uncalled = dropped(&sample(), "00004102");
-    let never_returns = dropped(&sample(), "01000001");
+    let uncalled = dropped(&sample::program(), "00004102");
+    let never_returns = dropped(&sample::program(), "01000001");
     let nothing = program("50020302 520003 520102 54000001 54000102 54010001 54010101 4900");
     for (program, line, refusal, left, reopened) in [
-        (&sample(), "2D01000001\n", 0, vec![0, 1024], 0b11),
-        (&sample(), "2D00004102\n", 0, vec![0], 0b01),
+        (&sample::program(), "2D01000001\n", 0, vec![0, 1024], 0b11),
+        (&sample::program(), "2D00004102\n", 0, vec![0], 0b01),
         (&never_returns, "2D00004102\n", 0, vec![0], 0b01),
         (&nothing, "2B00004001\n", 0, vec![0], 0b00),
         (&uncalled, "2B01000101\n", 0, vec![0], 0b00),
         (&uncalled, "2B00004102\n", 0, five.clone(), 0b11),
-        (&sample(), "3D0000410241\n", 15, five.clone(), 0b00),
-        (&sample(), "2D00000102\n", 14, five.clone(), 0b00),
+        (&sample::program(), "3D0000410241\n", 15, five.clone(), 0b00),
+        (&sample::program(), "2D00000102\n", 14, five.clone(), 0b00),
         (
-            &sample(),
+            &sample::program(),
             "2B00000102\n",
             0,
             vec![0, 65, 129, 130, 1024, 1089],
             0b01,
         ),
         (
-            &sample(),
+            &sample::program(),
             "3D0100000101\n",
             0,
             vec![0, 130, 1024, 1090],
@@ -206,7 +201,7 @@ fn reopening_stops_where_pairs_stay() {
 #[test]
 fn named_edits_agree_with_the_answers_worked_out_by_hand() {
     let mut tally = Tally::default();
-    for case in edit_cases::all() {
+    for case in cases::edits::all() {
         let program = read(&case.file).expect("the file is accepted");
         let (answer, ..) = trial::repaired(INSIDE_OUT, &program, &case.line);
         assert_eq!(answer.refusal, case.refusal, "{}", case.name);
@@ -230,8 +225,8 @@ fn buffers_of_no_bytes_may_be_null() {
     };
     let (sheet, output) = (SHEET_SIZE, OUTPUT_SIZE);
     assert_eq!(refused(b"", 0, 0, 0), (8, 1));
-    assert_eq!(refused(cases::SAMPLE, 0, 0, 0), (9, 0));
-    assert_eq!(refused(cases::SAMPLE, sheet, 0, 0), (10, 0));
-    assert_eq!(refused(cases::SAMPLE, sheet, output, 0), (11, 0));
-    assert_eq!(refused(cases::SAMPLE, sheet, output, sheet), (12, 0));
+    assert_eq!(refused(sample::FILE, 0, 0, 0), (9, 0));
+    assert_eq!(refused(sample::FILE, sheet, 0, 0), (10, 0));
+    assert_eq!(refused(sample::FILE, sheet, output, 0), (11, 0));
+    assert_eq!(refused(sample::FILE, sheet, output, sheet), (12, 0));
 }

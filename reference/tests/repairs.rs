@@ -7,21 +7,20 @@ mod desk;
 
 use desk::lent::{with_more_after, Lent};
 use desk::trial::{self, Lending, Repair, Tally};
-use reference::analysis::{analyze, SHEET_LENGTH, WORK_LENGTH};
-use reference::cases;
-use reference::edit_cases;
-use reference::edits;
-use reference::file::{read, Program, Reading};
-use reference::generate;
-use reference::keeping::keep_answer;
-use reference::lists::{widened, Call};
-use reference::programs::{hub, program_of_shape, Shape};
-use reference::random::Random;
-use reference::repair::Buffers;
-use reference::sheets;
-use reference::small::{dropped, marked, program};
-use reference::standing::{Standing, SHEET_SIZE};
-use reference::write::{write, OUTPUT_SIZE};
+use reference::cases::small::{dropped, marked, program};
+use reference::cases::{self, sample};
+use reference::generate::edits;
+use reference::generate::files;
+use reference::generate::programs::{hub, program_of_shape, Shape};
+use reference::generate::random::Random;
+use reference::generate::sheets;
+use reference::model::analysis::{analyze, SHEET_LENGTH, WORK_LENGTH};
+use reference::model::file::{read, Program, Reading};
+use reference::model::keeping::keep_answer;
+use reference::model::lists::{widened, Call};
+use reference::model::repair::Buffers;
+use reference::model::standing::{Standing, SHEET_SIZE};
+use reference::model::write::{write, OUTPUT_SIZE};
 
 const FORWARD: Repair = Repair {
     inside_out: false,
@@ -167,7 +166,7 @@ fn refused_keepings_agree() {
     let wrong = [0, 1, 16, 8192, 16_383, 16_385, 20_000];
     for seed in 0..1_500 {
         let random = &mut Random::new(seed);
-        let file = generate::file_of_seed(seed);
+        let file = files::file_of_seed(seed);
         let reading = read(&file);
         let one = random.pick(&wrong);
         let other = random.pick(&wrong);
@@ -188,7 +187,7 @@ fn refused_keepings_agree() {
 #[test]
 fn each_single_mark_and_each_single_gap_agrees() {
     let mut tally = Keepings::default();
-    let sample = read(cases::SAMPLE);
+    let sample = read(sample::FILE);
     let own = analyze(sample.as_ref().expect("accepted")).sheet;
     let random = &mut Random::new(1);
     for at in (0..SHEET_SIZE).step_by(31).chain(marked(&own)) {
@@ -199,7 +198,7 @@ fn each_single_mark_and_each_single_gap_agrees() {
             let sheet = Lent::new(random, &sheet);
             let work = Lent::of_length(random, SHEET_SIZE);
             let name = format!("standing {at}");
-            compare_keeping(&name, cases::SAMPLE, &sample, [&sheet, &work], &mut tally);
+            compare_keeping(&name, sample::FILE, &sample, [&sheet, &work], &mut tally);
         }
     }
 }
@@ -218,14 +217,10 @@ fn fresh(program: &Program) -> Vec<u8> {
     analyze(program).sheet
 }
 
-fn sample() -> Program {
-    read(cases::SAMPLE).expect("the sample is accepted")
-}
-
 #[test]
 fn a_call_that_never_returns_supports_the_called_entry() {
-    let never_returns = dropped(&sample(), "01000001");
-    assert_eq!(kept(&never_returns, &fresh(&sample())), [0, 1024]);
+    let never_returns = dropped(&sample::program(), "01000001");
+    assert_eq!(kept(&never_returns, &fresh(&sample::program())), [0, 1024]);
     let further = dropped(&never_returns, "00020101");
     assert_eq!(kept(&further, &fresh(&never_returns)), [0, 1024]);
 }
@@ -299,7 +294,7 @@ fn lists_of_many_repairs_agree_with_the_book() {
 fn a_list_goes_on_from_the_first_file_while_all_is_refused() {
     let mut tally = Tally::default();
     let random = &mut Random::new(0);
-    let (file, own) = (write(&sample()), fresh(&sample()));
+    let (file, own) = (write(&sample::program()), fresh(&sample::program()));
     for line in [
         "",
         "2B00000103\n",
@@ -314,7 +309,7 @@ fn a_list_goes_on_from_the_first_file_while_all_is_refused() {
             work: random.content(SHEET_SIZE),
         };
         let lending = Lending::new(random, &file, &own, &call);
-        trial::compare(line, FORWARD, &lending, &Ok(sample()), &mut tally);
+        trial::compare(line, FORWARD, &lending, &Ok(sample::program()), &mut tally);
     }
     trial::check_met(&tally, &[0, 12, 13, 14, 15], 1);
 }
@@ -328,30 +323,30 @@ fn repairs_worked_out_by_hand() {
         assert_eq!(answer.refusal, 0, "{line}");
         (left, read(&file).expect("what is written is accepted"))
     };
-    let (marks, never_returns) = left(&sample(), "2D01000001");
+    let (marks, never_returns) = left(&sample::program(), "2D01000001");
     assert_eq!(marks, [0, 1024]);
     let (marks, uncalled) = left(&never_returns, "2D00004102");
     assert_eq!(marks, [0]);
     assert_eq!(left(&uncalled, "2B01000101").0, [0]);
-    let (marks, uncalled) = left(&sample(), "2D00004102");
+    let (marks, uncalled) = left(&sample::program(), "2D00004102");
     assert_eq!(marks, [0]);
     assert_eq!(left(&uncalled, "2B01000101").0, [0]);
     let (marks, back) = left(&uncalled, "2B00004102");
-    assert_eq!((marks, back), (five.clone(), sample()));
+    assert_eq!((marks, back), (five.clone(), sample::program()));
     let nothing = program("50020302 520003 520102 54000001 54000102 54010001 54010101 4900");
     assert_eq!(left(&nothing, "2B00004001").0, [0]);
-    let (answer, marks, _) = trial::repaired(FORWARD, &sample(), b"3D0000410241\n");
+    let (answer, marks, _) = trial::repaired(FORWARD, &sample::program(), b"3D0000410241\n");
     assert_eq!(
         (answer.refusal, answer.written, marks),
         (15, 0, five.clone())
     );
-    let (answer, marks, _) = trial::repaired(FORWARD, &sample(), b"2D00000102\n");
+    let (answer, marks, _) = trial::repaired(FORWARD, &sample::program(), b"2D00000102\n");
     assert_eq!((answer.refusal, answer.written, marks), (14, 0, five));
 }
 
 #[test]
 fn named_edits_agree_with_the_answers_worked_out_by_hand() {
-    for case in edit_cases::all() {
+    for case in cases::edits::all() {
         let program = read(&case.file).expect("the file is accepted");
         let (answer, _, file) = trial::repaired(FORWARD, &program, &case.line);
         assert_eq!(answer.refusal, case.refusal, "{}", case.name);
@@ -374,7 +369,7 @@ fn named_edits_agree_with_the_answers_worked_out_by_hand() {
 fn an_edit_line_with_any_one_byte_wrong_agrees() {
     let mut tally = Tally::default();
     let random = &mut Random::new(2);
-    let own = fresh(&sample());
+    let own = fresh(&sample::program());
     for line in [&b"2B01000101\n"[..], b"2D00020101\n", b"3D0000410240\n"] {
         let mut lines = Vec::new();
         for place in 0..=line.len() {
@@ -398,8 +393,14 @@ fn an_edit_line_with_any_one_byte_wrong_agrees() {
                 output: vec![7; OUTPUT_SIZE],
                 work: vec![7; SHEET_SIZE],
             };
-            let lending = Lending::new(random, cases::SAMPLE, &own, &call);
-            trial::compare("a byte wrong", FORWARD, &lending, &Ok(sample()), &mut tally);
+            let lending = Lending::new(random, sample::FILE, &own, &call);
+            trial::compare(
+                "a byte wrong",
+                FORWARD,
+                &lending,
+                &Ok(sample::program()),
+                &mut tally,
+            );
         }
     }
     println!("edit lines with a byte wrong: {tally:?}");
@@ -410,9 +411,9 @@ fn an_edit_line_with_any_one_byte_wrong_agrees() {
 fn buffers_of_no_bytes_may_be_null() {
     let answer = desk::prune(b"", &mut [], &mut []);
     assert_eq!((answer.refusal, answer.line), (8, 1));
-    let answer = desk::prune(cases::SAMPLE, &mut [], &mut []);
+    let answer = desk::prune(sample::FILE, &mut [], &mut []);
     assert_eq!((answer.refusal, answer.line), (SHEET_LENGTH, 0));
-    let answer = desk::prune(cases::SAMPLE, &mut [1; SHEET_SIZE], &mut []);
+    let answer = desk::prune(sample::FILE, &mut [1; SHEET_SIZE], &mut []);
     assert_eq!((answer.refusal, answer.line), (WORK_LENGTH, 0));
     let refused = |file: &[u8], sheet: usize, output: usize, work: usize| {
         let lent = &mut Buffers {
@@ -426,10 +427,10 @@ fn buffers_of_no_bytes_may_be_null() {
     };
     let (sheet, output) = (SHEET_SIZE, OUTPUT_SIZE);
     assert_eq!(refused(b"", 0, 0, 0), (8, 1, 0));
-    assert_eq!(refused(cases::SAMPLE, 0, 0, 0), (9, 0, 0));
-    assert_eq!(refused(cases::SAMPLE, sheet, 0, 0), (10, 0, 0));
-    assert_eq!(refused(cases::SAMPLE, sheet, output, 0), (11, 0, 0));
-    assert_eq!(refused(cases::SAMPLE, sheet, output, sheet), (12, 0, 0));
+    assert_eq!(refused(sample::FILE, 0, 0, 0), (9, 0, 0));
+    assert_eq!(refused(sample::FILE, sheet, 0, 0), (10, 0, 0));
+    assert_eq!(refused(sample::FILE, sheet, output, 0), (11, 0, 0));
+    assert_eq!(refused(sample::FILE, sheet, output, sheet), (12, 0, 0));
 }
 
 /// A drop by the repair is the keeping with the edited file on the old sheet.

@@ -1,7 +1,7 @@
 //! The inside-out repair of the proved library, called as C calls it.
 
 use crate::desk::{place_of, place_of_mut, NOT_SET};
-use reference::repair::{Buffers, InsideOutAnswer};
+use reference::model::repair::{Buffers, InsideOutAnswer};
 
 #[link(name = "desk", kind = "static")]
 extern "C" {

@@ -1,6 +1,6 @@
 //! Buffers with margins, so that it shows if more is changed than was lent.
 
-use reference::random::Random;
+use reference::generate::random::Random;
 use std::ops::Range;
 
 /// Bytes before and after each buffer that nobody may change.

@@ -4,10 +4,10 @@
 pub mod lent;
 pub mod trial;
 
-use reference::analysis::{AnalyzeAnswer, NextAnswer};
-use reference::keeping::KeepAnswer;
-use reference::repair::{Buffers, ForwardAnswer};
-use reference::write::{ReadAnswer, WriteAnswer};
+use reference::model::analysis::{AnalyzeAnswer, NextAnswer};
+use reference::model::keeping::KeepAnswer;
+use reference::model::repair::{Buffers, ForwardAnswer};
+use reference::model::write::{ReadAnswer, WriteAnswer};
 
 #[link(name = "desk", kind = "static")]
 extern "C" {

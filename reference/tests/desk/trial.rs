@@ -2,19 +2,19 @@
 //! share this.
 
 use super::lent::{with_more_after, Lent};
-use reference::analysis::{analyze, FOREIGN_SHEET};
-use reference::edit::{edit_of_line, edited, Edit};
-use reference::edits;
-use reference::file::{read, Program, Reading};
-use reference::generate;
-use reference::lists::{call, widened, ByBook, Call, Seen};
-use reference::programs::{program_of_shape, Shape};
-use reference::random::Random;
-use reference::repair::{forward_answer, inside_out_answer, Buffers, InsideOutAnswer};
-use reference::sheets;
-use reference::small::marked;
-use reference::standing::SHEET_SIZE;
-use reference::write::{write, OUTPUT_SIZE};
+use reference::cases::small::marked;
+use reference::generate::edits;
+use reference::generate::files;
+use reference::generate::programs::{program_of_shape, Shape};
+use reference::generate::random::Random;
+use reference::generate::sheets;
+use reference::model::analysis::{analyze, FOREIGN_SHEET};
+use reference::model::edit::{edit_of_line, edited, Edit};
+use reference::model::file::{read, Program, Reading};
+use reference::model::lists::{call, widened, ByBook, Call, Seen};
+use reference::model::repair::{forward_answer, inside_out_answer, Buffers, InsideOutAnswer};
+use reference::model::standing::SHEET_SIZE;
+use reference::model::write::{write, OUTPUT_SIZE};
 
 /// A repair as C calls it. A forward one answers 0 for the reopened routines.
 #[derive(Clone, Copy)]
@@ -222,8 +222,8 @@ pub fn single_calls(seed: u64, count: usize, repairs: &[Repair], tally: &mut Tal
 /// The file, or at times a damaged one or quite another, with its reading.
 fn some_file(random: &mut Random, file: &[u8], program: &Program) -> (Vec<u8>, Reading) {
     let other = match random.below(100) {
-        0..=7 => generate::damage(random, file),
-        8..=19 => generate::file_of_seed(random.number()),
+        0..=7 => files::damage(random, file),
+        8..=19 => files::file_of_seed(random.number()),
         _ => return (file.to_vec(), Ok(program.clone())),
     };
     let reading = read(&other);

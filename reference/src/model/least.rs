@@ -6,8 +6,8 @@
 //! - call: a step that calls f leads to f's entry, whether or not f ever returns.
 //! - return: if f, called in state q, can end in s, the step that calls it leads on in s.
 
-use crate::file::{Label, Program, RuleLine, Step};
-use crate::standing::{Standing, MOST_STATES};
+use crate::model::file::{Label, Program, RuleLine, Step};
+use crate::model::standing::{Standing, MOST_STATES};
 use std::collections::BTreeSet;
 
 pub fn least_set(program: &Program) -> BTreeSet<Standing> {

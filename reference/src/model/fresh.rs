@@ -1,7 +1,7 @@
 //! Working afresh: the procedure that takes the lowest standing first, with its count of takings.
 
-use crate::file::{Label, Program, RuleLine, Step, EXIT};
-use crate::standing::{Standing, MOST_STATES, SHEET_SIZE};
+use crate::model::file::{Label, Program, RuleLine, Step, EXIT};
+use crate::model::standing::{Standing, MOST_STATES, SHEET_SIZE};
 use std::collections::BTreeSet;
 
 /// What the procedure leaves behind. Both rows go by the standings' numbers.

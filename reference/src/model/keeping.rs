@@ -4,9 +4,9 @@
 //! is gone through again and again until nothing more is kept. So two marks that only support each
 //! other both go.
 
-use crate::analysis::checked;
-use crate::file::{Label, Program, Reading};
-use crate::standing::{Standing, MOST_STATES, SHEET_SIZE};
+use crate::model::analysis::checked;
+use crate::model::file::{Label, Program, Reading};
+use crate::model::standing::{Standing, MOST_STATES, SHEET_SIZE};
 
 /// The sheet that is left: 1 for each mark that stays, and 0 for all else. Any byte other than 0 is
 /// a mark, the program's own sheet or not.
@@ -100,13 +100,13 @@ pub fn keep_answer(reading: &Reading, sheet: &mut [u8], work: &mut [u8]) -> Keep
 #[cfg(test)]
 mod tests {
     use super::*;
-    use crate::analysis::analyze;
-    use crate::cases;
-    use crate::edit::{edited, Edit};
-    use crate::file::read;
-    use crate::programs::program_of_seed;
-    use crate::random::Random;
-    use crate::small::{dropped, marked, program};
+    use crate::cases::sample;
+    use crate::cases::small::{dropped, marked, program};
+    use crate::generate::programs::program_of_seed;
+    use crate::generate::random::Random;
+    use crate::model::analysis::analyze;
+    use crate::model::edit::{edited, Edit};
+    use crate::model::file::read;
 
     fn fresh(program: &Program) -> Vec<u8> {
         analyze(program).sheet
@@ -149,7 +149,7 @@ mod tests {
 
     #[test]
     fn a_gap_on_the_sheet_cuts_off_what_lies_behind_it() {
-        let program = read(cases::SAMPLE).expect("the sample is accepted");
+        let program = sample::program();
         for (gap, left) in [
             (0, vec![]),
             (65, vec![0, 129, 1024, 1089]),
@@ -165,7 +165,7 @@ mod tests {
 
     #[test]
     fn a_call_that_never_returns_supports_the_called_entry() {
-        let old = read(cases::SAMPLE).expect("the sample is accepted");
+        let old = sample::program();
         let never_returns = dropped(&old, "01000001");
         assert_eq!(marked(&fresh(&never_returns)), [0, 1024]);
         let further = dropped(&never_returns, "00020101");
@@ -207,7 +207,7 @@ mod tests {
 
     #[test]
     fn marks_that_the_program_has_no_place_for_go() {
-        let program = read(cases::SAMPLE).expect("the sample is accepted");
+        let program = sample::program();
         let own = fresh(&program);
         for number in (0..SHEET_SIZE).filter(|&number| own[number] == 0) {
             let mut sheet = own.clone();
@@ -218,7 +218,7 @@ mod tests {
 
     #[test]
     fn lengths_are_judged_after_the_file() {
-        let (good, bad) = (read(cases::SAMPLE), read(b""));
+        let (good, bad) = (read(sample::FILE), read(b""));
         let answer = |reading: &Reading, sheet: usize, work: usize| {
             let (mut sheet, mut work) = (vec![7; sheet], vec![7; work]);
             let answer = keep_answer(reading, &mut sheet, &mut work);

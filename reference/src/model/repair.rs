@@ -1,12 +1,12 @@
 //! The answers of the two repairs, by working afresh. A repair has to leave the fresh sheet of the
 //! edited program, whichever way it gets there.
 
-use crate::analysis::{analyze, FOREIGN_SHEET, SHEET_LENGTH, WORK_LENGTH};
-use crate::edit::{edit_of_line, edited, Edit};
-use crate::file::{Program, Reading};
-use crate::groups::reopened;
-use crate::standing::SHEET_SIZE;
-use crate::write::{write, OUTPUT_SHORT, OUTPUT_SIZE};
+use crate::model::analysis::{analyze, FOREIGN_SHEET, SHEET_LENGTH, WORK_LENGTH};
+use crate::model::edit::{edit_of_line, edited, Edit};
+use crate::model::file::{Program, Reading};
+use crate::model::groups::reopened;
+use crate::model::standing::SHEET_SIZE;
+use crate::model::write::{write, OUTPUT_SHORT, OUTPUT_SIZE};
 
 /// What a forward repair answers.
 #[derive(Clone, Copy, Debug, Default, PartialEq, Eq)]
@@ -131,10 +131,9 @@ fn perform(accepted: &Accepted, lent: &mut Buffers) -> u32 {
 #[cfg(test)]
 mod tests {
     use super::*;
-    use crate::cases;
-    use crate::edit_cases;
-    use crate::file::read;
-    use crate::small::{after, dropped, marked, program};
+    use crate::cases::small::{after, dropped, marked, program};
+    use crate::cases::{self, sample};
+    use crate::model::file::read;
 
     /// An inside-out repair with a program's own sheet: the sheet that is left, and the answer.
     fn repaired(program: &Program, line: &str) -> (Vec<usize>, InsideOutAnswer) {
@@ -153,17 +152,13 @@ mod tests {
         (marked(&sheet), answer)
     }
 
-    fn sample() -> Program {
-        read(cases::SAMPLE).expect("the sample is accepted")
-    }
-
     #[test]
     fn p5_and_p6_a_dropped_step_and_a_dropped_call() {
-        let (left, answer) = repaired(&sample(), "2D01000001");
+        let (left, answer) = repaired(&sample::program(), "2D01000001");
         assert_eq!((left, answer.reopened), (vec![0, 1024], 0b11));
-        let (left, answer) = repaired(&sample(), "2D00004102");
+        let (left, answer) = repaired(&sample::program(), "2D00004102");
         assert_eq!((left, answer.reopened), (vec![0], 0b01));
-        let (left, answer) = repaired(&dropped(&sample(), "01000001"), "2D00004102");
+        let (left, answer) = repaired(&dropped(&sample::program(), "01000001"), "2D00004102");
         assert_eq!((left, answer.reopened), (vec![0], 0b01));
     }
 
@@ -179,16 +174,16 @@ mod tests {
 
     #[test]
     fn p8_a_step_of_a_routine_that_nobody_calls() {
-        let uncalled = dropped(&sample(), "00004102");
+        let uncalled = dropped(&sample::program(), "00004102");
         let (left, answer) = repaired(&uncalled, "2B01000101");
         assert_eq!((left, answer.refusal, answer.reopened), (vec![0], 0, 0));
     }
 
     #[test]
     fn p9_and_p10_a_label_by_itself_and_an_absent_step() {
-        let own = marked(&analyze(&sample()).sheet);
+        let own = marked(&analyze(&sample::program()).sheet);
         for (line, refusal) in [("3D0000410241", 15), ("2D00000102", 14)] {
-            let (left, answer) = repaired(&sample(), line);
+            let (left, answer) = repaired(&sample::program(), line);
             let refused = InsideOutAnswer {
                 refusal,
                 ..InsideOutAnswer::default()
@@ -199,10 +194,10 @@ mod tests {
 
     #[test]
     fn an_accepted_call_leaves_the_new_file_and_the_rest_of_the_output() {
-        let mut sheet = analyze(&sample()).sheet;
+        let mut sheet = analyze(&sample::program()).sheet;
         let (mut output, mut work) = (vec![7; OUTPUT_SIZE + 1], vec![7; SHEET_SIZE]);
         let answer = forward_answer(
-            &Ok(sample()),
+            &Ok(sample::program()),
             &mut Buffers {
                 sheet: &mut sheet,
                 line: b"2B00000102\n",
@@ -210,7 +205,7 @@ mod tests {
                 work: &mut work,
             },
         );
-        let file = write(&after(&sample(), "2B00000102"));
+        let file = write(&after(&sample::program(), "2B00000102"));
         assert_eq!((answer.refusal, answer.line), (0, 0));
         assert_eq!(answer.written as usize, file.len());
         assert_eq!(&output[..file.len()], file);
@@ -221,7 +216,7 @@ mod tests {
 
     #[test]
     fn a_refused_call_changes_nothing_but_the_working_buffer_after_17() {
-        let own = analyze(&sample()).sheet;
+        let own = analyze(&sample::program()).sheet;
         let mut foreign = own.clone();
         foreign[16_383] = 1;
         let good = "2B00000102\n";
@@ -240,7 +235,7 @@ mod tests {
             ("F", &foreign[..], good, most, sheets, (17, 0)),
         ] {
             let file = if file == "F" {
-                cases::SAMPLE
+                sample::FILE
             } else {
                 file.as_bytes()
             };
@@ -265,7 +260,7 @@ mod tests {
 
     #[test]
     fn named_edits_get_the_answers_worked_out_by_hand() {
-        for case in edit_cases::all() {
+        for case in cases::edits::all() {
             let reading = read(&case.file);
             let program = reading.clone().expect("the file is accepted");
             let mut sheet = analyze(&program).sheet;

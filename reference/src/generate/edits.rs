@@ -4,10 +4,10 @@
 //! dropped comes back, or a step joins that is nearly one of those there. The others meet each of
 //! the refusals 12 to 16.
 
-use crate::edit::Edit;
-use crate::file::{lines, Label, Program, Step, EXIT, FIRST_CALL};
-use crate::random::Random;
-use crate::write::line_of;
+use crate::generate::random::Random;
+use crate::model::edit::Edit;
+use crate::model::file::{lines, Label, Program, Step, EXIT, FIRST_CALL};
+use crate::model::write::line_of;
 
 /// A line for a program as it is now, with its sheet. What it had at home, before any edit, comes
 /// back at times.
@@ -246,9 +246,9 @@ pub fn is_one_line(text: &[u8]) -> bool {
 #[cfg(test)]
 mod tests {
     use super::*;
-    use crate::analysis::analyze;
-    use crate::edit::{edit_of_line, edited};
-    use crate::programs::{program_of_seed, program_of_shape, Shape};
+    use crate::generate::programs::{program_of_seed, program_of_shape, Shape};
+    use crate::model::analysis::analyze;
+    use crate::model::edit::{edit_of_line, edited};
 
     #[test]
     fn most_lines_are_accepted_and_each_refusal_is_met() {

@@ -324,11 +324,11 @@ pub fn label_of(number: u8) -> Label {
 #[cfg(test)]
 mod tests {
     use super::*;
-    use crate::cases;
+    use crate::cases::{self, sample};
 
     #[test]
     fn sample_is_read_as_the_program_it_says() {
-        let program = read(cases::SAMPLE).expect("the sample is accepted");
+        let program = sample::program();
         assert_eq!(program.places, [3, 2]);
         assert_eq!((program.states, program.actions), (3, 2));
         let call = Step {
@@ -345,7 +345,7 @@ mod tests {
 
     #[test]
     fn named_cases_get_the_answers_worked_out_by_hand() {
-        for case in cases::all() {
+        for case in cases::files::all() {
             let answer = match read(&case.file) {
                 Ok(_) => (0, 0),
                 Err(refusal) => (refusal.number(), refusal.line),

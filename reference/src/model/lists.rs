@@ -1,15 +1,17 @@
 //! Lists of repair calls, played in two ways: each call by working afresh from the bytes that it
 //! gets, and by the plain book, which knows nothing of bytes.
 
-use crate::analysis::analyze;
-use crate::book::Book;
-use crate::edits;
-use crate::file::{read, Program};
-use crate::groups::reopened;
-use crate::random::Random;
-use crate::repair::{forward_answer, inside_out_answer, Buffers, ForwardAnswer, InsideOutAnswer};
-use crate::standing::SHEET_SIZE;
-use crate::write::{write, OUTPUT_SIZE};
+use crate::generate::edits;
+use crate::generate::random::Random;
+use crate::model::analysis::analyze;
+use crate::model::book::Book;
+use crate::model::file::{read, Program};
+use crate::model::groups::reopened;
+use crate::model::repair::{
+    forward_answer, inside_out_answer, Buffers, ForwardAnswer, InsideOutAnswer,
+};
+use crate::model::standing::SHEET_SIZE;
+use crate::model::write::{write, OUTPUT_SIZE};
 
 /// One call of a list. File and sheet are what the calls before it have left.
 #[derive(Clone, Debug)]
@@ -145,7 +147,7 @@ pub fn call(random: &mut Random, home: &Program, now: &Program, sheet: &[u8]) ->
 #[cfg(test)]
 mod tests {
     use super::*;
-    use crate::programs::{program_of_seed, program_of_shape, Shape};
+    use crate::generate::programs::{program_of_seed, program_of_shape, Shape};
 
     #[test]
     fn the_book_foretells_what_the_repairs_leave() {

@@ -1,8 +1,8 @@
 //! What a program can do, and the answers of the C interface about it.
 
-use crate::file::{Program, Reading, Refusal};
-use crate::fresh::work_afresh;
-use crate::standing::{Standing, SHEET_SIZE};
+use crate::model::file::{Program, Reading, Refusal};
+use crate::model::fresh::work_afresh;
+use crate::model::standing::{Standing, SHEET_SIZE};
 
 pub const SHEET_LENGTH: u32 = 9;
 pub const WORK_LENGTH: u32 = 11;
@@ -132,17 +132,13 @@ pub fn next_answer(analyzed: &Analyzed, sheet: &[u8], work: &mut [u8], from: u32
 #[cfg(test)]
 mod tests {
     use super::*;
-    use crate::cases;
-    use crate::file::{read, Label, Step};
-    use crate::least::least_set;
-    use crate::programs::{hub, program_of_seed, program_of_shape, Shape};
-    use crate::random::Random;
-    use crate::runs::search;
+    use crate::cases::sample;
+    use crate::generate::programs::{hub, program_of_seed, program_of_shape, Shape};
+    use crate::generate::random::Random;
+    use crate::model::file::{read, Label, Step};
+    use crate::model::least::least_set;
+    use crate::model::runs::search;
     use std::collections::BTreeSet;
-
-    fn sample() -> Program {
-        read(cases::SAMPLE).expect("the sample is accepted")
-    }
 
     fn marked(analysis: &Analysis) -> Vec<usize> {
         let numbers = 0..SHEET_SIZE;
@@ -153,7 +149,7 @@ mod tests {
 
     #[test]
     fn the_sample_has_five_standings_and_needs_six_takings() {
-        let analysis = analyze(&sample());
+        let analysis = analyze(&sample::program());
         assert_eq!(marked(&analysis), [0, 65, 129, 1024, 1089]);
         assert_eq!((analysis.standings(), analysis.takings), (5, 6));
         assert_eq!(analysis.findings, []);
@@ -162,7 +158,7 @@ mod tests {
 
     #[test]
     fn without_a_start_state_nothing_is_taken() {
-        let mut program = sample();
+        let mut program = sample::program();
         program.starts.clear();
         let analysis = analyze(&program);
         assert_eq!((marked(&analysis), analysis.takings), (vec![], 0));
@@ -170,7 +166,7 @@ mod tests {
 
     #[test]
     fn a_forbidden_state_is_followed_like_any_other() {
-        let mut program = sample();
+        let mut program = sample::program();
         program.forbidden.insert(0);
         let analysis = analyze(&program);
         assert_eq!(marked(&analysis), [0, 65, 129, 1024, 1089]);
@@ -182,7 +178,7 @@ mod tests {
 
     #[test]
     fn main_that_only_calls_itself_has_one_standing() {
-        let mut program = sample();
+        let mut program = sample::program();
         program.steps = BTreeSet::from([Step {
             routine: 0,
             from: 0,
@@ -194,7 +190,7 @@ mod tests {
 
     #[test]
     fn a_step_that_breaks_the_rule_is_found() {
-        let mut program = sample();
+        let mut program = sample::program();
         program.steps.insert(Step {
             routine: 0,
             from: 0,
@@ -286,8 +282,8 @@ mod tests {
 
     #[test]
     fn lengths_are_judged_after_the_file_and_before_the_sheet() {
-        let analyzed = analyze_reading(&read(cases::SAMPLE));
-        let own = analyze(&sample()).sheet;
+        let analyzed = analyze_reading(&read(sample::FILE));
+        let own = analyze(&sample::program()).sheet;
         let mut work = vec![7; SHEET_SIZE];
         let mut short = vec![7; SHEET_SIZE - 1];
         let refusal = |answer: NextAnswer| (answer.refusal, answer.line, answer.found);

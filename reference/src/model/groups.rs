@@ -7,11 +7,11 @@
 //! worked from all old roots. On an add, a routine is reopened if it has gained a standing. On a
 //! replace, the drop's and the add's are taken together.
 
-use crate::analysis::analyze;
-use crate::edit::{edited, Edit};
-use crate::file::{Label, Program, Step, EXIT};
-use crate::least::grown;
-use crate::standing::{Standing, SHEET_SIZE};
+use crate::model::analysis::analyze;
+use crate::model::edit::{edited, Edit};
+use crate::model::file::{Label, Program, Step, EXIT};
+use crate::model::least::grown;
+use crate::model::standing::{Standing, SHEET_SIZE};
 use std::collections::BTreeSet;
 
 /// The set of reopened routines for an edit that the program accepts, bit f for routine f.
@@ -129,12 +129,12 @@ pub fn is_root(standing: &Standing) -> bool {
 #[cfg(test)]
 mod tests {
     use super::*;
-    use crate::edit::edit_of_line;
-    use crate::edits;
-    use crate::inside_out;
-    use crate::programs::{program_of_shape, Shape};
-    use crate::random::Random;
-    use crate::small::program;
+    use crate::cases::small::program;
+    use crate::generate::edits;
+    use crate::generate::programs::{program_of_shape, Shape};
+    use crate::generate::random::Random;
+    use crate::model::edit::edit_of_line;
+    use crate::model::inside_out;
 
     #[test]
     fn groups_are_circles_of_calls() {

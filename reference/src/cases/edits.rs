@@ -3,7 +3,8 @@
 //! Most of them are edits of the sample, whose steps are 00 00 41 02, 00 02 01 01 and 01 00 00 01;
 //! main has three places, routine 1 has two, and there are two actions.
 
-use crate::cases::{full_steps, largest, SAMPLE};
+use crate::cases::files::{full_steps, largest};
+use crate::cases::sample;
 
 /// A file that is accepted, a line, and the refusal from 12 to 16 that the line gets; 0 if none.
 pub struct EditCase {
@@ -26,7 +27,7 @@ pub fn all() -> Vec<EditCase> {
 fn of_sample(name: &str, line: &str, refusal: u32) -> EditCase {
     EditCase {
         name: name.to_string(),
-        file: SAMPLE.to_vec(),
+        file: sample::FILE.to_vec(),
         line: line.as_bytes().to_vec(),
         refusal,
     }

@@ -3,11 +3,11 @@
 //! It is here to be held against `groups`, which says what is reopened by the outcome alone, and
 //! against working afresh, which says what the sheet is.
 
-use crate::analysis::analyze;
-use crate::edit::{edited, Edit};
-use crate::file::{Label, Program, RuleLine, Step};
-use crate::groups::{calls, groups, is_root, standings};
-use crate::standing::{Standing, MOST_STATES};
+use crate::model::analysis::analyze;
+use crate::model::edit::{edited, Edit};
+use crate::model::file::{Label, Program, RuleLine, Step};
+use crate::model::groups::{calls, groups, is_root, standings};
+use crate::model::standing::{Standing, MOST_STATES};
 use std::collections::BTreeSet;
 
 /// What a repair leaves.

@@ -1,11 +1,11 @@
 //! What the program `bench` prints, as a function of what it reads. The repair that it uses does not
 //! show.
 
-use crate::analysis::analyze;
-use crate::edit::{edit_of_line, edited};
-use crate::file::{lines, read, Program};
-use crate::standing::{Standing, SHEET_SIZE};
-use crate::write::line_of;
+use crate::model::analysis::analyze;
+use crate::model::edit::{edit_of_line, edited};
+use crate::model::file::{lines, read, Program};
+use crate::model::standing::{Standing, SHEET_SIZE};
+use crate::model::write::line_of;
 
 /// How many bytes of input there may be.
 pub const MOST_INPUT: usize = SHEET_SIZE;
@@ -80,14 +80,14 @@ fn two_numbers(number: usize) -> [u8; 2] {
 #[cfg(test)]
 mod tests {
     use super::*;
-    use crate::cases;
+    use crate::cases::sample;
 
     fn printed(input: &[u8]) -> String {
         String::from_utf8(bench(input)).expect("digits")
     }
 
     fn after_sample(edits: &str) -> String {
-        printed(&[cases::SAMPLE, edits.as_bytes()].concat())
+        printed(&[sample::FILE, edits.as_bytes()].concat())
     }
 
     #[test]
@@ -102,10 +102,10 @@ mod tests {
         assert_eq!(printed(b""), "21080001\n");
         assert_eq!(printed(b"2B00000102\n"), "21020001\n");
         assert_eq!(printed(b"450000\n2B00000102\n"), "21040001\n");
-        assert_eq!(printed(&cases::removed(13)), "2108000D\n");
-        let no_last_byte = &cases::SAMPLE[..cases::SAMPLE.len() - 1];
+        assert_eq!(printed(&sample::removed(13)), "2108000D\n");
+        let no_last_byte = &sample::FILE[..sample::FILE.len() - 1];
         assert_eq!(printed(no_last_byte), "2101000D\n");
-        let wrong_end = [&cases::replaced(13, "45000B")[..], b"2B00000102\n"].concat();
+        let wrong_end = [&sample::replaced(13, "45000B")[..], b"2B00000102\n"].concat();
         assert_eq!(printed(&wrong_end), "2107000D\n");
     }
 
@@ -113,8 +113,8 @@ mod tests {
     fn input_may_have_16384_bytes() {
         assert_eq!(printed(&[b'\n'; 16_384]), "21010001\n");
         assert_eq!(printed(&[b'\n'; 16_385]), "2112\n");
-        let padded = |length| [cases::SAMPLE, &vec![b'\n'; length - cases::SAMPLE.len()]].concat();
-        let refused = "210C\n".repeat(16_384 - cases::SAMPLE.len());
+        let padded = |length| [sample::FILE, &vec![b'\n'; length - sample::FILE.len()]].concat();
+        let refused = "210C\n".repeat(16_384 - sample::FILE.len());
         assert_eq!(printed(&padded(16_384)), format!("5A00050000\n{refused}"));
         assert_eq!(printed(&padded(16_385)), "2112\n");
     }

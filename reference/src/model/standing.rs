@@ -1,6 +1,6 @@
 //! Standings: where a program can be, in which state of the rule, and with which root.
 
-use crate::file::EXIT;
+use crate::model::file::EXIT;
 
 /// How many standings have a number, and so the bytes of a sheet.
 pub const SHEET_SIZE: usize = 16_384;

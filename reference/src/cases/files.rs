@@ -1,21 +1,9 @@
 //! Edge cases that are known by name, each with the answer worked out by hand.
 //!
-//! Most of them are the sample file with one thing changed. Its lines are:
-//!
-//! ```text
-//!  1  50020302        8  54000102
-//!  2  520003          9  54010001
-//!  3  520102         10  54010101
-//!  4  5300004102     11  4900
-//!  5  5300020101     12  4602
-//!  6  5301000001     13  45000C
-//!  7  54000001
-//! ```
+//! Most of them are the sample file with one thing changed.
 
-use crate::write::{end, line_of};
-
-/// The sample program file.
-pub const SAMPLE: &[u8] = include_bytes!("../../examples/F.txt");
+use crate::cases::sample::{self, followed_by, inserted, removed, replaced, swapped};
+use crate::model::write::{end, line_of};
 
 /// A file, and the refusal and line that it has to get; both 0 if it is accepted.
 pub struct Case {
@@ -53,50 +41,10 @@ fn case(name: impl Into<String>, file: impl Into<Vec<u8>>, refusal: u32, line: u
     }
 }
 
-fn sample_lines() -> Vec<Vec<u8>> {
-    SAMPLE
-        .split_inclusive(|&byte| byte == 0x0A)
-        .map(<[u8]>::to_vec)
-        .collect()
-}
-
-/// The sample with one line, counted from 1, given another text.
-pub fn replaced(line: usize, text: &str) -> Vec<u8> {
-    let mut lines = sample_lines();
-    lines[line - 1] = format!("{text}\n").into_bytes();
-    lines.concat()
-}
-
-/// The sample with a new line that then has this number.
-pub fn inserted(line: usize, text: &str) -> Vec<u8> {
-    let mut lines = sample_lines();
-    lines.insert(line - 1, format!("{text}\n").into_bytes());
-    lines.concat()
-}
-
-/// The sample without one line.
-pub fn removed(line: usize) -> Vec<u8> {
-    let mut lines = sample_lines();
-    lines.remove(line - 1);
-    lines.concat()
-}
-
-/// The sample with two lines in each other's place.
-pub fn swapped(one: usize, other: usize) -> Vec<u8> {
-    let mut lines = sample_lines();
-    lines.swap(one - 1, other - 1);
-    lines.concat()
-}
-
-/// The sample with something after its end.
-fn followed_by(text: &str) -> Vec<u8> {
-    [SAMPLE, text.as_bytes()].concat()
-}
-
 fn beginnings_and_ends() -> Vec<Case> {
-    let without_last_byte = &SAMPLE[..SAMPLE.len() - 1];
+    let without_last_byte = &sample::FILE[..sample::FILE.len() - 1];
     vec![
-        case("the sample", SAMPLE, 0, 0),
+        case("the sample", sample::FILE, 0, 0),
         case("empty input", "", 8, 1),
         case("sizes alone", "50020302\n", 8, 2),
         case("no end frame", removed(13), 8, 13),
@@ -110,7 +58,7 @@ fn beginnings_and_ends() -> Vec<Case> {
         case("digit after the end", followed_by("4"), 8, 14),
         case("junk after the end", followed_by("junk\n"), 8, 14),
         case("second end", followed_by("45000D\n"), 8, 14),
-        case("the file twice", SAMPLE.repeat(2), 8, 14),
+        case("the file twice", sample::FILE.repeat(2), 8, 14),
         case("second 50 after the end", followed_by("50020302\n"), 8, 14),
         case("zero byte after the end", followed_by("\0"), 8, 14),
         case("smallest program", "50010101\n520002\n450002\n", 0, 0),
@@ -149,7 +97,7 @@ fn lines_that_are_no_frames() -> Vec<Case> {
 fn wrong_counts() -> Vec<Case> {
     let mut cases = Vec::new();
     for (line, right) in [(1, 3), (2, 2), (4, 4), (7, 3), (11, 1), (12, 1), (13, 2)] {
-        let text = String::from_utf8(sample_lines()[line - 1].clone()).expect("digits");
+        let text = String::from_utf8(sample::lines()[line - 1].clone()).expect("digits");
         let long = text.trim_end().to_string() + &"0".repeat(20);
         for count in (0..10).filter(|&count| count != right) {
             let text = &long[..2 + 2 * count];
@@ -437,7 +385,7 @@ fn several_faults() -> Vec<Case> {
 #[cfg(test)]
 mod tests {
     use super::*;
-    use crate::write::OUTPUT_SIZE;
+    use crate::model::write::OUTPUT_SIZE;
     use std::collections::BTreeSet;
 
     #[test]

@@ -1,8 +1,8 @@
 //! Small programs, put down as the lines of a file.
 
-use crate::edit::{edit_of_line, edited};
-use crate::file::{read, Program};
-use crate::write::{end, line_of};
+use crate::model::edit::{edit_of_line, edited};
+use crate::model::file::{read, Program};
+use crate::model::write::{end, line_of};
 
 /// The program of these lines, set apart by spaces; the end frame is added.
 pub fn program(lines: &str) -> Program {

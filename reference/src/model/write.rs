@@ -1,6 +1,6 @@
 //! Writing a program as a file, and the answers of the C interface.
 
-use crate::file::{
+use crate::model::file::{
     Label, Program, Reading, END, FIRST_CALL, FORBIDDEN, ROUTINE, RULE, SIZES, START, STEP,
 };
 
@@ -108,30 +108,30 @@ pub fn line_of(frame: &[u8]) -> Vec<u8> {
 #[cfg(test)]
 mod tests {
     use super::*;
-    use crate::cases;
-    use crate::file::read;
+    use crate::cases::sample;
+    use crate::model::file::read;
 
     #[test]
     fn the_sample_is_written_as_it_was_read() {
-        let program = read(cases::SAMPLE).expect("the sample is accepted");
-        assert_eq!(write(&program), cases::SAMPLE);
+        let program = sample::program();
+        assert_eq!(write(&program), sample::FILE);
     }
 
     #[test]
     fn an_output_is_changed_only_where_the_file_goes() {
         let mut output = [0xA5; OUTPUT_SIZE];
-        let answer = write_answer(&read(cases::SAMPLE), &mut output);
-        let length = cases::SAMPLE.len();
+        let answer = write_answer(&read(sample::FILE), &mut output);
+        let length = sample::FILE.len();
         assert_eq!((answer.refusal, answer.line), (0, 0));
         assert_eq!(answer.written as usize, length);
-        assert_eq!(&output[..length], cases::SAMPLE);
+        assert_eq!(&output[..length], sample::FILE);
         assert!(output[length..].iter().all(|&byte| byte == 0xA5));
     }
 
     #[test]
     fn a_short_output_is_refused_after_the_file_and_unchanged() {
         let mut output = [0xA5; OUTPUT_SIZE - 1];
-        let answer = write_answer(&read(cases::SAMPLE), &mut output);
+        let answer = write_answer(&read(sample::FILE), &mut output);
         assert_eq!((answer.refusal, answer.line, answer.written), (10, 0, 0));
         let answer = write_answer(&read(b""), &mut output);
         assert_eq!((answer.refusal, answer.line, answer.written), (8, 1, 0));

@@ -2,11 +2,11 @@
 //! sheet and no file, and of a call it is told the line and the lengths of output and working
 //! buffer only.
 
-use crate::analysis::WORK_LENGTH;
-use crate::edit::{edit_of_line, Edit, NOT_THERE, STEPS_FULL, THERE_ALREADY};
-use crate::file::{Program, Step, TABLE_ROWS};
-use crate::standing::SHEET_SIZE;
-use crate::write::{OUTPUT_SHORT, OUTPUT_SIZE};
+use crate::model::analysis::WORK_LENGTH;
+use crate::model::edit::{edit_of_line, Edit, NOT_THERE, STEPS_FULL, THERE_ALREADY};
+use crate::model::file::{Program, Step, TABLE_ROWS};
+use crate::model::standing::SHEET_SIZE;
+use crate::model::write::{OUTPUT_SHORT, OUTPUT_SIZE};
 
 /// Of the program only the set of steps changes.
 pub struct Book {
@@ -70,19 +70,19 @@ impl Book {
 #[cfg(test)]
 mod tests {
     use super::*;
-    use crate::analysis::analyze;
-    use crate::edit_cases;
-    use crate::edits;
-    use crate::file::{read, Label, EXIT};
-    use crate::groups::standings;
-    use crate::programs::program_of_seed;
-    use crate::random::Random;
-    use crate::standing::Standing;
+    use crate::cases;
+    use crate::generate::edits;
+    use crate::generate::programs::program_of_seed;
+    use crate::generate::random::Random;
+    use crate::model::analysis::analyze;
+    use crate::model::file::{read, Label, EXIT};
+    use crate::model::groups::standings;
+    use crate::model::standing::Standing;
     use std::collections::BTreeSet;
 
     #[test]
     fn named_edits_get_the_answers_worked_out_by_hand() {
-        for case in edit_cases::all() {
+        for case in cases::edits::all() {
             let program = read(&case.file).expect("the file is accepted");
             let mut book = Book {
                 program: program.clone(),

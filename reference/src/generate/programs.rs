@@ -4,8 +4,8 @@
 //! from its entry by steps, as far as its calls return, and the rule mostly has a line where one is
 //! needed. The shapes differ in what calls what, and in how much there is of everything.
 
-use crate::file::{Label, Program, RuleLine, Step, EXIT, TABLE_ROWS};
-use crate::random::Random;
+use crate::generate::random::Random;
+use crate::model::file::{Label, Program, RuleLine, Step, EXIT, TABLE_ROWS};
 use std::collections::BTreeSet;
 
 /// What a program is to be like.
@@ -386,10 +386,10 @@ pub fn hub() -> Program {
 #[cfg(test)]
 mod tests {
     use super::*;
-    use crate::file::read;
-    use crate::least::least_set;
-    use crate::standing::{Standing, MOST_STATES};
-    use crate::write::write;
+    use crate::model::file::read;
+    use crate::model::least::least_set;
+    use crate::model::standing::{Standing, MOST_STATES};
+    use crate::model::write::write;
 
     const SEEDS: u64 = 1500;
 

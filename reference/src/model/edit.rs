@@ -1,7 +1,9 @@
 //! Edits: one line that adds a step, drops one, or gives one another label.
 
-use crate::file::{label_of, lines, numbers_of_line, Label, Program, Step, EXIT, TABLE_ROWS};
-use crate::write::{label_number, line_of};
+use crate::model::file::{
+    label_of, lines, numbers_of_line, Label, Program, Step, EXIT, TABLE_ROWS,
+};
+use crate::model::write::{label_number, line_of};
 
 /// The kinds of edit lines.
 pub const ADD: u8 = 0x2B;
@@ -143,14 +145,13 @@ pub fn edited(program: &Program, edit: Edit) -> Result<Program, u32> {
 #[cfg(test)]
 mod tests {
     use super::*;
-    use crate::cases;
-    use crate::edit_cases;
-    use crate::file::read;
-    use crate::write::write;
+    use crate::cases::{self, sample};
+    use crate::model::file::read;
+    use crate::model::write::write;
 
     #[test]
     fn named_edits_get_the_answers_worked_out_by_hand() {
-        for case in edit_cases::all() {
+        for case in cases::edits::all() {
             let program = read(&case.file).expect("the file is accepted");
             let after = edit_of_line(&program, &case.line).and_then(|edit| edited(&program, edit));
             assert_eq!(after.err().unwrap_or(0), case.refusal, "{}", case.name);
@@ -159,7 +160,7 @@ mod tests {
 
     #[test]
     fn an_edit_is_read_from_its_own_line() {
-        let program = read(cases::SAMPLE).expect("the sample is accepted");
+        let program = sample::program();
         for &step in &program.steps {
             let label = Label::Call(1);
             for edit in [
@@ -176,9 +177,9 @@ mod tests {
     fn every_label_is_judged_as_in_a_file() {
         for label in 0..=255 {
             let step = [0x53, 1, 0, label, 0];
-            let lines: Vec<&[u8]> = lines(cases::SAMPLE).into_iter().take(3).collect();
+            let lines: Vec<&[u8]> = lines(sample::FILE).into_iter().take(3).collect();
             let file = [lines.concat(), line_of(&step), line_of(&[0x45, 0, 4])].concat();
-            let program = read(cases::SAMPLE).expect("the sample is accepted");
+            let program = sample::program();
             let line = line_of(&[ADD, 1, 0, label, 0]);
             let given = edit_of_line(&program, &line).is_ok();
             assert_eq!(given, read(&file).is_ok(), "label {label}");
@@ -190,7 +191,7 @@ mod tests {
 
     #[test]
     fn the_three_edits_change_the_set_and_nothing_else() {
-        let program = read(cases::SAMPLE).expect("the sample is accepted");
+        let program = sample::program();
         let after = |line: &[u8]| {
             let edit = edit_of_line(&program, line).expect("in range");
             write(&edited(&program, edit).expect("accepted"))
@@ -199,9 +200,9 @@ mod tests {
             let text = String::from_utf8(file).expect("digits");
             text.replace("45000C", end).into_bytes()
         };
-        let added = cases::inserted(4, "5300000102");
+        let added = sample::inserted(4, "5300000102");
         assert_eq!(after(b"2B00000102\n"), end(added, "45000D"));
-        assert_eq!(after(b"2D00020101\n"), end(cases::removed(5), "45000B"));
-        assert_eq!(after(b"3D0002010141\n"), cases::replaced(5, "5300024101"));
+        assert_eq!(after(b"2D00020101\n"), end(sample::removed(5), "45000B"));
+        assert_eq!(after(b"3D0002010141\n"), sample::replaced(5, "5300024101"));
     }
 }

@@ -2,8 +2,8 @@
 //! occur, for the run that met it is there to be shown. A search can be cut short, at a depth of
 //! the stack or at a count of moments, and says whether it was.
 
-use crate::file::{Label, Program, EXIT};
-use crate::standing::Standing;
+use crate::model::file::{Label, Program, EXIT};
+use crate::model::standing::Standing;
 use std::collections::BTreeSet;
 
 /// An open call: where the caller goes on, and what was its root.

@@ -4,12 +4,12 @@
 //! A damaged file is often mended a little afterwards (lines put in order, end count corrected), so
 //! that the fault which remains is one that is judged late.
 
-use crate::file::{
+use crate::generate::random::Random;
+use crate::model::file::{
     count_of_numbers, Label, Program, RuleLine, Step, EXIT, FIRST_CALL, KINDS, ROUTINE, SIZES,
     TABLE_ROWS,
 };
-use crate::random::Random;
-use crate::write::{end, line_of, write};
+use crate::model::write::{end, line_of, write};
 use std::collections::BTreeSet;
 
 /// The file that belongs to a seed.
@@ -455,7 +455,7 @@ fn bytes_at_random(random: &mut Random) -> Vec<u8> {
 #[cfg(test)]
 mod tests {
     use super::*;
-    use crate::file::read;
+    use crate::model::file::read;
 
     #[test]
     fn every_program_made_is_accepted_and_comes_back() {

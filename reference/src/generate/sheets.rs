@@ -1,9 +1,9 @@
 //! Sheets made from a seed: such as a program could have left, and such as none could.
 
-use crate::analysis::analyze;
-use crate::programs::program_of_seed;
-use crate::random::Random;
-use crate::standing::SHEET_SIZE;
+use crate::generate::programs::program_of_seed;
+use crate::generate::random::Random;
+use crate::model::analysis::analyze;
+use crate::model::standing::SHEET_SIZE;
 
 /// How many ways there are to make a foreign sheet.
 pub const FOREIGN: usize = 6;
