@@ -1,10 +1,9 @@
 //! How many edits a second the two repairs do, beside the analysis of the edited program.
 
-use crate::{desk, inside_out_desk, print_row, rates, Input};
+use crate::{desk, print_row, rates, Input};
+use reference::model::calls::repairs::{self, Repair};
 use reference::model::edit::{edited, Edit};
-use reference::model::file::{Label, Program, Step};
-use reference::model::lists::widened;
-use reference::model::repair::{self, InsideOutAnswer};
+use reference::model::program::{Label, Program, Step};
 use reference::model::standing::SHEET_SIZE;
 use reference::model::write::{write, OUTPUT_SIZE};
 use std::time::{Duration, Instant};
@@ -57,31 +56,27 @@ impl Buffers {
     }
 }
 
-type Repair = fn(&[u8], &mut repair::Buffers) -> InsideOutAnswer;
-const REPAIRS: [Repair; 2] = [
-    |file, lent| widened(desk::repair_forward(file, lent)),
-    inside_out_desk::repair_inside_out,
-];
+const REPAIRS: [Repair; 2] = [Repair::Forward, Repair::InsideOut];
 
 /// Whether a repair is accepted and writes as much as it should.
 fn repair(by: Repair, task: &Task, buffers: &mut Buffers) -> bool {
     buffers.marks.copy_from_slice(&task.old_marks);
-    let lent = &mut repair::Buffers {
+    let lent = &mut repairs::Buffers {
         sheet: &mut buffers.marks,
         line: &task.line,
         output: &mut buffers.output,
         work: &mut buffers.work,
     };
-    let answer = by(&task.old_file, lent);
-    answer.refusal == 0 && answer.written as usize == task.new_file.len()
+    let answer = desk::repair(by, &task.old_file, lent);
+    answer.refusal == 0 && answer.value.written as usize == task.new_file.len()
 }
 
 fn forward(task: &Task, buffers: &mut Buffers) -> bool {
-    repair(REPAIRS[0], task, buffers)
+    repair(Repair::Forward, task, buffers)
 }
 
 fn inside_out(task: &Task, buffers: &mut Buffers) -> bool {
-    repair(REPAIRS[1], task, buffers)
+    repair(Repair::InsideOut, task, buffers)
 }
 
 /// Whether the analysis of the edited program counts what it should.
@@ -92,7 +87,11 @@ fn analysis(task: &Task, buffers: &mut Buffers) -> bool {
 fn analyze(file: &[u8], buffers: &mut Buffers) -> [u32; 3] {
     let answer = desk::analyze(file, &mut buffers.marks, &mut buffers.work);
     assert_eq!(answer.refusal, 0, "the file is accepted");
-    [answer.standings, answer.findings, answer.takings]
+    [
+        answer.value.standings,
+        answer.value.findings,
+        answer.value.takings,
+    ]
 }
 
 /// An edit of a program, after all sides have done it and agree.

@@ -4,14 +4,12 @@
 #[path = "../../reference/tests/desk/mod.rs"]
 mod desk;
 mod edits;
-#[path = "../../reference/tests/desk/inside_out.rs"]
-mod inside_out_desk;
 mod plain;
 
 use plain::{Search, Tables};
-use reference::model::file::Program;
 use reference::generate::programs::{hub, program_of_shape, Shape};
 use reference::generate::random::Random;
+use reference::model::program::Program;
 use reference::model::standing::SHEET_SIZE;
 use reference::model::write::write;
 use std::time::{Duration, Instant};
@@ -50,7 +48,11 @@ struct Buffers {
 
 fn library(input: &Input, buffers: &mut Buffers) -> [u32; 3] {
     let answer = desk::analyze(&input.file, &mut buffers.marks, &mut buffers.work);
-    [answer.standings, answer.findings, answer.takings]
+    [
+        answer.value.standings,
+        answer.value.findings,
+        answer.value.takings,
+    ]
 }
 
 fn reading(input: &Input, _: &mut Buffers) -> [u32; 3] {

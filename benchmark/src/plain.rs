@@ -1,7 +1,7 @@
 //! The lowest-first procedure as one would write it in Rust: a byte for every flag, and the steps
 //! and rule lines gone through from the first to the last.
 
-use reference::model::file::{Label, Program, RuleLine, Step, EXIT};
+use reference::model::program::{Label, Program, RuleLine, Step, EXIT};
 use reference::model::standing::SHEET_SIZE;
 
 /// A program with its tables as plain rows.

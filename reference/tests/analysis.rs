@@ -11,8 +11,11 @@ use reference::generate::files;
 use reference::generate::programs::{hub, program_of_seed, program_of_shape, SHAPES};
 use reference::generate::random::Random;
 use reference::generate::sheets::{foreign, FOREIGN};
-use reference::model::analysis::{self, Analysis, AnalyzeAnswer, Analyzed, NextAnswer, NONE};
+use reference::model::analysis::{self, Analysis, Analyzed, NONE};
+use reference::model::calls::sheets::{analyze_answer, next_answer, Counts};
+use reference::model::calls::Answer;
 use reference::model::file;
+use reference::model::refusals::FOREIGN_SHEET;
 use reference::model::standing::SHEET_SIZE;
 use reference::model::write::write;
 
@@ -86,7 +89,7 @@ fn check_bytes(case: &Case, what: &str, given: &[u8], wanted: &[u8]) {
 }
 
 /// Works the file afresh with both, in buffers that were the same, and compares all of it.
-fn compare_analyze(case: &Case, marks: &Lent, work: &Lent, tally: &mut Tally) -> AnalyzeAnswer {
+fn compare_analyze(case: &Case, marks: &Lent, work: &Lent, tally: &mut Tally) -> Answer<Counts> {
     let (mut given_marks, mut given_work) = (marks.clone(), work.clone());
     let (mut marks, mut work) = (marks.clone(), work.clone());
     let lent = with_more_after(&case.file);
@@ -95,7 +98,7 @@ fn compare_analyze(case: &Case, marks: &Lent, work: &Lent, tally: &mut Tally) ->
         given_marks.content_mut(),
         given_work.content_mut(),
     );
-    let wanted = analysis::analyze_answer(&case.analyzed, marks.content_mut(), work.content_mut());
+    let wanted = analyze_answer(&case.analyzed, marks.content_mut(), work.content_mut());
     assert_eq!(given, wanted, "a fresh working, {}", case.input());
     check_bytes(case, "the sheet", &given_marks.bytes, &marks.bytes);
     check_bytes(case, "the working buffer", &given_work.bytes, &work.bytes);
@@ -112,13 +115,13 @@ fn compare_next(
     work: &Lent,
     from: u32,
     tally: &mut Tally,
-) -> NextAnswer {
+) -> Answer<u32> {
     let (given_marks, mut given_work, mut work) = (marks.clone(), work.clone(), work.clone());
     let lent = with_more_after(&case.file);
     let file = &lent[..case.file.len()];
     let content = given_work.content_mut();
     let given = desk::next_violation(file, given_marks.content(), content, from);
-    let wanted = analysis::next_answer(&case.analyzed, marks.content(), work.content_mut(), from);
+    let wanted = next_answer(&case.analyzed, marks.content(), work.content_mut(), from);
     assert_eq!(given, wanted, "next from {from}, {}", case.input());
     check_bytes(case, "the sheet", &given_marks.bytes, &marks.bytes);
     check_bytes(case, "the working buffer", &given_work.bytes, &work.bytes);
@@ -126,9 +129,9 @@ fn compare_next(
     tally.asked[given.refusal as usize] += 1;
     tally.calls += 1;
     if given.refusal == 0 {
-        tally.found_none += usize::from(given.found == NONE);
-        tally.found_at_once += usize::from(given.found == from && from != NONE);
-        tally.found_above += usize::from(given.found != NONE && given.found > from);
+        tally.found_none += usize::from(given.value == NONE);
+        tally.found_at_once += usize::from(given.value == from && from != NONE);
+        tally.found_above += usize::from(given.value != NONE && given.value > from);
     }
     given
 }
@@ -170,7 +173,7 @@ fn compare_foreign(case: &mut Case, own: &[u8], way: usize, tally: &mut Tally) {
     let work = Lent::of_length(&mut case.random, SHEET_SIZE);
     let from = some_number(&mut case.random, &[]);
     let answer = compare_next(case, &marks, &work, from, tally);
-    assert_eq!(answer.refusal, analysis::FOREIGN_SHEET);
+    assert_eq!(answer.refusal, FOREIGN_SHEET);
     tally.foreign[way] += 1;
 }
 
@@ -193,11 +196,11 @@ fn compare_list(case: &Case, marks: &Lent, work: &Lent, findings: &[u32], tally:
     let mut from = 0;
     for &finding in findings {
         let answer = compare_next(case, marks, work, from, tally);
-        assert_eq!(answer.found, finding, "{}", case.input());
+        assert_eq!(answer.value, finding, "{}", case.input());
         from = finding + 1;
     }
     let answer = compare_next(case, marks, work, from, tally);
-    assert_eq!(answer.found, NONE, "{}", case.input());
+    assert_eq!(answer.value, NONE, "{}", case.input());
     tally.lists += 1;
 }
 
@@ -213,7 +216,7 @@ fn compare(case: &mut Case, tally: &mut Tally) {
             let from = some_number(&mut case.random, &[]);
             compare_next(case, &marks, &work, from, tally);
         }
-        Some(analysis) if answer.standings > MANY_STANDINGS => {
+        Some(analysis) if answer.value.standings > MANY_STANDINGS => {
             if case.random.percent(50) {
                 compare_own(case, &analysis, 1, tally);
             } else {
@@ -229,14 +232,14 @@ fn compare(case: &mut Case, tally: &mut Tally) {
     note(&answer, tally);
 }
 
-fn note(answer: &AnalyzeAnswer, tally: &mut Tally) {
+fn note(answer: &Answer<Counts>, tally: &mut Tally) {
     tally.programs += 1;
     if answer.refusal == 0 {
-        tally.no_standing += usize::from(answer.standings == 0);
-        tally.no_finding += usize::from(answer.findings == 0);
-        tally.findings += usize::from(answer.findings > 0);
-        tally.over_1000_standings += usize::from(answer.standings > 1000);
-        tally.over_5000_standings += usize::from(answer.standings > 5000);
+        tally.no_standing += usize::from(answer.value.standings == 0);
+        tally.no_finding += usize::from(answer.value.findings == 0);
+        tally.findings += usize::from(answer.value.findings > 0);
+        tally.over_1000_standings += usize::from(answer.value.standings > 1000);
+        tally.over_5000_standings += usize::from(answer.value.standings > 5000);
     }
 }
 
@@ -313,7 +316,11 @@ fn worked(file: &[u8]) -> (Vec<usize>, [u32; 3]) {
     assert!(marks.iter().all(|&byte| byte <= 1));
     assert!(work.iter().all(|&byte| byte == 0));
     let marked = (0..SHEET_SIZE).filter(|&number| marks[number] == 1);
-    let counts = [answer.standings, answer.findings, answer.takings];
+    let counts = [
+        answer.value.standings,
+        answer.value.findings,
+        answer.value.takings,
+    ];
     (marked.collect(), counts)
 }
 
@@ -326,11 +333,11 @@ fn listed(file: &[u8]) -> Vec<u32> {
         let from = found.last().map_or(0, |&last| last + 1);
         let answer = desk::next_violation(file, &marks, &mut work, from);
         assert_eq!((answer.refusal, answer.line), (0, 0));
-        if answer.found == NONE {
+        if answer.value == NONE {
             return found;
         }
-        assert!(answer.found >= from, "{} from {from}", answer.found);
-        found.push(answer.found);
+        assert!(answer.value >= from, "{} from {from}", answer.value);
+        found.push(answer.value);
     }
 }
 
@@ -377,11 +384,11 @@ fn each_byte_of_a_sheet_counts() {
             own[at] ^ 2
         };
         let answer = desk::next_violation(sample::FILE, &sheet, &mut work, 0);
-        let answer = (answer.refusal, answer.line, answer.found);
+        let answer = (answer.refusal, answer.line, answer.value);
         assert_eq!(answer, (17, 0, 0), "byte {at}");
     }
     let answer = desk::next_violation(sample::FILE, &own, &mut work, 0);
-    assert_eq!((answer.refusal, answer.found), (0, NONE));
+    assert_eq!((answer.refusal, answer.value), (0, NONE));
 }
 
 #[test]
@@ -393,28 +400,21 @@ fn a_list_can_be_asked_from_any_number() {
     for from in (0..=1100).chain(far) {
         let answer = desk::next_violation(&file, &analysis.sheet, &mut work, from);
         let wanted = analysis.next_finding(from);
-        assert_eq!((answer.refusal, answer.found), (0, wanted), "from {from}");
+        assert_eq!((answer.refusal, answer.value), (0, wanted), "from {from}");
     }
 }
 
 #[test]
 fn buffers_of_no_bytes_may_be_null() {
-    let refused = |refusal, line| AnalyzeAnswer {
-        refusal,
-        line,
-        ..AnalyzeAnswer::default()
-    };
-    let not_found = |refusal, line| NextAnswer {
-        refusal,
-        line,
-        found: 0,
-    };
-    assert_eq!(desk::analyze_to_null(b""), refused(8, 1));
-    assert_eq!(desk::analyze_to_null(sample::FILE), refused(9, 0));
+    assert_eq!(desk::analyze_to_null(b""), Answer::refused(8, 1));
+    assert_eq!(desk::analyze_to_null(sample::FILE), Answer::refused(9, 0));
     let mut marks = vec![7; SHEET_SIZE];
     let answer = desk::analyze_without_work(sample::FILE, &mut marks);
-    assert_eq!(answer, refused(11, 0));
+    assert_eq!(answer, Answer::refused(11, 0));
     assert!(marks.iter().all(|&byte| byte == 7));
-    assert_eq!(desk::next_violation_of_null(b""), not_found(8, 1));
-    assert_eq!(desk::next_violation_of_null(sample::FILE), not_found(9, 0));
+    assert_eq!(desk::next_violation_of_null(b""), Answer::refused(8, 1));
+    assert_eq!(
+        desk::next_violation_of_null(sample::FILE),
+        Answer::refused(9, 0)
+    );
 }

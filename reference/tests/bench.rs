@@ -11,11 +11,13 @@ use reference::generate::edits;
 use reference::generate::files;
 use reference::generate::programs::{program_of_shape, Shape};
 use reference::generate::random::Random;
-use reference::model::analysis::analyze;
+use reference::model::analysis::own_sheet;
 use reference::model::bench::{bench, MOST_INPUT};
-use reference::model::edit::{edit_of_line, edited};
-use reference::model::file::{read, Program};
-use reference::model::write::{line_of, write};
+use reference::model::edit::edited_by_line;
+use reference::model::file::read;
+use reference::model::lines::line_of;
+use reference::model::program::Program;
+use reference::model::write::write;
 use std::env;
 use std::ffi::OsString;
 use std::io::{Read, Write};
@@ -116,11 +118,11 @@ fn file_with_edits(random: &mut Random, home: &Program, count: usize) -> Vec<u8>
     let mut input = write(home);
     let mut now = home.clone();
     for _ in 0..count {
-        let line = edits::line(random, home, &now, &analyze(&now).sheet);
+        let line = edits::line(random, home, &now, &own_sheet(&now));
         if !edits::is_one_line(&line) && random.percent(80) {
             continue;
         }
-        if let Ok(after) = edit_of_line(&now, &line).and_then(|edit| edited(&now, edit)) {
+        if let Ok(after) = edited_by_line(&now, &line) {
             now = after;
         }
         input.extend(line);

@@ -7,8 +7,11 @@ mod desk;
 
 use reference::cases::{self, sample};
 use reference::generate::files;
-use reference::model::file::{self, Reading, FILE_END};
-use reference::model::write::{self, ReadAnswer, WriteAnswer, OUTPUT_SHORT, OUTPUT_SIZE};
+use reference::model::calls::files::{read_answer, write_answer};
+use reference::model::calls::Answer;
+use reference::model::file::{self, Reading};
+use reference::model::refusals::{FILE_END, OUTPUT_SHORT};
+use reference::model::write::OUTPUT_SIZE;
 use std::fmt::Display;
 
 /// Bytes before and after each output that nobody may change.
@@ -31,7 +34,7 @@ struct Tally {
 fn compare(name: &dyn Display, file: &[u8], tally: &mut Tally) {
     let lent = lend(file);
     let reading = file::read(file);
-    let wanted = write::read_answer(&reading);
+    let wanted = read_answer(&reading);
     let given = desk::read(&lent[..file.len()]);
     assert_eq!(given, wanted, "reading, {name}: {}", file.escape_ascii());
     tally.met[wanted.refusal as usize] += 1;
@@ -60,12 +63,12 @@ fn compare_writing(
     file: &[u8],
     reading: &Reading,
     length: usize,
-) -> WriteAnswer {
+) -> Answer<u32> {
     let mut given_bytes = pattern(file.len(), length);
     let mut wanted_bytes = given_bytes.clone();
     let inside = MARGIN..MARGIN + length;
     let given = desk::write(file, &mut given_bytes[inside.clone()]);
-    let wanted = write::write_answer(reading, &mut wanted_bytes[inside]);
+    let wanted = write_answer(reading, &mut wanted_bytes[inside]);
     let input = file.escape_ascii();
     assert_eq!(given, wanted, "writing to {length}, {name}: {input}");
     let different = (0..given_bytes.len()).find(|&at| given_bytes[at] != wanted_bytes[at]);
@@ -86,10 +89,10 @@ fn pattern(seed: usize, length: usize) -> Vec<u8> {
 
 /// What holds of every answer, whatever the reference says: an accepted file comes back as its own
 /// length, a file's refusal has a line, and nothing else has.
-fn check_answer(name: &dyn Display, file: &[u8], answer: &WriteAnswer, length: usize) {
+fn check_answer(name: &dyn Display, file: &[u8], answer: &Answer<u32>, length: usize) {
     let accepted = answer.refusal == 0;
     let written = if accepted { file.len() } else { 0 };
-    assert_eq!(answer.written as usize, written, "{name}");
+    assert_eq!(answer.value as usize, written, "{name}");
     let has_line = (1..=FILE_END).contains(&answer.refusal);
     assert_eq!(answer.line > 0, has_line, "{name}");
     assert!(!accepted || length >= OUTPUT_SIZE, "{name}");
@@ -99,10 +102,7 @@ fn check_answer(name: &dyn Display, file: &[u8], answer: &WriteAnswer, length: u
 fn named_cases_agree_with_the_answers_worked_out_by_hand() {
     let mut tally = Tally::default();
     for case in cases::files::all() {
-        let wanted = ReadAnswer {
-            refusal: case.refusal,
-            line: case.line,
-        };
+        let wanted = Answer::refused(case.refusal, case.line);
         assert_eq!(desk::read(&case.file), wanted, "{}", case.name);
         compare(&case.name, &case.file, &mut tally);
     }
@@ -131,7 +131,7 @@ fn files_of_many_seeds_agree() {
 fn comes_back(name: &str, file: &[u8]) {
     let mut output = vec![0x0A; OUTPUT_SIZE];
     let answer = desk::write(file, &mut output);
-    assert_eq!(answer.written as usize, file.len(), "{name}");
+    assert_eq!(answer.value as usize, file.len(), "{name}");
     assert_eq!(&output[..file.len()], file, "{name}");
 }
 
@@ -214,7 +214,7 @@ fn the_largest_file_fills_the_least_output() {
         compare(&"the largest file", &largest, &mut tally);
     }
     let mut output = vec![0; OUTPUT_SIZE];
-    assert_eq!(desk::write(&largest, &mut output).written, 5328);
+    assert_eq!(desk::write(&largest, &mut output).value, 5328);
     assert_eq!(output, largest);
 }
 
@@ -222,7 +222,7 @@ fn the_largest_file_fills_the_least_output() {
 fn buffers_of_no_bytes_may_be_null() {
     let (read, write) = desk::read_and_write_null();
     assert_eq!((read.refusal, read.line), (8, 1));
-    assert_eq!((write.refusal, write.line, write.written), (8, 1, 0));
+    assert_eq!((write.refusal, write.line, write.value), (8, 1, 0));
     let write = desk::write_to_null(sample::FILE);
-    assert_eq!((write.refusal, write.line, write.written), (10, 0, 0));
+    assert_eq!((write.refusal, write.line, write.value), (10, 0, 0));
 }

@@ -6,31 +6,23 @@
 //! shows the input.
 
 mod desk;
-#[path = "desk/inside_out.rs"]
-mod inside_out_desk;
 
-use desk::trial::{self, Lending, Repair, Tally};
-use inside_out_desk::repair_inside_out;
+use desk::trial::{self, Lending, Tally};
 use reference::cases::small::{dropped, program};
 use reference::cases::{self, sample};
 use reference::generate::programs::{program_of_shape, Shape};
 use reference::generate::random::Random;
-use reference::model::analysis::analyze;
+use reference::model::analysis::own_sheet;
+use reference::model::calls::repairs::{Buffers, Repair};
 use reference::model::edit::Edit;
-use reference::model::file::{read, Program};
-use reference::model::lists::{widened, Call};
-use reference::model::repair::Buffers;
+use reference::model::file::read;
+use reference::model::lists::Call;
+use reference::model::program::Program;
 use reference::model::standing::SHEET_SIZE;
 use reference::model::write::{write, OUTPUT_SIZE};
 
-const FORWARD: Repair = Repair {
-    inside_out: false,
-    call: |file, lent| widened(desk::repair_forward(file, lent)),
-};
-const INSIDE_OUT: Repair = Repair {
-    inside_out: true,
-    call: repair_inside_out,
-};
+const FORWARD: Repair = Repair::Forward;
+const INSIDE_OUT: Repair = Repair::InsideOut;
 /// How often each outcome has to be met, so that agreeing on it means something.
 const OFTEN: usize = 20;
 const SINGLE_SEEDS: u64 = 3_000;
@@ -92,12 +84,12 @@ fn lists_of_both_repairs_agree_with_the_book() {
 /// A call with a program's own sheet.
 fn lending(random: &mut Random, program: &Program, line: Vec<u8>) -> Lending {
     let call = Call {
-        inside_out: true,
+        repair: INSIDE_OUT,
         line,
         output: random.content(OUTPUT_SIZE),
         work: random.content(SHEET_SIZE),
     };
-    Lending::new(random, &write(program), &analyze(program).sheet, &call)
+    Lending::new(random, &write(program), &own_sheet(program), &call)
 }
 
 /// Every step of a program dropped, each from the program as it was.
@@ -168,7 +160,7 @@ fn repairs_worked_out_by_hand() {
     ] {
         let (answer, marks, _) = trial::repaired(INSIDE_OUT, program, line.as_bytes());
         assert_eq!(
-            (answer.refusal, answer.reopened),
+            (answer.refusal, answer.value.reopened),
             (refusal, reopened),
             "{line}"
         );
@@ -194,7 +186,11 @@ fn reopening_stops_where_pairs_stay() {
         ("2D04004301\n", 0b10000),
     ] {
         let (answer, ..) = trial::repaired(INSIDE_OUT, &program, line.as_bytes());
-        assert_eq!((answer.refusal, answer.reopened), (0, reopened), "{line}");
+        assert_eq!(
+            (answer.refusal, answer.value.reopened),
+            (0, reopened),
+            "{line}"
+        );
     }
 }
 
@@ -219,8 +215,8 @@ fn buffers_of_no_bytes_may_be_null() {
             output: &mut vec![0; output],
             work: &mut vec![0; work],
         };
-        let answer = repair_inside_out(file, lent);
-        assert_eq!((answer.written, answer.reopened), (0, 0));
+        let answer = desk::repair(INSIDE_OUT, file, lent);
+        assert_eq!((answer.value.written, answer.value.reopened), (0, 0));
         (answer.refusal, answer.line)
     };
     let (sheet, output) = (SHEET_SIZE, OUTPUT_SIZE);

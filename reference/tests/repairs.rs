@@ -6,26 +6,25 @@
 mod desk;
 
 use desk::lent::{with_more_after, Lent};
-use desk::trial::{self, Lending, Repair, Tally};
-use reference::cases::small::{dropped, marked, program};
+use desk::trial::{self, Lending, Tally};
+use reference::cases::small::{dropped, program};
 use reference::cases::{self, sample};
 use reference::generate::edits;
 use reference::generate::files;
 use reference::generate::programs::{hub, program_of_shape, Shape};
 use reference::generate::random::Random;
 use reference::generate::sheets;
-use reference::model::analysis::{analyze, SHEET_LENGTH, WORK_LENGTH};
-use reference::model::file::{read, Program, Reading};
-use reference::model::keeping::keep_answer;
-use reference::model::lists::{widened, Call};
-use reference::model::repair::Buffers;
-use reference::model::standing::{Standing, SHEET_SIZE};
+use reference::model::analysis::own_sheet;
+use reference::model::calls::repairs::{Buffers, Repair};
+use reference::model::calls::sheets::keep_answer;
+use reference::model::file::{read, Reading};
+use reference::model::lists::Call;
+use reference::model::program::Program;
+use reference::model::refusals::{SHEET_LENGTH, WORK_LENGTH};
+use reference::model::standing::{marked, Standing, SHEET_SIZE};
 use reference::model::write::{write, OUTPUT_SIZE};
 
-const FORWARD: Repair = Repair {
-    inside_out: false,
-    call: |file, lent| widened(desk::repair_forward(file, lent)),
-};
+const FORWARD: Repair = Repair::Forward;
 /// How often each outcome has to be met, so that agreeing on it means something.
 const OFTEN: usize = 20;
 const KEEPING_SEEDS: u64 = 2_000;
@@ -89,7 +88,7 @@ fn compare_sheet(
     random: &mut Random,
     tally: &mut Keepings,
 ) {
-    let own = analyze(program).sheet;
+    let own = own_sheet(program);
     let sheet = sheets::any(random, &own, way);
     let edited = match program
         .steps
@@ -110,7 +109,7 @@ fn compare_sheet(
     let kept = compare_keeping(&name, &file, &Ok(edited.clone()), [&lent, &work], tally);
     let (stayed, were) = (marked(kept.content()).len(), marked(&sheet).len());
     let parted = stayed > 0 && stayed < were;
-    let own = marked(&analyze(&edited).sheet).len();
+    let own = marked(&own_sheet(&edited)).len();
     tally.parted += usize::from(parted);
     tally.less_than_own += usize::from(parted && stayed < own);
     tally.other_bytes += usize::from(sheet.iter().any(|&byte| byte > 1));
@@ -188,7 +187,7 @@ fn refused_keepings_agree() {
 fn each_single_mark_and_each_single_gap_agrees() {
     let mut tally = Keepings::default();
     let sample = read(sample::FILE);
-    let own = analyze(sample.as_ref().expect("accepted")).sheet;
+    let own = own_sheet(sample.as_ref().expect("accepted"));
     let random = &mut Random::new(1);
     for at in (0..SHEET_SIZE).step_by(31).chain(marked(&own)) {
         let (mut mark, mut gap) = (own.clone(), vec![1; SHEET_SIZE]);
@@ -214,7 +213,7 @@ fn kept(program: &Program, sheet: &[u8]) -> Vec<usize> {
 }
 
 fn fresh(program: &Program) -> Vec<u8> {
-    analyze(program).sheet
+    own_sheet(program)
 }
 
 #[test]
@@ -303,7 +302,7 @@ fn a_list_goes_on_from_the_first_file_while_all_is_refused() {
         "2B00000102\n",
     ] {
         let call = Call {
-            inside_out: false,
+            repair: FORWARD,
             line: line.as_bytes().to_vec(),
             output: random.content(OUTPUT_SIZE),
             work: random.content(SHEET_SIZE),
@@ -337,11 +336,11 @@ fn repairs_worked_out_by_hand() {
     assert_eq!(left(&nothing, "2B00004001").0, [0]);
     let (answer, marks, _) = trial::repaired(FORWARD, &sample::program(), b"3D0000410241\n");
     assert_eq!(
-        (answer.refusal, answer.written, marks),
+        (answer.refusal, answer.value.written, marks),
         (15, 0, five.clone())
     );
     let (answer, marks, _) = trial::repaired(FORWARD, &sample::program(), b"2D00000102\n");
-    assert_eq!((answer.refusal, answer.written, marks), (14, 0, five));
+    assert_eq!((answer.refusal, answer.value.written, marks), (14, 0, five));
 }
 
 #[test]
@@ -354,7 +353,7 @@ fn named_edits_agree_with_the_answers_worked_out_by_hand() {
         let mut tally = Tally::default();
         let random = &mut Random::new(0);
         let call = Call {
-            inside_out: false,
+            repair: FORWARD,
             line: case.line,
             output: random.content(OUTPUT_SIZE),
             work: random.content(SHEET_SIZE),
@@ -388,7 +387,7 @@ fn an_edit_line_with_any_one_byte_wrong_agrees() {
         }
         for line in lines {
             let call = Call {
-                inside_out: false,
+                repair: FORWARD,
                 line,
                 output: vec![7; OUTPUT_SIZE],
                 work: vec![7; SHEET_SIZE],
@@ -422,8 +421,8 @@ fn buffers_of_no_bytes_may_be_null() {
             output: &mut vec![0; output],
             work: &mut vec![0; work],
         };
-        let answer = desk::repair_forward(file, lent);
-        (answer.refusal, answer.line, answer.written)
+        let answer = desk::repair(FORWARD, file, lent);
+        (answer.refusal, answer.line, answer.value.written)
     };
     let (sheet, output) = (SHEET_SIZE, OUTPUT_SIZE);
     assert_eq!(refused(b"", 0, 0, 0), (8, 1, 0));

@@ -3,7 +3,8 @@
 //! Most of them are the sample file with one thing changed.
 
 use crate::cases::sample::{self, followed_by, inserted, removed, replaced, swapped};
-use crate::model::write::{end, line_of};
+use crate::model::lines::line_of;
+use crate::model::write::end;
 
 /// A file, and the refusal and line that it has to get; both 0 if it is accepted.
 pub struct Case {

@@ -10,7 +10,9 @@
 //!  7  54000001
 //! ```
 
-use crate::model::file::{read, Program};
+use crate::model::file::read;
+use crate::model::lines;
+use crate::model::program::Program;
 
 /// The sample program file.
 pub const FILE: &[u8] = include_bytes!("../../../examples/F.txt");
@@ -22,9 +24,8 @@ pub fn program() -> Program {
 
 /// The sample's lines, each with its 0A.
 pub fn lines() -> Vec<Vec<u8>> {
-    FILE.split_inclusive(|&byte| byte == 0x0A)
-        .map(<[u8]>::to_vec)
-        .collect()
+    let lines = lines::lines(FILE).into_iter();
+    lines.map(<[u8]>::to_vec).collect()
 }
 
 /// The sample with one line, counted from 1, given another text.

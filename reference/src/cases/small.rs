@@ -1,8 +1,10 @@
 //! Small programs, put down as the lines of a file.
 
-use crate::model::edit::{edit_of_line, edited};
-use crate::model::file::{read, Program};
-use crate::model::write::{end, line_of};
+use crate::model::edit::edited_by_line;
+use crate::model::file::read;
+use crate::model::lines::line_of;
+use crate::model::program::Program;
+use crate::model::write::end;
 
 /// The program of these lines, set apart by spaces; the end frame is added.
 pub fn program(lines: &str) -> Program {
@@ -14,16 +16,11 @@ pub fn program(lines: &str) -> Program {
 
 /// The program after an edit that it accepts, the line without its 0A.
 pub fn after(program: &Program, line: &str) -> Program {
-    let edit = edit_of_line(program, format!("{line}\n").as_bytes()).expect("an edit");
-    edited(program, edit).expect("the edit is accepted")
+    let line = format!("{line}\n");
+    edited_by_line(program, line.as_bytes()).expect("the edit is accepted")
 }
 
 /// The program without one of its steps.
 pub fn dropped(program: &Program, step: &str) -> Program {
     after(program, &format!("2D{step}"))
-}
-
-/// The places of a row of bytes that are not 0.
-pub fn marked(sheet: &[u8]) -> Vec<usize> {
-    (0..sheet.len()).filter(|&at| sheet[at] != 0).collect()
 }

@@ -6,8 +6,8 @@
 
 use crate::generate::random::Random;
 use crate::model::edit::Edit;
-use crate::model::file::{lines, Label, Program, Step, EXIT, FIRST_CALL};
-use crate::model::write::line_of;
+use crate::model::lines::{line_of, lines, numbers_of_line};
+use crate::model::program::{Label, Program, Step, EXIT, FIRST_CALL};
 
 /// A line for a program as it is now, with its sheet. What it had at home, before any edit, comes
 /// back at times.
@@ -183,7 +183,7 @@ fn out_of_range(random: &mut Random, program: &Program, step: Step) -> Vec<u8> {
         Edit::Drop(step),
         Edit::Replace(step, label),
     ];
-    let mut numbers = numbers_of(&random.pick(&edits).line());
+    let mut numbers = numbers_of(random.pick(&edits));
     let routines = program.places.len() as u8;
     let places = program.places[usize::from(step.routine)];
     let labels = [
@@ -204,17 +204,15 @@ fn out_of_range(random: &mut Random, program: &Program, step: Step) -> Vec<u8> {
     line_of(&numbers)
 }
 
-fn numbers_of(line: &[u8]) -> Vec<u8> {
-    let text = std::str::from_utf8(line).expect("digits").trim_end();
-    let number = |at: usize| u8::from_str_radix(&text[at..at + 2], 16).expect("digits");
-    (0..text.len()).step_by(2).map(number).collect()
+fn numbers_of(edit: Edit) -> Vec<u8> {
+    numbers_of_line(&edit.line()).expect("digits")
 }
 
 /// What is no edit, or not exactly one line.
 fn no_edit(random: &mut Random, edit: Edit) -> Vec<u8> {
     let mut line = edit.line();
     let place = random.below(line.len());
-    let mut numbers = numbers_of(&line);
+    let mut numbers = numbers_of(edit);
     match random.below(14) {
         0 => line.clear(),
         1 => line.truncate(place),
@@ -231,7 +229,7 @@ fn no_edit(random: &mut Random, edit: Edit) -> Vec<u8> {
         12 => line = line.repeat(random.between(2, 300)),
         _ => return (0..random.below(40)).map(|_| random.byte()).collect(),
     }
-    if numbers == numbers_of(&edit.line()) {
+    if numbers == numbers_of(edit) {
         line
     } else {
         line_of(&numbers)
@@ -247,8 +245,8 @@ pub fn is_one_line(text: &[u8]) -> bool {
 mod tests {
     use super::*;
     use crate::generate::programs::{program_of_seed, program_of_shape, Shape};
-    use crate::model::analysis::analyze;
-    use crate::model::edit::{edit_of_line, edited};
+    use crate::model::analysis::own_sheet;
+    use crate::model::edit::edited_by_line;
 
     #[test]
     fn most_lines_are_accepted_and_each_refusal_is_met() {
@@ -260,8 +258,8 @@ mod tests {
             } else {
                 program_of_seed(seed)
             };
-            let line = line(random, &home, &home, &analyze(&home).sheet);
-            let after = edit_of_line(&home, &line).and_then(|edit| edited(&home, edit));
+            let line = line(random, &home, &home, &own_sheet(&home));
+            let after = edited_by_line(&home, &line);
             met[after.err().unwrap_or(0) as usize] += 1;
         }
         println!("{met:?}");

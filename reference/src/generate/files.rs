@@ -5,11 +5,10 @@
 //! that the fault which remains is one that is judged late.
 
 use crate::generate::random::Random;
-use crate::model::file::{
-    count_of_numbers, Label, Program, RuleLine, Step, EXIT, FIRST_CALL, KINDS, ROUTINE, SIZES,
-    TABLE_ROWS,
-};
-use crate::model::write::{end, line_of, write};
+use crate::model::kinds::{count_of_numbers, END, FRAMES, ROUTINE, SIZES};
+use crate::model::lines::{line_of, lines};
+use crate::model::program::{Label, Program, RuleLine, Step, EXIT, FIRST_CALL, TABLE_ROWS};
+use crate::model::write::{end, write};
 use std::collections::BTreeSet;
 
 /// The file that belongs to a seed.
@@ -231,9 +230,7 @@ pub fn damage(random: &mut Random, file: &[u8]) -> Vec<u8> {
 type Lines = Vec<Vec<u8>>;
 
 fn lines_of(file: &[u8]) -> Lines {
-    file.split_inclusive(|&byte| byte == 0x0A)
-        .map(<[u8]>::to_vec)
-        .collect()
+    lines(file).into_iter().map(<[u8]>::to_vec).collect()
 }
 
 fn mend(random: &mut Random, mut lines: Lines) -> Vec<u8> {
@@ -248,16 +245,21 @@ fn mend(random: &mut Random, mut lines: Lines) -> Vec<u8> {
 
 /// Where a line stands by its kind; lines of no kind stand last.
 fn place_of_line(line: &[u8]) -> usize {
-    let kinds = [b"50", b"52", b"53", b"54", b"49", b"46", b"45"];
-    let of_this_kind = |kind: &&[u8; 2]| line.starts_with(*kind);
-    kinds.iter().position(of_this_kind).unwrap_or(kinds.len())
+    let mut kinds = FRAMES.iter();
+    let place = kinds.position(|kind| is_of_kind(kind.number, line));
+    place.unwrap_or(FRAMES.len())
+}
+
+/// Whether a line begins as those of this kind do.
+fn is_of_kind(kind: u8, line: &[u8]) -> bool {
+    line.starts_with(format!("{kind:02X}").as_bytes())
 }
 
 /// Makes the last line's count right, if the last line is an end frame.
 fn correct_end_count(lines: &mut Lines) {
     let before = lines.len().saturating_sub(1);
     if let Some(last) = lines.last_mut() {
-        if last.starts_with(b"45") {
+        if is_of_kind(END, last) {
             *last = line_of(&end(before));
         }
     }
@@ -269,7 +271,7 @@ fn some_line(random: &mut Random, lines: &Lines) -> Option<usize> {
     if lines.is_empty() {
         return None;
     }
-    let kind = random.below(KINDS.len());
+    let kind = random.below(FRAMES.len());
     let of_kind: Vec<usize> = (0..lines.len())
         .filter(|&number| place_of_line(&lines[number]) == kind)
         .collect();
@@ -378,7 +380,7 @@ fn telling_number(random: &mut Random, lines: &Lines) -> u8 {
 fn damage_frames(random: &mut Random, mut lines: Lines) -> Lines {
     let place = random.below(lines.len() + 1);
     let routines: Vec<usize> = (0..lines.len())
-        .filter(|&number| lines[number].starts_with(b"52"))
+        .filter(|&number| is_of_kind(ROUTINE, &lines[number]))
         .collect();
     let after_routines = routines.last().map_or(0, |last| last + 1);
     let some_routine = routines.get(random.below(routines.len() + 1)).copied();
@@ -408,10 +410,10 @@ fn sizes_at_random(random: &mut Random) -> Vec<u8> {
 /// A frame of some kind with the right count of numbers, most of them small. The kind is at times
 /// one that there is not.
 fn frame_at_random(random: &mut Random) -> Vec<u8> {
-    let known = random.pick(&KINDS);
+    let known = random.pick(&FRAMES).number;
     let any = random.byte();
     let kind = random.pick(&[known, known, known, known, known, known, known, any]);
-    let count = count_of_numbers(kind).unwrap_or(2);
+    let count = count_of_numbers(&FRAMES, kind).unwrap_or(2);
     let most = random.pick(&[1, 3, 8, 20, 255]);
     let numbers = (0..count).map(|_| random.between(0, most) as u8);
     std::iter::once(kind).chain(numbers).collect()
@@ -436,7 +438,7 @@ fn frames_at_random(random: &mut Random) -> Vec<u8> {
 fn digits_at_random(random: &mut Random) -> Vec<u8> {
     let mut file = Vec::new();
     for _ in 0..random.below(6) {
-        let kind = random.pick(&KINDS);
+        let kind = random.pick(&FRAMES).number;
         let start = random.pick(&[kind, kind, SIZES, 0]);
         file.extend(format!("{start:02X}").into_bytes());
         for _ in 0..random.below(10) {

@@ -5,7 +5,7 @@
 //! needed. The shapes differ in what calls what, and in how much there is of everything.
 
 use crate::generate::random::Random;
-use crate::model::file::{Label, Program, RuleLine, Step, EXIT, TABLE_ROWS};
+use crate::model::program::{Label, Program, RuleLine, Step, EXIT, TABLE_ROWS};
 use std::collections::BTreeSet;
 
 /// What a program is to be like.
@@ -461,18 +461,12 @@ mod tests {
 
     /// The calls that standings which can occur make: from where, and of what.
     fn calls_made(program: &Program, set: &BTreeSet<Standing>) -> Vec<(Standing, u8)> {
-        let mut calls = Vec::new();
-        for at in set {
-            for step in &program.steps {
-                match step.label {
-                    Label::Call(callee) if (step.routine, step.from) == (at.routine, at.place) => {
-                        calls.push((*at, callee));
-                    }
-                    _ => {}
-                }
-            }
-        }
-        calls
+        let made = |at: &Standing| {
+            let at = *at;
+            let callees = program.callees_from(at.routine, at.place);
+            callees.map(move |callee| (at, callee))
+        };
+        set.iter().flat_map(made).collect()
     }
 
     #[test]

@@ -2,8 +2,8 @@
 
 use crate::generate::programs::program_of_seed;
 use crate::generate::random::Random;
-use crate::model::analysis::analyze;
-use crate::model::standing::SHEET_SIZE;
+use crate::model::analysis::own_sheet;
+use crate::model::standing::{marked, SHEET_SIZE};
 
 /// How many ways there are to make a foreign sheet.
 pub const FOREIGN: usize = 6;
@@ -23,7 +23,7 @@ pub fn foreign(random: &mut Random, own: &[u8], way: usize) -> Option<Vec<u8>> {
         2 if !marked.is_empty() => sheet[random.pick(&marked)] = 0,
         3 if !empty.is_empty() => sheet[random.pick(&empty)] = 1,
         4 => sheet.fill(0),
-        5 => sheet = analyze(&program_of_seed(random.number())).sheet,
+        5 => sheet = own_sheet(&program_of_seed(random.number())),
         _ => {}
     }
     if sheet == own {
@@ -58,7 +58,7 @@ pub fn any(random: &mut Random, own: &[u8], way: usize) -> Vec<u8> {
 /// The sheet without some of its marks: one, a few or many.
 fn with_gaps(random: &mut Random, sheet: &[u8]) -> Vec<u8> {
     let mut sheet = sheet.to_vec();
-    let marks: Vec<usize> = (0..SHEET_SIZE).filter(|&at| sheet[at] != 0).collect();
+    let marks = marked(&sheet);
     if marks.is_empty() {
         return sheet;
     }
@@ -73,7 +73,7 @@ fn with_gaps(random: &mut Random, sheet: &[u8]) -> Vec<u8> {
 /// The sheet with some marks more, most of them near those it has.
 fn with_more_marks(random: &mut Random, sheet: &[u8]) -> Vec<u8> {
     let mut sheet = sheet.to_vec();
-    let marks: Vec<usize> = (0..SHEET_SIZE).filter(|&at| sheet[at] != 0).collect();
+    let marks = marked(&sheet);
     for _ in 0..random.pick(&[1, 5, 50, 500]) {
         let near = match marks.len() {
             0 => 0,

@@ -1,12 +1,11 @@
-//! What a program can do, and the answers of the C interface about it.
+//! The analysis: what a program can do.
 
-use crate::model::file::{Program, Reading, Refusal};
+use crate::model::file::Reading;
 use crate::model::fresh::work_afresh;
+use crate::model::program::Program;
+use crate::model::refusals::FileRefusal;
 use crate::model::standing::{Standing, SHEET_SIZE};
 
-pub const SHEET_LENGTH: u32 = 9;
-pub const WORK_LENGTH: u32 = 11;
-pub const FOREIGN_SHEET: u32 = 17;
 /// The number for no finding.
 pub const NONE: u32 = u32::MAX;
 
@@ -20,7 +19,7 @@ pub struct Analysis {
 }
 
 /// The analysis of a file's program, or the file's refusal.
-pub type Analyzed = Result<Analysis, Refusal>;
+pub type Analyzed = Result<Analysis, FileRefusal>;
 
 pub fn analyze(program: &Program) -> Analysis {
     let fresh = work_afresh(program);
@@ -33,7 +32,12 @@ pub fn analyze(program: &Program) -> Analysis {
 }
 
 pub fn analyze_reading(reading: &Reading) -> Analyzed {
-    reading.as_ref().map(analyze).map_err(Refusal::clone)
+    reading.as_ref().map(analyze).map_err(FileRefusal::clone)
+}
+
+/// The program's own sheet: the one that a fresh working leaves.
+pub fn own_sheet(program: &Program) -> Vec<u8> {
+    analyze(program).sheet
 }
 
 /// The marked standings whose present state is forbidden.
@@ -58,99 +62,22 @@ impl Analysis {
     }
 }
 
-/// What a fresh working answers. In C the counts are called configurations, violations and
-/// iterations.
-#[derive(Clone, Copy, Debug, Default, PartialEq, Eq)]
-pub struct AnalyzeAnswer {
-    pub refusal: u32,
-    pub line: u32,
-    pub standings: u32,
-    pub findings: u32,
-    pub takings: u32,
-}
-
-/// What the list of findings answers.
-#[derive(Clone, Copy, Debug, Default, PartialEq, Eq)]
-pub struct NextAnswer {
-    pub refusal: u32,
-    pub line: u32,
-    pub found: u32,
-}
-
-/// The checks before anything is touched: what the file gave, or a refusal of the file, of the sheet's
-/// length or of the working buffer's, with its line.
-pub fn checked<'a, T>(
-    given: &'a Result<T, Refusal>,
-    sheet: &[u8],
-    work: &[u8],
-) -> Result<&'a T, (u32, u32)> {
-    let given = given.as_ref().map_err(|file| (file.number(), file.line))?;
-    if sheet.len() != SHEET_SIZE {
-        return Err((SHEET_LENGTH, 0));
-    }
-    if work.len() != SHEET_SIZE {
-        return Err((WORK_LENGTH, 0));
-    }
-    Ok(given)
-}
-
-/// What the library has to answer when it works a file afresh that has this analysis, and what it
-/// has to leave in the sheet and in the working buffer.
-pub fn analyze_answer(analyzed: &Analyzed, sheet: &mut [u8], work: &mut [u8]) -> AnalyzeAnswer {
-    let mut answer = AnalyzeAnswer::default();
-    match checked(analyzed, sheet, work) {
-        Err((refusal, line)) => (answer.refusal, answer.line) = (refusal, line),
-        Ok(analysis) => {
-            sheet.copy_from_slice(&analysis.sheet);
-            work.fill(0);
-            answer.standings = analysis.standings();
-            answer.findings = analysis.findings.len() as u32;
-            answer.takings = analysis.takings;
-        }
-    }
-    answer
-}
-
-/// What the library has to answer when it is asked for the next finding of that file, and what it
-/// has to leave in the working buffer. The sheet is only read.
-pub fn next_answer(analyzed: &Analyzed, sheet: &[u8], work: &mut [u8], from: u32) -> NextAnswer {
-    let mut answer = NextAnswer::default();
-    match checked(analyzed, sheet, work) {
-        Err((refusal, line)) => (answer.refusal, answer.line) = (refusal, line),
-        Ok(analysis) => {
-            work.fill(0);
-            if sheet == analysis.sheet {
-                answer.found = analysis.next_finding(from);
-            } else {
-                answer.refusal = FOREIGN_SHEET;
-            }
-        }
-    }
-    answer
-}
-
 #[cfg(test)]
 mod tests {
     use super::*;
     use crate::cases::sample;
     use crate::generate::programs::{hub, program_of_seed, program_of_shape, Shape};
     use crate::generate::random::Random;
-    use crate::model::file::{read, Label, Step};
     use crate::model::least::least_set;
+    use crate::model::program::{Label, Step};
     use crate::model::runs::search;
+    use crate::model::standing::marked;
     use std::collections::BTreeSet;
-
-    fn marked(analysis: &Analysis) -> Vec<usize> {
-        let numbers = 0..SHEET_SIZE;
-        numbers
-            .filter(|&number| analysis.sheet[number] == 1)
-            .collect()
-    }
 
     #[test]
     fn the_sample_has_five_standings_and_needs_six_takings() {
         let analysis = analyze(&sample::program());
-        assert_eq!(marked(&analysis), [0, 65, 129, 1024, 1089]);
+        assert_eq!(marked(&analysis.sheet), [0, 65, 129, 1024, 1089]);
         assert_eq!((analysis.standings(), analysis.takings), (5, 6));
         assert_eq!(analysis.findings, []);
         assert_eq!(analysis.next_finding(0), NONE);
@@ -161,7 +88,7 @@ mod tests {
         let mut program = sample::program();
         program.starts.clear();
         let analysis = analyze(&program);
-        assert_eq!((marked(&analysis), analysis.takings), (vec![], 0));
+        assert_eq!((marked(&analysis.sheet), analysis.takings), (vec![], 0));
     }
 
     #[test]
@@ -169,7 +96,7 @@ mod tests {
         let mut program = sample::program();
         program.forbidden.insert(0);
         let analysis = analyze(&program);
-        assert_eq!(marked(&analysis), [0, 65, 129, 1024, 1089]);
+        assert_eq!(marked(&analysis.sheet), [0, 65, 129, 1024, 1089]);
         assert_eq!(analysis.findings, [0, 1024]);
         let next = |from| analysis.next_finding(from);
         assert_eq!((next(0), next(1), next(1024)), (0, 1024, 1024));
@@ -185,7 +112,7 @@ mod tests {
             label: Label::Call(0),
             to: 1,
         }]);
-        assert_eq!(marked(&analyze(&program)), [0]);
+        assert_eq!(marked(&own_sheet(&program)), [0]);
     }
 
     #[test]
@@ -278,25 +205,5 @@ mod tests {
         }
         println!("whole: {whole}, too long: {too_long}");
         assert!(whole >= 2500, "only {whole} were met as a whole");
-    }
-
-    #[test]
-    fn lengths_are_judged_after_the_file_and_before_the_sheet() {
-        let analyzed = analyze_reading(&read(sample::FILE));
-        let own = analyze(&sample::program()).sheet;
-        let mut work = vec![7; SHEET_SIZE];
-        let mut short = vec![7; SHEET_SIZE - 1];
-        let refusal = |answer: NextAnswer| (answer.refusal, answer.line, answer.found);
-        let refused = analyze_reading(&read(b""));
-        let answer = next_answer(&refused, &own[1..], &mut short, 0);
-        assert_eq!(refusal(answer), (8, 1, 0));
-        let answer = next_answer(&analyzed, &own[1..], &mut short, 0);
-        assert_eq!(refusal(answer), (SHEET_LENGTH, 0, 0));
-        let answer = next_answer(&analyzed, &work, &mut short, 0);
-        assert_eq!(refusal(answer), (WORK_LENGTH, 0, 0));
-        assert!(short.iter().all(|&byte| byte == 7));
-        let answer = next_answer(&analyzed, &work.clone(), &mut work, 0);
-        assert_eq!(refusal(answer), (FOREIGN_SHEET, 0, 0));
-        assert!(work.iter().all(|&byte| byte == 0));
     }
 }

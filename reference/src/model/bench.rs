@@ -2,23 +2,21 @@
 //! show.
 
 use crate::model::analysis::analyze;
-use crate::model::edit::{edit_of_line, edited};
-use crate::model::file::{lines, read, Program};
+use crate::model::edit::edited_by_line;
+use crate::model::file::read;
+use crate::model::kinds::{COUNTS, FINDING, REFUSED};
+use crate::model::lines::{line_of, lines, two_numbers};
+use crate::model::program::Program;
+use crate::model::refusals::INPUT_LONG;
 use crate::model::standing::{Standing, SHEET_SIZE};
-use crate::model::write::line_of;
 
 /// How many bytes of input there may be.
 pub const MOST_INPUT: usize = SHEET_SIZE;
-const INPUT_LONG: u8 = 18;
-/// The kinds of lines that are printed.
-const FINDING: u8 = 0x58;
-const COUNTS: u8 = 0x5A;
-const REFUSED: u8 = 0x21;
 
 /// All that is printed for an input.
 pub fn bench(input: &[u8]) -> Vec<u8> {
     if input.len() > MOST_INPUT {
-        return line_of(&[REFUSED, INPUT_LONG]);
+        return line_of(&[REFUSED, INPUT_LONG as u8]);
     }
     let (file, edits) = file_and_edits(input);
     match read(&file) {
@@ -45,7 +43,7 @@ fn file_and_edits(input: &[u8]) -> (Vec<u8>, Vec<&[u8]>) {
 fn bench_program(mut program: Program, edits: &[&[u8]]) -> Vec<u8> {
     let mut printed = block(&program);
     for line in edits {
-        match edit_of_line(&program, line).and_then(|edit| edited(&program, edit)) {
+        match edited_by_line(&program, line) {
             Ok(after) => {
                 program = after;
                 printed.extend(block(&program));
@@ -70,11 +68,6 @@ fn block(program: &Program) -> Vec<u8> {
         &[&[COUNTS], &standings[..], &findings[..]].concat(),
     ));
     printed
-}
-
-/// A number of four digits as two of two, high first.
-fn two_numbers(number: usize) -> [u8; 2] {
-    [(number / 256) as u8, (number % 256) as u8]
 }
 
 #[cfg(test)]

@@ -2,11 +2,10 @@
 //! sheet and no file, and of a call it is told the line and the lengths of output and working
 //! buffer only.
 
-use crate::model::analysis::WORK_LENGTH;
-use crate::model::edit::{edit_of_line, Edit, NOT_THERE, STEPS_FULL, THERE_ALREADY};
-use crate::model::file::{Program, Step, TABLE_ROWS};
-use crate::model::standing::SHEET_SIZE;
-use crate::model::write::{OUTPUT_SHORT, OUTPUT_SIZE};
+use crate::model::calls::{check_output, check_work};
+use crate::model::edit::{edit_of_line, Edit};
+use crate::model::program::{Program, Step, TABLE_ROWS};
+use crate::model::refusals::{refuse_if, NOT_THERE, STEPS_FULL, THERE_ALREADY};
 
 /// Of the program only the set of steps changes.
 pub struct Book {
@@ -16,12 +15,8 @@ pub struct Book {
 impl Book {
     /// Notes a call: the edit that was made, or the first refusal from 10 to 16.
     pub fn call(&mut self, line: &[u8], output: usize, work: usize) -> Result<Edit, u32> {
-        if output < OUTPUT_SIZE {
-            return Err(OUTPUT_SHORT);
-        }
-        if work != SHEET_SIZE {
-            return Err(WORK_LENGTH);
-        }
+        check_output(output)?;
+        check_work(work)?;
         let edit = edit_of_line(&self.program, line)?;
         match edit {
             Edit::Add(step) => self.add(step)?,
@@ -36,31 +31,21 @@ impl Book {
     }
 
     fn add(&mut self, step: Step) -> Result<(), u32> {
-        if self.has(step) {
-            return Err(THERE_ALREADY);
-        }
-        if self.program.steps.len() == TABLE_ROWS {
-            return Err(STEPS_FULL);
-        }
+        refuse_if(self.has(step), THERE_ALREADY)?;
+        refuse_if(self.program.steps.len() == TABLE_ROWS, STEPS_FULL)?;
         self.program.steps.insert(step);
         Ok(())
     }
 
     fn drop(&mut self, step: Step) -> Result<(), u32> {
-        if !self.has(step) {
-            return Err(NOT_THERE);
-        }
+        refuse_if(!self.has(step), NOT_THERE)?;
         self.program.steps.remove(&step);
         Ok(())
     }
 
     fn replace(&mut self, step: Step, wanted: Step) -> Result<(), u32> {
-        if !self.has(step) {
-            return Err(NOT_THERE);
-        }
-        if self.has(wanted) {
-            return Err(THERE_ALREADY);
-        }
+        refuse_if(!self.has(step), NOT_THERE)?;
+        refuse_if(self.has(wanted), THERE_ALREADY)?;
         self.program.steps.remove(&step);
         self.program.steps.insert(wanted);
         Ok(())
@@ -74,10 +59,12 @@ mod tests {
     use crate::generate::edits;
     use crate::generate::programs::program_of_seed;
     use crate::generate::random::Random;
-    use crate::model::analysis::analyze;
-    use crate::model::file::{read, Label, EXIT};
-    use crate::model::groups::standings;
-    use crate::model::standing::Standing;
+    use crate::model::analysis::own_sheet;
+    use crate::model::file::read;
+    use crate::model::program::EXIT;
+    use crate::model::refusals::{OUTPUT_SHORT, WORK_LENGTH};
+    use crate::model::standing::{standings, Standing, SHEET_SIZE};
+    use crate::model::write::OUTPUT_SIZE;
     use std::collections::BTreeSet;
 
     #[test]
@@ -102,17 +89,12 @@ mod tests {
     /// The pairs of a routine, and the states in which it calls the others.
     fn outside(program: &Program, set: &Occurring, routine: u8) -> (Occurring, BTreeSet<(u8, u8)>) {
         let own = set.iter().filter(|at| at.routine == routine);
-        let mut calls = BTreeSet::new();
-        for at in own.clone() {
-            for step in &program.steps {
-                match step.label {
-                    Label::Call(callee) if (step.routine, step.from) == (routine, at.place) => {
-                        calls.insert((callee, at.state));
-                    }
-                    _ => {}
-                }
-            }
-        }
+        let made = |at: &Standing| {
+            let state = at.state;
+            let callees = program.callees_from(routine, at.place);
+            callees.map(move |callee| (callee, state))
+        };
+        let calls = own.clone().flat_map(made).collect();
         (own.copied().filter(|at| at.place == EXIT).collect(), calls)
     }
 
@@ -131,16 +113,15 @@ mod tests {
             let mut book = Book {
                 program: before.clone(),
             };
-            let own = analyze(&before).sheet;
+            let own = own_sheet(&before);
             let line = edits::line(&mut Random::new(seed), &before, &before, &own);
             let edit = match book.call(&line, OUTPUT_SIZE, SHEET_SIZE) {
                 Ok(edit) => edit,
                 Err(_) => continue,
             };
-            let step = edit.leaves().or_else(|| edit.joins()).expect("a step");
-            let routine = step.routine;
-            let old = standings(&analyze(&before).sheet);
-            let new = standings(&analyze(&book.program).sheet);
+            let routine = edit.routine();
+            let old = standings(&own);
+            let new = standings(&own_sheet(&book.program));
             if outside(&before, &old, routine) == outside(&book.program, &new, routine) {
                 assert_eq!(others(&old, routine), others(&new, routine), "seed {seed}");
                 unseen += usize::from(old != new);

@@ -1,6 +1,6 @@
 //! Working afresh: the procedure that takes the lowest standing first, with its count of takings.
 
-use crate::model::file::{Label, Program, RuleLine, Step, EXIT};
+use crate::model::program::{Label, Program, EXIT};
 use crate::model::standing::{Standing, MOST_STATES, SHEET_SIZE};
 use std::collections::BTreeSet;
 
@@ -27,9 +27,8 @@ pub fn work_afresh(program: &Program) -> Fresh {
 }
 
 /// Everything that the procedure remembers between two takings.
-struct Working {
-    steps: Vec<Step>,
-    rule: Vec<RuleLine>,
+struct Working<'a> {
+    program: &'a Program,
     marked: Vec<bool>,
     waiting: BTreeSet<usize>,
     taken: Vec<u32>,
@@ -37,11 +36,10 @@ struct Working {
     known: BTreeSet<(u8, u8, u8)>,
 }
 
-impl Working {
-    fn new(program: &Program) -> Working {
+impl Working<'_> {
+    fn new(program: &Program) -> Working<'_> {
         Working {
-            steps: program.steps.iter().copied().collect(),
-            rule: program.rule.iter().copied().collect(),
+            program,
             marked: vec![false; SHEET_SIZE],
             waiting: BTreeSet::new(),
             taken: vec![0; SHEET_SIZE],
@@ -73,10 +71,7 @@ impl Working {
     /// Everything that the steps from a standing mark.
     fn results(&self, standing: Standing) -> Vec<Standing> {
         let mut results = Vec::new();
-        for step in &self.steps {
-            if (step.routine, step.from) != (standing.routine, standing.place) {
-                continue;
-            }
+        for step in self.program.steps_from(standing.routine, standing.place) {
             match step.label {
                 Label::Action(action) => results.extend(self.acted(standing, action, step.to)),
                 Label::Call(callee) => results.extend(self.called(standing, callee, step.to)),
@@ -88,7 +83,7 @@ impl Working {
     /// The pair becomes known, and every marked standing that could have made this call waits.
     fn take_exit(&mut self, exit: Standing) {
         self.known.insert((exit.routine, exit.root, exit.state));
-        for step in &self.steps {
+        for step in &self.program.steps {
             if step.label != Label::Call(exit.routine) {
                 continue;
             }
@@ -107,9 +102,8 @@ impl Working {
     }
 
     fn acted(&self, standing: Standing, action: u8, to: u8) -> Vec<Standing> {
-        let lines = self.rule.iter();
-        let allowed = lines.filter(|line| line.from == standing.state && line.action == action);
-        allowed.map(|line| standing.at(to, line.to)).collect()
+        let states = self.program.next_states(standing.state, action);
+        states.map(|state| standing.at(to, state)).collect()
     }
 
     fn called(&self, standing: Standing, callee: u8, to: u8) -> Vec<Standing> {

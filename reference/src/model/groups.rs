@@ -7,16 +7,15 @@
 //! worked from all old roots. On an add, a routine is reopened if it has gained a standing. On a
 //! replace, the drop's and the add's are taken together.
 
-use crate::model::analysis::analyze;
-use crate::model::edit::{edited, Edit};
-use crate::model::file::{Label, Program, Step, EXIT};
+use crate::model::analysis::own_sheet;
+use crate::model::edit::{after, Edit};
 use crate::model::least::grown;
-use crate::model::standing::{Standing, SHEET_SIZE};
+use crate::model::program::{Label, Program, Step, EXIT};
+use crate::model::standing::{standings, Standing};
 use std::collections::BTreeSet;
 
 /// The set of reopened routines for an edit that the program accepts, bit f for routine f.
 pub fn reopened(before: &Program, edit: Edit) -> u32 {
-    let after = |program: &Program, edit| edited(program, edit).expect("the edit is accepted");
     match edit {
         Edit::Add(_) => gained(before, &after(before, edit)),
         Edit::Drop(step) => reopened_by_drop(before, &after(before, edit), step),
@@ -30,15 +29,17 @@ pub fn reopened(before: &Program, edit: Edit) -> u32 {
 
 /// The routines that have a standing more.
 fn gained(before: &Program, after: &Program) -> u32 {
-    let (old, new) = (analyze(before).sheet, analyze(after).sheet);
-    let more = (0..SHEET_SIZE).filter(|&number| new[number] > old[number]);
-    let routines: BTreeSet<u8> = more
-        .map(|number| Standing::of_number(number).routine)
-        .collect();
-    bits(&routines)
+    let (old, new) = (own_standings(before), own_standings(after));
+    bits(&new.difference(&old).map(|at| at.routine).collect())
 }
 
-fn bits(routines: &BTreeSet<u8>) -> u32 {
+/// The standings of a program that can occur.
+pub fn own_standings(program: &Program) -> BTreeSet<Standing> {
+    standings(&own_sheet(program))
+}
+
+/// A set of routines, bit f for routine f.
+pub fn bits(routines: &BTreeSet<u8>) -> u32 {
     routines.iter().map(|&routine| 1 << routine).sum()
 }
 
@@ -69,7 +70,7 @@ pub fn calls(program: &Program) -> BTreeSet<(u8, u8)> {
 
 /// The groups, in no order that means anything.
 pub fn groups(program: &Program) -> BTreeSet<BTreeSet<u8>> {
-    let routines = 0..program.places.len() as u8;
+    let routines = 0..program.routines();
     let reached: Vec<BTreeSet<u8>> = routines.clone().map(|one| reached(program, one)).collect();
     let reaches = |one: u8, other: u8| reached[usize::from(one)].contains(&other);
     let group_of = |one: u8| {
@@ -98,7 +99,7 @@ fn reached(program: &Program, routine: u8) -> BTreeSet<u8> {
 /// The routines whose pairs, over their old roots, are not the same in the edited program worked
 /// from all old roots.
 fn changed_pairs(before: &Program, after: &Program) -> BTreeSet<u8> {
-    let old = standings(&analyze(before).sheet);
+    let old = own_standings(before);
     let roots: BTreeSet<Standing> = old.iter().copied().filter(is_root).collect();
     let new = grown(after, roots.clone());
     let pairs = |set: &BTreeSet<Standing>, routine| -> BTreeSet<(u8, u8)> {
@@ -109,16 +110,10 @@ fn changed_pairs(before: &Program, after: &Program) -> BTreeSet<u8> {
         let exits = set.iter().filter(is_pair);
         exits.map(|at| (at.root, at.state)).collect()
     };
-    let routines = 0..after.places.len() as u8;
+    let routines = 0..after.routines();
     routines
         .filter(|&routine| pairs(&old, routine) != pairs(&new, routine))
         .collect()
-}
-
-/// The standings that a sheet marks.
-pub fn standings(sheet: &[u8]) -> BTreeSet<Standing> {
-    let marked = (0..SHEET_SIZE).filter(|&number| sheet[number] == 1);
-    marked.map(Standing::of_number).collect()
 }
 
 /// Whether a standing is an entry as a call leaves it: then its state is a root of its routine.
@@ -133,7 +128,7 @@ mod tests {
     use crate::generate::edits;
     use crate::generate::programs::{program_of_shape, Shape};
     use crate::generate::random::Random;
-    use crate::model::edit::edit_of_line;
+    use crate::model::edit::{edit_of_line, edited};
     use crate::model::inside_out;
 
     #[test]
@@ -161,13 +156,9 @@ mod tests {
     /// Following the repair as it is described gives the same sheet as working afresh, and reopens
     /// the same routines.
     fn check(program: &Program, edit: Edit, met: &mut Met) {
-        let after = edited(program, edit).expect("the edit is accepted");
+        let after = after(program, edit);
         let followed = inside_out::repair(program, edit);
-        assert_eq!(
-            followed.standings,
-            standings(&analyze(&after).sheet),
-            "{edit:?}"
-        );
+        assert_eq!(followed.standings, own_standings(&after), "{edit:?}");
         let reopened = reopened(program, edit);
         assert_eq!(followed.reopened, reopened, "{edit:?}");
         if let Edit::Drop(step) = edit {
@@ -193,7 +184,7 @@ mod tests {
             let home = program_of_shape(random, shapes[seed as usize % shapes.len()]);
             let few = home.steps.iter().take(12);
             let drops = few.map(|&step| Edit::Drop(step).line());
-            let own = analyze(&home).sheet;
+            let own = own_sheet(&home);
             let others = (0..2).map(|_| edits::line(random, &home, &home, &own));
             for line in drops.chain(others) {
                 match edit_of_line(&home, &line) {

@@ -3,10 +3,9 @@
 //! It is here to be held against `groups`, which says what is reopened by the outcome alone, and
 //! against working afresh, which says what the sheet is.
 
-use crate::model::analysis::analyze;
-use crate::model::edit::{edited, Edit};
-use crate::model::file::{Label, Program, RuleLine, Step};
-use crate::model::groups::{calls, groups, is_root, standings};
+use crate::model::edit::{after, Edit};
+use crate::model::groups::{bits, calls, groups, is_root, own_standings};
+use crate::model::program::{Label, Program, Step};
 use crate::model::standing::{Standing, MOST_STATES};
 use std::collections::BTreeSet;
 
@@ -19,7 +18,7 @@ pub struct Followed {
 
 /// Repairs the program's own sheet for an edit that the program accepts.
 pub fn repair(before: &Program, edit: Edit) -> Followed {
-    let own = standings(&analyze(before).sheet);
+    let own = own_standings(before);
     match (edit.leaves(), edit.joins()) {
         (Some(step), None) => drop_step(before, step, own),
         (None, Some(step)) => add_step(before, step, own),
@@ -36,19 +35,15 @@ pub fn repair(before: &Program, edit: Edit) -> Followed {
     }
 }
 
-fn after(program: &Program, edit: Edit) -> Program {
-    edited(program, edit).expect("the edit is accepted")
-}
-
 /// The new step acts, and what is newly marked is followed.
 fn add_step(before: &Program, step: Step, old: BTreeSet<Standing>) -> Followed {
     let program = after(before, Edit::Add(step));
-    let all = 0..program.places.len() as u8;
+    let all = 0..program.routines();
     let standings = follow(&program, &all.collect(), old.clone());
-    let routines: BTreeSet<u8> = standings.difference(&old).map(|at| at.routine).collect();
+    let gained = standings.difference(&old).map(|at| at.routine).collect();
     Followed {
         standings,
-        reopened: routines.iter().map(|&routine| 1 << routine).sum(),
+        reopened: bits(&gained),
     }
 }
 
@@ -65,7 +60,7 @@ fn drop_step(before: &Program, step: Step, old: BTreeSet<Standing>) -> Followed 
             outside.any(|&(_, callee)| pairs(&old, callee) != pairs(&standings, callee));
         if group.contains(&step.routine) || calls_changed {
             standings = work_anew(&program, &group, &old, standings);
-            reopened |= group.iter().map(|&routine| 1 << routine).sum::<u32>();
+            reopened |= bits(&group);
         }
     }
     Followed {
@@ -125,12 +120,8 @@ fn follow(
 ) -> BTreeSet<Standing> {
     loop {
         let mut further = BTreeSet::new();
-        for at in &standings {
-            let steps = program.steps.iter().filter(|step| {
-                routines.contains(&step.routine)
-                    && (step.routine, step.from) == (at.routine, at.place)
-            });
-            for step in steps {
+        for at in standings.iter().filter(|at| routines.contains(&at.routine)) {
+            for step in program.steps_from(at.routine, at.place) {
                 further.extend(led_to(program, routines, &standings, *at, step));
             }
         }
@@ -150,9 +141,8 @@ fn led_to(
 ) -> Vec<Standing> {
     match step.label {
         Label::Action(action) => {
-            let allowed = |line: &&RuleLine| (line.from, line.action) == (at.state, action);
-            let lines = program.rule.iter().filter(allowed);
-            lines.map(|line| at.at(step.to, line.to)).collect()
+            let states = program.next_states(at.state, action);
+            states.map(|state| at.at(step.to, state)).collect()
         }
         Label::Call(callee) => {
             let returns = pairs(standings, callee);
@@ -174,16 +164,9 @@ fn with_roots_that_occur(program: &Program, sheet: BTreeSet<Standing>) -> BTreeS
     loop {
         let before = roots.len();
         for at in &sheet {
-            if !roots.contains(&(at.routine, at.root)) {
-                continue;
-            }
-            for step in &program.steps {
-                match step.label {
-                    Label::Call(callee) if (step.routine, step.from) == (at.routine, at.place) => {
-                        roots.insert((callee, at.state));
-                    }
-                    _ => {}
-                }
+            if roots.contains(&(at.routine, at.root)) {
+                let callees = program.callees_from(at.routine, at.place);
+                roots.extend(callees.map(|callee| (callee, at.state)));
             }
         }
         if roots.len() == before {

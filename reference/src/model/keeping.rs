@@ -4,8 +4,7 @@
 //! is gone through again and again until nothing more is kept. So two marks that only support each
 //! other both go.
 
-use crate::model::analysis::checked;
-use crate::model::file::{Label, Program, Reading};
+use crate::model::program::{Label, Program};
 use crate::model::standing::{Standing, MOST_STATES, SHEET_SIZE};
 
 /// The sheet that is left: 1 for each mark that stays, and 0 for all else. Any byte other than 0 is
@@ -75,48 +74,22 @@ fn is_led_to(program: &Program, kept: &[u8], standing: Standing) -> bool {
     })
 }
 
-/// What the keeping answers.
-#[derive(Clone, Copy, Debug, Default, PartialEq, Eq)]
-pub struct KeepAnswer {
-    pub refusal: u32,
-    pub line: u32,
-}
-
-/// What the library has to answer when it is asked for the keeping with a file of this reading, and
-/// what it has to leave in the sheet and in the working buffer.
-pub fn keep_answer(reading: &Reading, sheet: &mut [u8], work: &mut [u8]) -> KeepAnswer {
-    let mut answer = KeepAnswer::default();
-    match checked(reading, sheet, work) {
-        Err((refusal, line)) => (answer.refusal, answer.line) = (refusal, line),
-        Ok(program) => {
-            let kept = keep(program, sheet);
-            sheet.copy_from_slice(&kept);
-            work.fill(0);
-        }
-    }
-    answer
-}
-
 #[cfg(test)]
 mod tests {
     use super::*;
     use crate::cases::sample;
-    use crate::cases::small::{dropped, marked, program};
+    use crate::cases::small::{dropped, program};
     use crate::generate::programs::program_of_seed;
     use crate::generate::random::Random;
-    use crate::model::analysis::analyze;
-    use crate::model::edit::{edited, Edit};
-    use crate::model::file::read;
-
-    fn fresh(program: &Program) -> Vec<u8> {
-        analyze(program).sheet
-    }
+    use crate::model::analysis::own_sheet;
+    use crate::model::edit::{after, Edit};
+    use crate::model::standing::marked;
 
     #[test]
     fn the_own_sheet_is_kept_as_it_is() {
         for seed in 0..150 {
             let program = program_of_seed(seed);
-            let own = fresh(&program);
+            let own = own_sheet(&program);
             assert_eq!(keep(&program, &own), own, "seed {seed}");
         }
     }
@@ -125,7 +98,7 @@ mod tests {
     fn of_a_sheet_of_marks_alone_the_own_is_kept() {
         for seed in 0..50 {
             let program = program_of_seed(seed);
-            let own = fresh(&program);
+            let own = own_sheet(&program);
             assert_eq!(keep(&program, &[1; SHEET_SIZE]), own, "seed {seed}");
             assert_eq!(keep(&program, &[0xA5; SHEET_SIZE]), own, "seed {seed}");
         }
@@ -141,9 +114,9 @@ mod tests {
                 continue;
             }
             let edit = Edit::Drop(random.pick(&steps));
-            let after = edited(&program, edit).expect("the step is there");
-            let kept = keep(&after, &fresh(&program));
-            assert_eq!(kept, fresh(&after), "seed {seed}: {edit:?}");
+            let after = after(&program, edit);
+            let kept = keep(&after, &own_sheet(&program));
+            assert_eq!(kept, own_sheet(&after), "seed {seed}: {edit:?}");
         }
     }
 
@@ -157,7 +130,7 @@ mod tests {
             (1024, vec![0]),
             (1089, vec![0, 1024]),
         ] {
-            let mut sheet = fresh(&program);
+            let mut sheet = own_sheet(&program);
             sheet[gap] = 0;
             assert_eq!(marked(&keep(&program, &sheet)), left, "without {gap}");
         }
@@ -167,9 +140,9 @@ mod tests {
     fn a_call_that_never_returns_supports_the_called_entry() {
         let old = sample::program();
         let never_returns = dropped(&old, "01000001");
-        assert_eq!(marked(&fresh(&never_returns)), [0, 1024]);
+        assert_eq!(marked(&own_sheet(&never_returns)), [0, 1024]);
         let further = dropped(&never_returns, "00020101");
-        let kept = keep(&further, &fresh(&never_returns));
+        let kept = keep(&further, &own_sheet(&never_returns));
         assert_eq!(marked(&kept), [0, 1024]);
     }
 
@@ -178,12 +151,12 @@ mod tests {
     fn main_called_in_another_state_is_no_start() {
         let old = program("50010201 520003 5300000002 5300024001 54000001 4900");
         let in_state_1 = Standing::entry(0, 1);
-        assert_eq!(fresh(&old)[in_state_1.number()], 1);
+        assert_eq!(own_sheet(&old)[in_state_1.number()], 1);
         let after = dropped(&old, "00024001");
-        let kept = keep(&after, &fresh(&old));
+        let kept = keep(&after, &own_sheet(&old));
         assert_eq!(kept[in_state_1.number()], 0);
         assert_eq!(marked(&kept), [0, 129]);
-        assert_eq!(kept, fresh(&after));
+        assert_eq!(kept, own_sheet(&after));
     }
 
     /// Routines 1 and 2 call each other, and main calls the first of them.
@@ -198,38 +171,21 @@ mod tests {
             let sheet = &sheet[1024 * routine..1024 * (routine + 1)];
             marked(sheet).len()
         };
-        assert!(count(&fresh(&old), 1) > 2 && count(&fresh(&old), 2) > 2);
+        assert!(count(&own_sheet(&old), 1) > 2 && count(&own_sheet(&old), 2) > 2);
         let after = dropped(&old, "00004101");
-        let kept = keep(&after, &fresh(&old));
+        let kept = keep(&after, &own_sheet(&old));
         assert_eq!(marked(&kept), [0]);
-        assert_eq!(kept, fresh(&after));
+        assert_eq!(kept, own_sheet(&after));
     }
 
     #[test]
     fn marks_that_the_program_has_no_place_for_go() {
         let program = sample::program();
-        let own = fresh(&program);
+        let own = own_sheet(&program);
         for number in (0..SHEET_SIZE).filter(|&number| own[number] == 0) {
             let mut sheet = own.clone();
             sheet[number] = 0xFF;
             assert_eq!(keep(&program, &sheet), own, "mark {number}");
         }
-    }
-
-    #[test]
-    fn lengths_are_judged_after_the_file() {
-        let (good, bad) = (read(sample::FILE), read(b""));
-        let answer = |reading: &Reading, sheet: usize, work: usize| {
-            let (mut sheet, mut work) = (vec![7; sheet], vec![7; work]);
-            let answer = keep_answer(reading, &mut sheet, &mut work);
-            let kept = answer.refusal == 0;
-            assert!(work.iter().all(|&byte| byte == if kept { 0 } else { 7 }));
-            assert!(kept || sheet.iter().all(|&byte| byte == 7));
-            (answer.refusal, answer.line)
-        };
-        assert_eq!(answer(&bad, 0, 0), (8, 1));
-        assert_eq!(answer(&good, SHEET_SIZE - 1, SHEET_SIZE + 1), (9, 0));
-        assert_eq!(answer(&good, SHEET_SIZE, SHEET_SIZE + 1), (11, 0));
-        assert_eq!(answer(&good, SHEET_SIZE, SHEET_SIZE), (0, 0));
     }
 }

@@ -6,7 +6,7 @@
 //! - call: a step that calls f leads to f's entry, whether or not f ever returns.
 //! - return: if f, called in state q, can end in s, the step that calls it leads on in s.
 
-use crate::model::file::{Label, Program, RuleLine, Step};
+use crate::model::program::{Label, Program, Step};
 use crate::model::standing::{Standing, MOST_STATES};
 use std::collections::BTreeSet;
 
@@ -53,13 +53,8 @@ fn led_to(
 ) -> Vec<Standing> {
     match step.label {
         Label::Action(action) => {
-            let line = |to| RuleLine {
-                from: standing.state,
-                action,
-                to,
-            };
-            let lines = program.rule.range(line(0)..=line(MOST_STATES));
-            lines.map(|line| standing.at(step.to, line.to)).collect()
+            let states = program.next_states(standing.state, action);
+            states.map(|state| standing.at(step.to, state)).collect()
         }
         Label::Call(callee) => {
             let ends = |&state: &u8| set.contains(&Standing::exit(callee, standing.state, state));

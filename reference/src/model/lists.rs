@@ -1,45 +1,31 @@
 //! Lists of repair calls, played in two ways: each call by working afresh from the bytes that it
 //! gets, and by the plain book, which knows nothing of bytes.
 
-use crate::generate::edits;
-use crate::generate::random::Random;
-use crate::model::analysis::analyze;
+use crate::model::analysis::own_sheet;
 use crate::model::book::Book;
-use crate::model::file::{read, Program};
-use crate::model::groups::reopened;
-use crate::model::repair::{
-    forward_answer, inside_out_answer, Buffers, ForwardAnswer, InsideOutAnswer,
-};
-use crate::model::standing::SHEET_SIZE;
-use crate::model::write::{write, OUTPUT_SIZE};
+use crate::model::calls::files::put;
+use crate::model::calls::repairs::{repair_answer, Buffers, Repair, Repaired};
+use crate::model::calls::Answer;
+use crate::model::file::read;
+use crate::model::program::Program;
+use crate::model::write::write;
 
 /// One call of a list. File and sheet are what the calls before it have left.
 #[derive(Clone, Debug)]
 pub struct Call {
-    pub inside_out: bool,
+    pub repair: Repair,
     pub line: Vec<u8>,
     pub output: Vec<u8>,
     pub work: Vec<u8>,
 }
 
-/// Everything that there is to see after a call. A forward repair says nothing of reopened routines,
-/// which is 0 here.
+/// Everything that there is to see after a call.
 #[derive(Clone, Debug, PartialEq, Eq)]
 pub struct Seen {
-    pub answer: InsideOutAnswer,
+    pub answer: Answer<Repaired>,
     pub sheet: Vec<u8>,
     pub output: Vec<u8>,
     pub work: Vec<u8>,
-}
-
-/// An answer that has no reopened routines, with 0 for them.
-pub fn widened(answer: ForwardAnswer) -> InsideOutAnswer {
-    InsideOutAnswer {
-        refusal: answer.refusal,
-        line: answer.line,
-        written: answer.written,
-        reopened: 0,
-    }
 }
 
 /// Plays a list call by call: the sheet goes from each to the next, and the file from each that is
@@ -53,7 +39,7 @@ impl ByRepairs {
     pub fn new(program: &Program) -> ByRepairs {
         ByRepairs {
             file: write(program),
-            sheet: analyze(program).sheet,
+            sheet: own_sheet(program),
         }
     }
 
@@ -66,13 +52,9 @@ impl ByRepairs {
             output: &mut output,
             work: &mut work,
         };
-        let answer = if call.inside_out {
-            inside_out_answer(&reading, lent)
-        } else {
-            widened(forward_answer(&reading, lent))
-        };
+        let answer = repair_answer(call.repair, &reading, lent);
         if answer.refusal == 0 {
-            self.file = output[..answer.written as usize].to_vec();
+            self.file = output[..answer.value.written as usize].to_vec();
         }
         Seen {
             answer,
@@ -92,7 +74,7 @@ pub struct ByBook {
 impl ByBook {
     pub fn new(program: &Program) -> ByBook {
         ByBook {
-            sheet: analyze(program).sheet,
+            sheet: own_sheet(program),
             book: Book {
                 program: program.clone(),
             },
@@ -101,11 +83,10 @@ impl ByBook {
 
     pub fn call(&mut self, call: &Call) -> Seen {
         let before = self.book.program.clone();
-        let noted = self
-            .book
-            .call(&call.line, call.output.len(), call.work.len());
+        let (output, work) = (call.output.len(), call.work.len());
+        let noted = self.book.call(&call.line, output, work);
         let mut seen = Seen {
-            answer: InsideOutAnswer::default(),
+            answer: Answer::default(),
             sheet: Vec::new(),
             output: call.output.clone(),
             work: call.work.clone(),
@@ -113,14 +94,10 @@ impl ByBook {
         match noted {
             Err(refusal) => seen.answer.refusal = refusal,
             Ok(edit) => {
-                let file = write(&self.book.program);
-                seen.output[..file.len()].copy_from_slice(&file);
+                let written = put(&write(&self.book.program), &mut seen.output);
                 seen.work.fill(0);
-                seen.answer.written = file.len() as u32;
-                if call.inside_out {
-                    seen.answer.reopened = reopened(&before, edit);
-                }
-                self.sheet = analyze(&self.book.program).sheet;
+                seen.answer.value = Repaired::new(call.repair, &before, edit, written);
+                self.sheet = own_sheet(&self.book.program);
             }
         }
         seen.sheet = self.sheet.clone();
@@ -128,26 +105,12 @@ impl ByBook {
     }
 }
 
-/// A call for a program as it is now, with its sheet, which at home was another: mostly one that is
-/// accepted.
-pub fn call(random: &mut Random, home: &Program, now: &Program, sheet: &[u8]) -> Call {
-    let output = random.pick(&[0, 1, 100, OUTPUT_SIZE - 1, OUTPUT_SIZE - 1]);
-    let longer = random.pick(&[OUTPUT_SIZE, OUTPUT_SIZE, OUTPUT_SIZE + 1, 6000, SHEET_SIZE]);
-    let output = if random.percent(5) { output } else { longer };
-    let work = random.pick(&[0, 1, OUTPUT_SIZE, SHEET_SIZE - 1, SHEET_SIZE + 1, 20_000]);
-    let work = if random.percent(5) { work } else { SHEET_SIZE };
-    Call {
-        inside_out: random.percent(50),
-        line: edits::line(random, home, now, sheet),
-        output: random.content(output),
-        work: random.content(work),
-    }
-}
-
 #[cfg(test)]
 mod tests {
     use super::*;
+    use crate::generate::calls::call;
     use crate::generate::programs::{program_of_seed, program_of_shape, Shape};
+    use crate::generate::random::Random;
 
     #[test]
     fn the_book_foretells_what_the_repairs_leave() {

@@ -2,7 +2,7 @@
 //! occur, for the run that met it is there to be shown. A search can be cut short, at a depth of
 //! the stack or at a count of moments, and says whether it was.
 
-use crate::model::file::{Label, Program, EXIT};
+use crate::model::program::{Label, Program, EXIT};
 use crate::model::standing::Standing;
 use std::collections::BTreeSet;
 
@@ -82,9 +82,8 @@ fn next_moments(program: &Program, moment: &Moment) -> Vec<Moment> {
     if here.place == EXIT {
         return returned(moment).into_iter().collect();
     }
-    let steps = program.steps.iter();
-    let steps = steps.filter(|step| (step.routine, step.from) == (here.routine, here.place));
-    steps
+    program
+        .steps_from(here.routine, here.place)
         .flat_map(|step| match step.label {
             Label::Action(action) => acted(program, moment, action, step.to),
             Label::Call(callee) => vec![called(moment, callee, step.to)],
@@ -107,13 +106,12 @@ fn returned(moment: &Moment) -> Option<Moment> {
 
 fn acted(program: &Program, moment: &Moment, action: u8, to: u8) -> Vec<Moment> {
     let here = moment.standing;
-    let lines = program.rule.iter();
-    let lines = lines.filter(|line| line.from == here.state && line.action == action);
+    let states = program.next_states(here.state, action);
     let after = |state| Moment {
         standing: here.at(to, state),
         open: moment.open.clone(),
     };
-    lines.map(|line| after(line.to)).collect()
+    states.map(after).collect()
 }
 
 fn called(moment: &Moment, callee: u8, goes_on: u8) -> Moment {

@@ -1,6 +1,8 @@
-//! Standings: where a program can be, in which state of the rule, and with which root.
+//! Standings: where a program can be, in which state of the rule, and with which root; and sheets,
+//! which mark some of them.
 
-use crate::model::file::EXIT;
+use crate::model::program::EXIT;
+use std::collections::BTreeSet;
 
 /// How many standings have a number, and so the bytes of a sheet.
 pub const SHEET_SIZE: usize = 16_384;
@@ -60,6 +62,16 @@ impl Standing {
             state: (number % 8) as u8,
         }
     }
+}
+
+/// The numbers that a sheet marks, by any byte other than 0.
+pub fn marked(sheet: &[u8]) -> Vec<usize> {
+    (0..sheet.len()).filter(|&at| sheet[at] != 0).collect()
+}
+
+/// The standings that a sheet marks.
+pub fn standings(sheet: &[u8]) -> BTreeSet<Standing> {
+    marked(sheet).into_iter().map(Standing::of_number).collect()
 }
 
 #[cfg(test)]

@@ -1,7 +1,8 @@
 //! The inside-out repair of the proved library, called as C calls it.
 
-use crate::desk::{place_of, place_of_mut, NOT_SET};
-use reference::model::repair::{Buffers, InsideOutAnswer};
+use super::{place_of, place_of_mut, NOT_SET};
+use reference::model::calls::repairs::{Buffers, Repaired};
+use reference::model::calls::Answer;
 
 #[link(name = "desk", kind = "static")]
 extern "C" {
@@ -23,7 +24,7 @@ extern "C" {
 }
 
 /// An inside-out repair, with NULL for each buffer of no bytes.
-pub fn repair_inside_out(file: &[u8], lent: &mut Buffers) -> InsideOutAnswer {
+pub fn repair_inside_out(file: &[u8], lent: &mut Buffers) -> Answer<Repaired> {
     let (mut line, mut written, mut reopened) = (NOT_SET, NOT_SET, NOT_SET);
     // SAFETY: the slices live through the call and do not overlap, as three are lent for changing;
     // the numbers are this function's own.
@@ -44,10 +45,9 @@ pub fn repair_inside_out(file: &[u8], lent: &mut Buffers) -> InsideOutAnswer {
             &mut reopened,
         )
     };
-    InsideOutAnswer {
+    Answer {
         refusal,
         line,
-        written,
-        reopened,
+        value: Repaired { written, reopened },
     }
 }

@@ -1,13 +1,13 @@
 //! The proved library, called as C calls it. Each comparison uses a part of it.
 #![allow(dead_code)]
 
+mod inside_out;
 pub mod lent;
 pub mod trial;
 
-use reference::model::analysis::{AnalyzeAnswer, NextAnswer};
-use reference::model::keeping::KeepAnswer;
-use reference::model::repair::{Buffers, ForwardAnswer};
-use reference::model::write::{ReadAnswer, WriteAnswer};
+use reference::model::calls::repairs::{Buffers, Repair, Repaired};
+use reference::model::calls::sheets::Counts;
+use reference::model::calls::Answer;
 
 #[link(name = "desk", kind = "static")]
 extern "C" {
@@ -71,14 +71,18 @@ extern "C" {
 /// What every number of an answer holds before the call, so that one which is not set shows.
 pub const NOT_SET: u32 = 0xDEAD_BEEF;
 
-pub fn read(file: &[u8]) -> ReadAnswer {
+pub fn read(file: &[u8]) -> Answer<()> {
     let mut line = NOT_SET;
     // SAFETY: the file lives through the call, and the number is this function's own.
     let refusal = unsafe { palthrenni_read(file.as_ptr(), file.len(), &mut line) };
-    ReadAnswer { refusal, line }
+    Answer {
+        refusal,
+        line,
+        value: (),
+    }
 }
 
-pub fn write(file: &[u8], output: &mut [u8]) -> WriteAnswer {
+pub fn write(file: &[u8], output: &mut [u8]) -> Answer<u32> {
     let (mut line, mut written) = (NOT_SET, NOT_SET);
     // SAFETY: both slices live through the call and do not overlap, as one is lent for changing;
     // the numbers are this function's own.
@@ -92,33 +96,37 @@ pub fn write(file: &[u8], output: &mut [u8]) -> WriteAnswer {
             &mut written,
         )
     };
-    WriteAnswer {
+    Answer {
         refusal,
         line,
-        written,
+        value: written,
     }
 }
 
 /// Reading and writing with NULL and length 0 for every buffer.
-pub fn read_and_write_null() -> (ReadAnswer, WriteAnswer) {
+pub fn read_and_write_null() -> (Answer<()>, Answer<u32>) {
     let (nothing, nowhere) = (std::ptr::null(), std::ptr::null_mut());
     let (mut line, mut written) = (NOT_SET, NOT_SET);
     // SAFETY: a buffer of length 0 is not looked into; the numbers are this function's own.
     let refusal = unsafe { palthrenni_read(nothing, 0, &mut line) };
-    let read = ReadAnswer { refusal, line };
+    let read = Answer {
+        refusal,
+        line,
+        value: (),
+    };
     line = NOT_SET;
     // SAFETY: as above.
     let refusal = unsafe { palthrenni_write(nothing, 0, nowhere, 0, &mut line, &mut written) };
-    let write = WriteAnswer {
+    let write = Answer {
         refusal,
         line,
-        written,
+        value: written,
     };
     (read, write)
 }
 
 /// Writing a file with NULL and length 0 for the output.
-pub fn write_to_null(file: &[u8]) -> WriteAnswer {
+pub fn write_to_null(file: &[u8]) -> Answer<u32> {
     let (mut line, mut written) = (NOT_SET, NOT_SET);
     let nowhere = std::ptr::null_mut();
     // SAFETY: the file lives through the call, a buffer of length 0 is not looked into, and the
@@ -133,15 +141,15 @@ pub fn write_to_null(file: &[u8]) -> WriteAnswer {
             &mut written,
         )
     };
-    WriteAnswer {
+    Answer {
         refusal,
         line,
-        written,
+        value: written,
     }
 }
 
 /// A fresh working: the sheet goes to `marks`.
-pub fn analyze(file: &[u8], marks: &mut [u8], work: &mut [u8]) -> AnalyzeAnswer {
+pub fn analyze(file: &[u8], marks: &mut [u8], work: &mut [u8]) -> Answer<Counts> {
     // SAFETY: the slices live through the call and do not overlap, as two are lent for changing.
     unsafe {
         analyze_at(
@@ -153,14 +161,14 @@ pub fn analyze(file: &[u8], marks: &mut [u8], work: &mut [u8]) -> AnalyzeAnswer 
 }
 
 /// A fresh working of a file with NULL and length 0 for both other buffers.
-pub fn analyze_to_null(file: &[u8]) -> AnalyzeAnswer {
+pub fn analyze_to_null(file: &[u8]) -> Answer<Counts> {
     let nowhere = (std::ptr::null_mut(), 0);
     // SAFETY: the file lives through the call, and a buffer of length 0 is not looked into.
     unsafe { analyze_at(file, nowhere, nowhere) }
 }
 
 /// A fresh working with NULL and length 0 for the working buffer.
-pub fn analyze_without_work(file: &[u8], marks: &mut [u8]) -> AnalyzeAnswer {
+pub fn analyze_without_work(file: &[u8], marks: &mut [u8]) -> Answer<Counts> {
     let nowhere = (std::ptr::null_mut(), 0);
     // SAFETY: both slices live through the call and do not overlap, as one is lent for changing; a
     // buffer of length 0 is not looked into.
@@ -172,7 +180,7 @@ unsafe fn analyze_at(
     file: &[u8],
     marks: (*mut u8, usize),
     work: (*mut u8, usize),
-) -> AnalyzeAnswer {
+) -> Answer<Counts> {
     let (mut line, mut standings) = (NOT_SET, NOT_SET);
     let (mut findings, mut takings) = (NOT_SET, NOT_SET);
     let refusal = palthrenni_analyze(
@@ -187,17 +195,19 @@ unsafe fn analyze_at(
         &mut findings,
         &mut takings,
     );
-    AnalyzeAnswer {
+    Answer {
         refusal,
         line,
-        standings,
-        findings,
-        takings,
+        value: Counts {
+            standings,
+            findings,
+            takings,
+        },
     }
 }
 
 /// The list of findings: the first at or above a number.
-pub fn next_violation(file: &[u8], marks: &[u8], work: &mut [u8], from: u32) -> NextAnswer {
+pub fn next_violation(file: &[u8], marks: &[u8], work: &mut [u8], from: u32) -> Answer<u32> {
     // SAFETY: the slices live through the call, and the one that is lent for changing overlaps no
     // other.
     unsafe {
@@ -211,7 +221,7 @@ pub fn next_violation(file: &[u8], marks: &[u8], work: &mut [u8], from: u32) -> 
 }
 
 /// The list of findings of a file with NULL and length 0 for both other buffers.
-pub fn next_violation_of_null(file: &[u8]) -> NextAnswer {
+pub fn next_violation_of_null(file: &[u8]) -> Answer<u32> {
     // SAFETY: the file lives through the call, and a buffer of length 0 is not looked into.
     unsafe { next_violation_at(file, (std::ptr::null(), 0), (std::ptr::null_mut(), 0), 0) }
 }
@@ -222,7 +232,7 @@ unsafe fn next_violation_at(
     marks: (*const u8, usize),
     work: (*mut u8, usize),
     from: u32,
-) -> NextAnswer {
+) -> Answer<u32> {
     let (mut line, mut found) = (NOT_SET, NOT_SET);
     let refusal = palthrenni_next_violation(
         file.as_ptr(),
@@ -235,10 +245,10 @@ unsafe fn next_violation_at(
         &mut line,
         &mut found,
     );
-    NextAnswer {
+    Answer {
         refusal,
         line,
-        found,
+        value: found,
     }
 }
 
@@ -261,7 +271,7 @@ pub fn place_of_mut(buffer: &mut [u8]) -> *mut u8 {
 }
 
 /// The keeping, with NULL for each buffer of no bytes.
-pub fn prune(file: &[u8], marks: &mut [u8], work: &mut [u8]) -> KeepAnswer {
+pub fn prune(file: &[u8], marks: &mut [u8], work: &mut [u8]) -> Answer<()> {
     let mut line = NOT_SET;
     // SAFETY: the slices live through the call and do not overlap, as two are lent for changing; the
     // number is this function's own.
@@ -276,11 +286,22 @@ pub fn prune(file: &[u8], marks: &mut [u8], work: &mut [u8]) -> KeepAnswer {
             &mut line,
         )
     };
-    KeepAnswer { refusal, line }
+    Answer {
+        refusal,
+        line,
+        value: (),
+    }
 }
 
-/// A forward repair, with NULL for each buffer of no bytes.
-pub fn repair_forward(file: &[u8], lent: &mut Buffers) -> ForwardAnswer {
+/// A repair, with NULL for each buffer of no bytes.
+pub fn repair(repair: Repair, file: &[u8], lent: &mut Buffers) -> Answer<Repaired> {
+    match repair {
+        Repair::Forward => repair_forward(file, lent),
+        Repair::InsideOut => inside_out::repair_inside_out(file, lent),
+    }
+}
+
+fn repair_forward(file: &[u8], lent: &mut Buffers) -> Answer<Repaired> {
     let (mut line, mut written) = (NOT_SET, NOT_SET);
     // SAFETY: the slices live through the call and do not overlap, as three are lent for changing;
     // the numbers are this function's own.
@@ -300,9 +321,12 @@ pub fn repair_forward(file: &[u8], lent: &mut Buffers) -> ForwardAnswer {
             &mut written,
         )
     };
-    ForwardAnswer {
+    Answer {
         refusal,
         line,
-        written,
+        value: Repaired {
+            written,
+            reopened: 0,
+        },
     }
 }

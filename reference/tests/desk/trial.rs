@@ -2,26 +2,22 @@
 //! share this.
 
 use super::lent::{with_more_after, Lent};
-use reference::cases::small::marked;
+use reference::generate::calls::call;
 use reference::generate::edits;
 use reference::generate::files;
 use reference::generate::programs::{program_of_shape, Shape};
 use reference::generate::random::Random;
 use reference::generate::sheets;
-use reference::model::analysis::{analyze, FOREIGN_SHEET};
-use reference::model::edit::{edit_of_line, edited, Edit};
-use reference::model::file::{read, Program, Reading};
-use reference::model::lists::{call, widened, ByBook, Call, Seen};
-use reference::model::repair::{forward_answer, inside_out_answer, Buffers, InsideOutAnswer};
-use reference::model::standing::SHEET_SIZE;
+use reference::model::analysis::{analyze, own_sheet};
+use reference::model::calls::repairs::{repair_answer, Buffers, Repair, Repaired};
+use reference::model::calls::Answer;
+use reference::model::edit::{edit_of_line, edited_by_line, Edit};
+use reference::model::file::{read, Reading};
+use reference::model::lists::{ByBook, Call, Seen};
+use reference::model::program::Program;
+use reference::model::refusals::FOREIGN_SHEET;
+use reference::model::standing::{marked, SHEET_SIZE};
 use reference::model::write::{write, OUTPUT_SIZE};
-
-/// A repair as C calls it. A forward one answers 0 for the reopened routines.
-#[derive(Clone, Copy)]
-pub struct Repair {
-    pub inside_out: bool,
-    pub call: fn(&[u8], &mut Buffers) -> InsideOutAnswer,
-}
 
 /// A repair by the library alone, with the program's own sheet: the answer, the numbers marked, and
 /// the file written.
@@ -29,10 +25,11 @@ pub fn repaired(
     repair: Repair,
     program: &Program,
     line: &[u8],
-) -> (InsideOutAnswer, Vec<usize>, Vec<u8>) {
-    let mut sheet = analyze(program).sheet;
+) -> (Answer<Repaired>, Vec<usize>, Vec<u8>) {
+    let mut sheet = own_sheet(program);
     let (mut output, mut work) = (vec![7; OUTPUT_SIZE], vec![7; SHEET_SIZE]);
-    let answer = (repair.call)(
+    let answer = super::repair(
+        repair,
         &write(program),
         &mut Buffers {
             sheet: &mut sheet,
@@ -42,7 +39,7 @@ pub fn repaired(
         },
     );
     assert_eq!(answer.line, 0);
-    let rest = output.split_off(answer.written as usize);
+    let rest = output.split_off(answer.value.written as usize);
     assert!(rest.iter().all(|&byte| byte == 7));
     (answer, marked(&sheet), output)
 }
@@ -86,9 +83,10 @@ impl Lending {
     }
 
     /// Calls the library.
-    fn repaired(&mut self, repair: Repair) -> InsideOutAnswer {
+    fn repaired(&mut self, repair: Repair) -> Answer<Repaired> {
         let (file, line) = (with_more_after(&self.file), with_line_after(&self.line));
-        let answer = (repair.call)(
+        let answer = super::repair(
+            repair,
             &file[..self.file.len()],
             &mut Buffers {
                 sheet: self.sheet.content_mut(),
@@ -103,18 +101,14 @@ impl Lending {
     }
 
     /// Calls the reference.
-    fn foretold(&mut self, reading: &Reading, inside_out: bool) -> InsideOutAnswer {
+    fn foretold(&mut self, reading: &Reading, repair: Repair) -> Answer<Repaired> {
         let lent = &mut Buffers {
             sheet: self.sheet.content_mut(),
             line: &self.line,
             output: self.output.content_mut(),
             work: self.work.content_mut(),
         };
-        if inside_out {
-            inside_out_answer(reading, lent)
-        } else {
-            widened(forward_answer(reading, lent))
-        }
+        repair_answer(repair, reading, lent)
     }
 
     fn input(&self, name: &str) -> String {
@@ -152,7 +146,7 @@ pub fn compare(
 ) {
     let (mut given, mut wanted) = (lending.clone(), lending.clone());
     let given_answer = given.repaired(repair);
-    let wanted_answer = wanted.foretold(reading, repair.inside_out);
+    let wanted_answer = wanted.foretold(reading, repair);
     assert_eq!(given_answer, wanted_answer, "{}", lending.input(name));
     given.check_bytes(&wanted, name);
     let changed = lending.sheet.content() != wanted.sheet.content();
@@ -162,12 +156,12 @@ pub fn compare(
     }
 }
 
-fn note(tally: &mut Tally, repair: Repair, answer: &InsideOutAnswer, changed: bool) {
+fn note(tally: &mut Tally, repair: Repair, answer: &Answer<Repaired>, changed: bool) {
     tally.calls += 1;
     tally.met[answer.refusal as usize] += 1;
     tally.changed += usize::from(changed);
-    if repair.inside_out && answer.refusal == 0 {
-        let routines = answer.reopened.count_ones().min(2);
+    if repair == Repair::InsideOut && answer.refusal == 0 {
+        let routines = answer.value.reopened.count_ones().min(2);
         tally.reopened[routines as usize] += 1;
     }
 }
@@ -207,7 +201,7 @@ pub fn large_home() -> Program {
 pub fn single_calls(seed: u64, count: usize, repairs: &[Repair], tally: &mut Tally) {
     let random = &mut Random::new(seed);
     let program = home(random);
-    let (file, own) = (write(&program), analyze(&program).sheet);
+    let (file, own) = (write(&program), own_sheet(&program));
     for number in 0..count {
         let name = format!("seed {seed}, call {number}");
         let repair = random.pick(repairs);
@@ -250,9 +244,8 @@ fn foreign_sheet(random: &mut Random, program: &Program, own: &[u8]) -> Vec<u8> 
         return sheets::foreign(random, own, way).unwrap_or_else(|| own.to_vec());
     }
     let line = edits::edit_in_range(random, program);
-    let edit = edit_of_line(program, &line).expect("an edit");
-    match edited(program, edit) {
-        Ok(other) => analyze(&other).sheet,
+    match edited_by_line(program, &line) {
+        Ok(other) => own_sheet(&other),
         Err(_) => own.to_vec(),
     }
 }
@@ -269,7 +262,7 @@ pub fn list(
 ) {
     let mut book = ByBook::new(home);
     let mut file = write(home);
-    let mut sheet = analyze(home).sheet;
+    let mut sheet = own_sheet(home);
     for number in 0..count {
         let name = format!("{name}, call {number}");
         let now = book.book.program.clone();
@@ -278,7 +271,7 @@ pub fn list(
         }
         let repair = random.pick(repairs);
         let mut call = call(random, home, &now, &book.sheet);
-        call.inside_out = repair.inside_out;
+        call.repair = repair;
         let mut given = Lending::new(random, &file, &sheet, &call);
         let mut wanted = given.clone();
         let answer = given.repaired(repair);
@@ -289,7 +282,7 @@ pub fn list(
         note(tally, repair, &answer, sheet != seen.sheet);
         if answer.refusal == 0 {
             note_edit(tally, &now, &call.line);
-            file = given.output.content()[..answer.written as usize].to_vec();
+            file = given.output.content()[..answer.value.written as usize].to_vec();
         }
         sheet = given.sheet.content().to_vec();
         let marks = sheet.iter().map(|&byte| u32::from(byte)).sum();

@@ -1,0 +1,59 @@
+//! Reading a file, and writing it back.
+
+use crate::model::calls::{check_output, Answer};
+use crate::model::file::Reading;
+use crate::model::refusals::Refused;
+use crate::model::write::write;
+
+/// What the library has to answer when it reads a file for which the reference has this reading.
+pub fn read_answer(reading: &Reading) -> Answer<()> {
+    let outcome = reading.as_ref().map(|_| ()).map_err(Refused::from);
+    Answer::from(outcome)
+}
+
+/// What the library has to answer when it writes that file back, and what it has to leave in the
+/// output. The answer says how many bytes the output holds of it.
+pub fn write_answer(reading: &Reading, output: &mut [u8]) -> Answer<u32> {
+    Answer::from(written(reading, output))
+}
+
+fn written(reading: &Reading, output: &mut [u8]) -> Result<u32, Refused> {
+    let program = reading.as_ref()?;
+    check_output(output.len())?;
+    Ok(put(&write(program), output))
+}
+
+/// Puts a file at an output's start, and says how long it is.
+pub fn put(file: &[u8], output: &mut [u8]) -> u32 {
+    output[..file.len()].copy_from_slice(file);
+    file.len() as u32
+}
+
+#[cfg(test)]
+mod tests {
+    use super::*;
+    use crate::cases::sample;
+    use crate::model::file::read;
+    use crate::model::write::OUTPUT_SIZE;
+
+    #[test]
+    fn an_output_is_changed_only_where_the_file_goes() {
+        let mut output = [0xA5; OUTPUT_SIZE];
+        let answer = write_answer(&read(sample::FILE), &mut output);
+        let length = sample::FILE.len();
+        assert_eq!((answer.refusal, answer.line), (0, 0));
+        assert_eq!(answer.value as usize, length);
+        assert_eq!(&output[..length], sample::FILE);
+        assert!(output[length..].iter().all(|&byte| byte == 0xA5));
+    }
+
+    #[test]
+    fn a_short_output_is_refused_after_the_file_and_unchanged() {
+        let mut output = [0xA5; OUTPUT_SIZE - 1];
+        let answer = write_answer(&read(sample::FILE), &mut output);
+        assert_eq!(answer, Answer::refused(10, 0));
+        let answer = write_answer(&read(b""), &mut output);
+        assert_eq!(answer, Answer::refused(8, 1));
+        assert!(output.iter().all(|&byte| byte == 0xA5));
+    }
+}

@@ -1,0 +1,61 @@
+//! The calls of the C interface: what the library has to answer to each, and what it has to leave
+//! in all that is lent.
+//!
+//! - `files` has the calls that take a file: reading it and writing it back.
+//! - `sheets` has those that take a sheet too: the fresh working, the list of findings, the keeping.
+//! - `repairs` has the two repairs.
+
+pub mod files;
+pub mod repairs;
+pub mod sheets;
+
+use crate::model::refusals::{refuse_if, Refused, OUTPUT_SHORT, SHEET_LENGTH, WORK_LENGTH};
+use crate::model::standing::SHEET_SIZE;
+use crate::model::write::OUTPUT_SIZE;
+
+/// What a call answers: the refusal's number and its line, 0 where there is none, and the value that
+/// the call has, all 0 on a refusal.
+#[derive(Clone, Copy, Debug, Default, PartialEq, Eq)]
+pub struct Answer<V> {
+    pub refusal: u32,
+    pub line: u32,
+    pub value: V,
+}
+
+impl<V: Default> Answer<V> {
+    pub fn refused(refusal: u32, line: u32) -> Answer<V> {
+        Answer {
+            refusal,
+            line,
+            value: V::default(),
+        }
+    }
+}
+
+impl<V: Default> From<Result<V, Refused>> for Answer<V> {
+    fn from(outcome: Result<V, Refused>) -> Answer<V> {
+        match outcome {
+            Err(refused) => Answer::refused(refused.number, refused.line),
+            Ok(value) => Answer {
+                refusal: 0,
+                line: 0,
+                value,
+            },
+        }
+    }
+}
+
+/// Refusal 9, by the length of the sheet.
+pub fn check_sheet(length: usize) -> Result<(), u32> {
+    refuse_if(length != SHEET_SIZE, SHEET_LENGTH)
+}
+
+/// Refusal 10, by the length of the output.
+pub fn check_output(length: usize) -> Result<(), u32> {
+    refuse_if(length < OUTPUT_SIZE, OUTPUT_SHORT)
+}
+
+/// Refusal 11, by the length of the working buffer.
+pub fn check_work(length: usize) -> Result<(), u32> {
+    refuse_if(length != SHEET_SIZE, WORK_LENGTH)
+}

@@ -1,0 +1,117 @@
+//! The fresh working, the list of findings, and the keeping.
+
+use crate::model::analysis::{Analysis, Analyzed};
+use crate::model::calls::{check_sheet, check_work, Answer};
+use crate::model::file::Reading;
+use crate::model::keeping::keep;
+use crate::model::refusals::{refuse_if, FileRefusal, Refused, FOREIGN_SHEET};
+
+/// What a fresh working counts. In C these are called configurations, violations and iterations.
+#[derive(Clone, Copy, Debug, Default, PartialEq, Eq)]
+pub struct Counts {
+    pub standings: u32,
+    pub findings: u32,
+    pub takings: u32,
+}
+
+impl Counts {
+    pub fn of(analysis: &Analysis) -> Counts {
+        Counts {
+            standings: analysis.standings(),
+            findings: analysis.findings.len() as u32,
+            takings: analysis.takings,
+        }
+    }
+}
+
+/// The checks before anything is touched: what the file gave, or a refusal of the file, of the sheet's
+/// length or of the working buffer's.
+fn checked<'a, T>(
+    given: &'a Result<T, FileRefusal>,
+    sheet: &[u8],
+    work: &[u8],
+) -> Result<&'a T, Refused> {
+    let given = given.as_ref()?;
+    check_sheet(sheet.len())?;
+    check_work(work.len())?;
+    Ok(given)
+}
+
+/// What the library has to answer when it works a file afresh that has this analysis, and what it
+/// has to leave in the sheet and in the working buffer.
+pub fn analyze_answer(analyzed: &Analyzed, sheet: &mut [u8], work: &mut [u8]) -> Answer<Counts> {
+    let analysis = checked(analyzed, sheet, work);
+    Answer::from(analysis.map(|analysis| {
+        sheet.copy_from_slice(&analysis.sheet);
+        work.fill(0);
+        Counts::of(analysis)
+    }))
+}
+
+/// What the library has to answer when it is asked for the next finding of that file, and what it
+/// has to leave in the working buffer. The sheet is only read.
+pub fn next_answer(analyzed: &Analyzed, sheet: &[u8], work: &mut [u8], from: u32) -> Answer<u32> {
+    let analysis = checked(analyzed, sheet, work);
+    Answer::from(analysis.and_then(|analysis| {
+        work.fill(0);
+        refuse_if(sheet != analysis.sheet, FOREIGN_SHEET)?;
+        Ok(analysis.next_finding(from))
+    }))
+}
+
+/// What the library has to answer when it is asked for the keeping with a file of this reading, and
+/// what it has to leave in the sheet and in the working buffer.
+pub fn keep_answer(reading: &Reading, sheet: &mut [u8], work: &mut [u8]) -> Answer<()> {
+    let program = checked(reading, sheet, work);
+    Answer::from(program.map(|program| {
+        let kept = keep(program, sheet);
+        sheet.copy_from_slice(&kept);
+        work.fill(0);
+    }))
+}
+
+#[cfg(test)]
+mod tests {
+    use super::*;
+    use crate::cases::sample;
+    use crate::model::analysis::{analyze_reading, own_sheet};
+    use crate::model::file::read;
+    use crate::model::refusals::{SHEET_LENGTH, WORK_LENGTH};
+    use crate::model::standing::SHEET_SIZE;
+
+    #[test]
+    fn lengths_are_judged_after_the_file_and_before_the_sheet() {
+        let analyzed = analyze_reading(&read(sample::FILE));
+        let own = own_sheet(&sample::program());
+        let mut work = vec![7; SHEET_SIZE];
+        let mut short = vec![7; SHEET_SIZE - 1];
+        let refused = analyze_reading(&read(b""));
+        let answer = next_answer(&refused, &own[1..], &mut short, 0);
+        assert_eq!(answer, Answer::refused(8, 1));
+        let answer = next_answer(&analyzed, &own[1..], &mut short, 0);
+        assert_eq!(answer, Answer::refused(SHEET_LENGTH, 0));
+        let answer = next_answer(&analyzed, &work, &mut short, 0);
+        assert_eq!(answer, Answer::refused(WORK_LENGTH, 0));
+        assert!(short.iter().all(|&byte| byte == 7));
+        let answer = next_answer(&analyzed, &work.clone(), &mut work, 0);
+        assert_eq!(answer, Answer::refused(FOREIGN_SHEET, 0));
+        assert!(work.iter().all(|&byte| byte == 0));
+    }
+
+    #[test]
+    fn lengths_for_the_keeping_are_judged_after_the_file() {
+        let (good, bad) = (read(sample::FILE), read(b""));
+        let answer = |reading: &Reading, sheet: usize, work: usize| {
+            let (mut sheet, mut work) = (vec![7; sheet], vec![7; work]);
+            let answer = keep_answer(reading, &mut sheet, &mut work);
+            let kept = answer.refusal == 0;
+            assert!(work.iter().all(|&byte| byte == if kept { 0 } else { 7 }));
+            assert!(kept || sheet.iter().all(|&byte| byte == 7));
+            (answer.refusal, answer.line)
+        };
+        assert_eq!(answer(&bad, 0, 0), (8, 1));
+        assert_eq!(answer(&good, SHEET_SIZE - 1, SHEET_SIZE + 1), (9, 0));
+        assert_eq!(answer(&good, SHEET_SIZE, SHEET_SIZE + 1), (11, 0));
+        assert_eq!(answer(&good, SHEET_SIZE, SHEET_SIZE), (0, 0));
+    }
+}

@@ -1,0 +1,54 @@
+//! The kinds of lines: what a line's first number says that it is.
+
+/// A kind, and how many numbers follow it on its line.
+#[derive(Clone, Copy, Debug, PartialEq, Eq)]
+pub struct Kind {
+    pub number: u8,
+    pub follow: usize,
+}
+
+const fn kind(number: u8, follow: usize) -> Kind {
+    Kind { number, follow }
+}
+
+pub const SIZES: u8 = 0x50;
+pub const ROUTINE: u8 = 0x52;
+pub const STEP: u8 = 0x53;
+pub const RULE: u8 = 0x54;
+pub const START: u8 = 0x49;
+pub const FORBIDDEN: u8 = 0x46;
+pub const END: u8 = 0x45;
+
+/// The kinds of frames, in the order in which they stand in a file.
+pub const FRAMES: [Kind; 7] = [
+    kind(SIZES, 3),
+    kind(ROUTINE, 2),
+    kind(STEP, 4),
+    kind(RULE, 3),
+    kind(START, 1),
+    kind(FORBIDDEN, 1),
+    kind(END, 2),
+];
+
+pub const ADD: u8 = 0x2B;
+pub const DROP: u8 = 0x2D;
+pub const REPLACE: u8 = 0x3D;
+
+/// The kinds of edit lines.
+pub const EDITS: [Kind; 3] = [kind(ADD, 4), kind(DROP, 4), kind(REPLACE, 5)];
+
+/// The kinds of lines that `bench` prints.
+pub const FINDING: u8 = 0x58;
+pub const COUNTS: u8 = 0x5A;
+pub const REFUSED: u8 = 0x21;
+
+/// How many numbers follow a kind; None if it is none of these.
+pub fn count_of_numbers(kinds: &[Kind], number: u8) -> Option<usize> {
+    let known = kinds.iter().find(|kind| kind.number == number);
+    known.map(|kind| kind.follow)
+}
+
+/// Where a kind of frame stands in the order of a file; None if there is no such kind.
+pub fn place_of_frame(number: u8) -> Option<usize> {
+    FRAMES.iter().position(|kind| kind.number == number)
+}

@@ -1,0 +1,132 @@
+//! A program: what an accepted file says, in a form that can be asked.
+
+use std::collections::BTreeSet;
+
+/// The label that calls routine 0; routine f is called by the label f above it.
+pub const FIRST_CALL: u8 = 0x40;
+/// How many steps a program may have, and how many rule lines.
+pub const TABLE_ROWS: usize = 256;
+/// The exit of every routine.
+pub const EXIT: u8 = 1;
+
+/// A step's label. An action's number lies below every call's, so the order of the cases is the
+/// order of the numbers.
+#[derive(Clone, Copy, Debug, PartialEq, Eq, PartialOrd, Ord)]
+pub enum Label {
+    Action(u8),
+    Call(u8),
+}
+
+impl Label {
+    pub fn of_number(number: u8) -> Label {
+        if number < FIRST_CALL {
+            Label::Action(number)
+        } else {
+            Label::Call(number - FIRST_CALL)
+        }
+    }
+
+    pub fn number(self) -> u8 {
+        match self {
+            Label::Action(action) => action,
+            Label::Call(routine) => FIRST_CALL + routine,
+        }
+    }
+}
+
+#[derive(Clone, Copy, Debug, PartialEq, Eq, PartialOrd, Ord)]
+pub struct Step {
+    pub routine: u8,
+    pub from: u8,
+    pub label: Label,
+    pub to: u8,
+}
+
+impl Step {
+    /// The step that the numbers f n a m say; there may be others after them.
+    pub fn of_numbers(numbers: &[u8]) -> Step {
+        Step {
+            routine: numbers[0],
+            from: numbers[1],
+            label: Label::of_number(numbers[2]),
+            to: numbers[3],
+        }
+    }
+
+    pub fn numbers(self) -> [u8; 4] {
+        [self.routine, self.from, self.label.number(), self.to]
+    }
+}
+
+#[derive(Clone, Copy, Debug, PartialEq, Eq, PartialOrd, Ord)]
+pub struct RuleLine {
+    pub from: u8,
+    pub action: u8,
+    pub to: u8,
+}
+
+impl RuleLine {
+    /// The rule line that the numbers q a s say.
+    pub fn of_numbers(numbers: &[u8]) -> RuleLine {
+        RuleLine {
+            from: numbers[0],
+            action: numbers[1],
+            to: numbers[2],
+        }
+    }
+
+    pub fn numbers(self) -> [u8; 3] {
+        [self.from, self.action, self.to]
+    }
+}
+
+/// What a file says. Routine f has `places[f]` places.
+#[derive(Clone, Debug, PartialEq, Eq)]
+pub struct Program {
+    pub places: Vec<u8>,
+    pub states: u8,
+    pub actions: u8,
+    pub steps: BTreeSet<Step>,
+    pub rule: BTreeSet<RuleLine>,
+    pub starts: BTreeSet<u8>,
+    pub forbidden: BTreeSet<u8>,
+}
+
+impl Program {
+    pub fn routines(&self) -> u8 {
+        self.places.len() as u8
+    }
+
+    /// The steps that leave a place. In the order of steps they stand side by side.
+    pub fn steps_from(&self, routine: u8, place: u8) -> impl Iterator<Item = &Step> {
+        let step = |label, to| Step {
+            routine,
+            from: place,
+            label,
+            to,
+        };
+        let last = step(Label::Call(u8::MAX), u8::MAX);
+        self.steps.range(step(Label::Action(0), 0)..=last)
+    }
+
+    /// The routines that the steps from a place call.
+    pub fn callees_from(&self, routine: u8, place: u8) -> impl Iterator<Item = u8> + '_ {
+        let steps = self.steps_from(routine, place);
+        steps.filter_map(|step| match step.label {
+            Label::Call(callee) => Some(callee),
+            Label::Action(_) => None,
+        })
+    }
+
+    /// The states in which the rule allows an action to end. In the order of rule lines those for one
+    /// state and action stand side by side.
+    pub fn next_states(&self, state: u8, action: u8) -> impl Iterator<Item = u8> + '_ {
+        let line = |to| RuleLine {
+            from: state,
+            action,
+            to,
+        };
+        let lines = self.rule.range(line(0)..=line(u8::MAX));
+        lines.map(|line| line.to)
+    }
+}
