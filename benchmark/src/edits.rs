@@ -1,11 +1,11 @@
 //! How many edits a second the two repairs do, beside the analysis of the edited program.
 
-use crate::{desk, print_row, rates, Input};
-use reference::model::calls::repairs::{self, Repair};
+use crate::library::Buffers;
+use crate::{print_row, rates, Input};
 use reference::model::edit::{edited, Edit};
 use reference::model::program::{Label, Program, Step};
 use reference::model::standing::SHEET_SIZE;
-use reference::model::write::{write, OUTPUT_SIZE};
+use reference::model::write::write;
 use std::time::{Duration, Instant};
 
 /// How many edits of each kind a program gets.
@@ -39,59 +39,21 @@ struct Task {
     changed: usize,
 }
 
-/// The sheet, the working buffer and the output, used for call after call.
-struct Buffers {
-    marks: Vec<u8>,
-    work: Vec<u8>,
-    output: Vec<u8>,
-}
-
-impl Buffers {
-    fn new() -> Buffers {
-        Buffers {
-            marks: vec![0xA5; SHEET_SIZE],
-            work: vec![0x5A; SHEET_SIZE],
-            output: vec![0xA5; OUTPUT_SIZE],
-        }
-    }
-}
-
-const REPAIRS: [Repair; 2] = [Repair::Forward, Repair::InsideOut];
-
-/// Whether a repair is accepted and writes as much as it should.
-fn repair(by: Repair, task: &Task, buffers: &mut Buffers) -> bool {
-    buffers.marks.copy_from_slice(&task.old_marks);
-    let lent = &mut repairs::Buffers {
-        sheet: &mut buffers.marks,
-        line: &task.line,
-        output: &mut buffers.output,
-        work: &mut buffers.work,
-    };
-    let answer = desk::repair(by, &task.old_file, lent);
-    answer.refusal == 0 && answer.value.written as usize == task.new_file.len()
-}
-
+/// Whether a forward repair writes as much as it should.
 fn forward(task: &Task, buffers: &mut Buffers) -> bool {
-    repair(Repair::Forward, task, buffers)
+    buffers.marks.copy_from_slice(&task.old_marks);
+    buffers.repair_forward(&task.old_file, &task.line) == task.new_file.len() as u32
 }
 
+/// The same for an inside-out repair.
 fn inside_out(task: &Task, buffers: &mut Buffers) -> bool {
-    repair(Repair::InsideOut, task, buffers)
+    buffers.marks.copy_from_slice(&task.old_marks);
+    buffers.repair_inside_out(&task.old_file, &task.line) == task.new_file.len() as u32
 }
 
 /// Whether the analysis of the edited program counts what it should.
 fn analysis(task: &Task, buffers: &mut Buffers) -> bool {
-    analyze(&task.new_file, buffers) == task.counts
-}
-
-fn analyze(file: &[u8], buffers: &mut Buffers) -> [u32; 3] {
-    let answer = desk::analyze(file, &mut buffers.marks, &mut buffers.work);
-    assert_eq!(answer.refusal, 0, "the file is accepted");
-    [
-        answer.value.standings,
-        answer.value.findings,
-        answer.value.takings,
-    ]
+    buffers.analyze(&task.new_file) == task.counts
 }
 
 /// An edit of a program, after all sides have done it and agree.
@@ -99,9 +61,9 @@ fn task(old: &Program, edit: Edit) -> Task {
     let new = edited(old, edit).expect("the edit is accepted");
     let (old_file, new_file) = (write(old), write(&new));
     let mut buffers = Buffers::new();
-    analyze(&old_file, &mut buffers);
+    buffers.analyze(&old_file);
     let old_marks = buffers.marks.clone();
-    let counts = analyze(&new_file, &mut buffers);
+    let counts = buffers.analyze(&new_file);
     let new_marks = buffers.marks.clone();
     let differs = |&at: &usize| old_marks[at] != new_marks[at];
     let changed = (0..SHEET_SIZE).filter(differs).count();
@@ -113,8 +75,8 @@ fn task(old: &Program, edit: Edit) -> Task {
         counts,
         changed,
     };
-    for one in REPAIRS {
-        assert!(repair(one, &task, &mut buffers), "the repair is accepted");
+    for repair in [forward, inside_out] {
+        assert!(repair(&task, &mut buffers), "the repair is accepted");
         assert_eq!(buffers.marks, new_marks, "all sides mark the same");
         let written = &buffers.output[..task.new_file.len()];
         assert_eq!(written, task.new_file, "the repair writes the edited file");
@@ -125,7 +87,7 @@ fn task(old: &Program, edit: Edit) -> Task {
 /// Steps that begin where something is marked, spread evenly over all of these.
 fn chosen_steps(input: &Input) -> Vec<Step> {
     let mut buffers = Buffers::new();
-    analyze(&input.file, &mut buffers);
+    buffers.analyze(&input.file);
     let acts = |step: &&Step| {
         let place = 16 * usize::from(step.routine) + usize::from(step.from);
         buffers.marks[64 * place..64 * (place + 1)].contains(&1)

@@ -1,11 +1,11 @@
 //! How many programs a second the proved analysis does, through the C interface, beside the same
 //! procedure in plain Rust; and how many edits the two repairs do.
 
-#[path = "../../reference/tests/desk/mod.rs"]
-mod desk;
 mod edits;
+mod library;
 mod plain;
 
+use library::Buffers;
 use plain::{Search, Tables};
 use reference::generate::programs::{hub, program_of_shape, Shape};
 use reference::generate::random::Random;
@@ -40,34 +40,23 @@ struct Input {
     counts: [u32; 3],
 }
 
-/// The sheet and the working buffer, used for call after call.
-struct Buffers {
-    marks: Vec<u8>,
-    work: Vec<u8>,
-}
-
 fn library(input: &Input, buffers: &mut Buffers) -> [u32; 3] {
-    let answer = desk::analyze(&input.file, &mut buffers.marks, &mut buffers.work);
-    [
-        answer.value.standings,
-        answer.value.findings,
-        answer.value.takings,
-    ]
+    buffers.analyze(&input.file)
 }
 
 fn reading(input: &Input, _: &mut Buffers) -> [u32; 3] {
-    let answer = desk::read(&input.file);
+    let answer = binding::read(Some(&input.file));
     assert_eq!(answer.refusal, 0, "the file is accepted");
     input.counts
 }
 
 fn from_start(input: &Input, buffers: &mut Buffers) -> [u32; 3] {
-    let Buffers { marks, work } = buffers;
+    let Buffers { marks, work, .. } = buffers;
     plain::analyze(&input.tables, Search::FromStart, marks, work)
 }
 
 fn from_lowest(input: &Input, buffers: &mut Buffers) -> [u32; 3] {
-    let Buffers { marks, work } = buffers;
+    let Buffers { marks, work, .. } = buffers;
     plain::analyze(&input.tables, Search::FromLowest, marks, work)
 }
 
@@ -109,10 +98,7 @@ fn rates<const N: usize>(items: usize, mut turn: impl FnMut(usize) -> Duration) 
 
 /// Programs a second for each side.
 fn measure(inputs: &[Input]) -> [f64; 4] {
-    let mut buffers = Buffers {
-        marks: vec![0xA5; SHEET_SIZE],
-        work: vec![0x5A; SHEET_SIZE],
-    };
+    let mut buffers = Buffers::new();
     rates(inputs.len(), |side| turn(SIDES[side], inputs, &mut buffers))
 }
 
@@ -121,9 +107,9 @@ fn input(program: &Program) -> Input {
     let (mut marks, mut work) = (vec![0; SHEET_SIZE], vec![0; SHEET_SIZE]);
     let counts = plain::analyze(&tables, Search::FromStart, &mut marks, &mut work);
     let file = write(program);
-    let mut given = vec![0xA5; SHEET_SIZE];
-    desk::analyze(&file, &mut given, &mut work);
-    assert_eq!(given, marks, "the two sides do not mark the same");
+    let mut buffers = Buffers::new();
+    buffers.analyze(&file);
+    assert_eq!(buffers.marks, marks, "the two sides do not mark the same");
     Input {
         program: program.clone(),
         file,

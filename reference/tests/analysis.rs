@@ -406,15 +406,18 @@ fn a_list_can_be_asked_from_any_number() {
 
 #[test]
 fn buffers_of_no_bytes_may_be_null() {
-    assert_eq!(desk::analyze_to_null(b""), Answer::refused(8, 1));
-    assert_eq!(desk::analyze_to_null(sample::FILE), Answer::refused(9, 0));
+    for nothing in [None, Some(&b""[..])] {
+        let given = binding::analyze(nothing, None, None);
+        assert_eq!(given, desk::refused(8, 1));
+        let given = binding::next_violation(nothing, None, None, 0);
+        assert_eq!(given, desk::refused(8, 1));
+    }
+    let file = Some(sample::FILE);
+    assert_eq!(binding::analyze(file, None, None), desk::refused(9, 0));
     let mut marks = vec![7; SHEET_SIZE];
-    let answer = desk::analyze_without_work(sample::FILE, &mut marks);
-    assert_eq!(answer, Answer::refused(11, 0));
+    let given = binding::analyze(file, Some(&mut marks), None);
+    assert_eq!(given, desk::refused(11, 0));
     assert!(marks.iter().all(|&byte| byte == 7));
-    assert_eq!(desk::next_violation_of_null(b""), Answer::refused(8, 1));
-    assert_eq!(
-        desk::next_violation_of_null(sample::FILE),
-        Answer::refused(9, 0)
-    );
+    let given = binding::next_violation(file, None, None, 0);
+    assert_eq!(given, desk::refused(9, 0));
 }

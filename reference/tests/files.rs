@@ -220,9 +220,8 @@ fn the_largest_file_fills_the_least_output() {
 
 #[test]
 fn buffers_of_no_bytes_may_be_null() {
-    let (read, write) = desk::read_and_write_null();
-    assert_eq!((read.refusal, read.line), (8, 1));
-    assert_eq!((write.refusal, write.line, write.value), (8, 1, 0));
-    let write = desk::write_to_null(sample::FILE);
-    assert_eq!((write.refusal, write.line, write.value), (10, 0, 0));
+    assert_eq!(binding::read(None), desk::refused(8, 1));
+    assert_eq!(binding::write(None, None), desk::refused(8, 1));
+    let file = Some(sample::FILE);
+    assert_eq!(binding::write(file, None), desk::refused(10, 0));
 }

@@ -1,7 +1,4 @@
-//! Says where the proved library lies, so that the comparisons can link it.
-//!
-//! Only the files in `tests/` ask for the library. The reference itself builds and runs its own
-//! tests (`cargo test --lib`) without it.
+//! Says where the proved library lies, for whatever calls it to be linked with it.
 
 use std::env;
 use std::path::{Path, PathBuf};

@@ -1,0 +1,77 @@
+//! The declarations of `include/palthrenni.h`, in its order and with its names.
+
+// The archive is no part of this crate: only what calls a function of it is linked with it, and all
+// else builds without it.
+#[link(name = "desk", kind = "static", modifiers = "-bundle")]
+extern "C" {
+    pub fn palthrenni_read(file: *const u8, file_len: usize, line: *mut u32) -> u32;
+    pub fn palthrenni_write(
+        file: *const u8,
+        file_len: usize,
+        output: *mut u8,
+        output_len: usize,
+        line: *mut u32,
+        written: *mut u32,
+    ) -> u32;
+    pub fn palthrenni_analyze(
+        file: *const u8,
+        file_len: usize,
+        marks: *mut u8,
+        marks_len: usize,
+        work: *mut u8,
+        work_len: usize,
+        line: *mut u32,
+        configurations: *mut u32,
+        violations: *mut u32,
+        iterations: *mut u32,
+    ) -> u32;
+    pub fn palthrenni_next_violation(
+        file: *const u8,
+        file_len: usize,
+        marks: *const u8,
+        marks_len: usize,
+        work: *mut u8,
+        work_len: usize,
+        from: u32,
+        line: *mut u32,
+        found: *mut u32,
+    ) -> u32;
+    pub fn palthrenni_prune(
+        file: *const u8,
+        file_len: usize,
+        marks: *mut u8,
+        marks_len: usize,
+        work: *mut u8,
+        work_len: usize,
+        line: *mut u32,
+    ) -> u32;
+    pub fn palthrenni_repair_forward(
+        file: *const u8,
+        file_len: usize,
+        marks: *mut u8,
+        marks_len: usize,
+        edit: *const u8,
+        edit_len: usize,
+        output: *mut u8,
+        output_len: usize,
+        work: *mut u8,
+        work_len: usize,
+        line: *mut u32,
+        written: *mut u32,
+    ) -> u32;
+    pub fn palthrenni_repair_inside_out(
+        file: *const u8,
+        file_len: usize,
+        marks: *mut u8,
+        marks_len: usize,
+        edit: *const u8,
+        edit_len: usize,
+        output: *mut u8,
+        output_len: usize,
+        work: *mut u8,
+        work_len: usize,
+        line: *mut u32,
+        written: *mut u32,
+        reanalyzed: *mut u32,
+    ) -> u32;
+}
