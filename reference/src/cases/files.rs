@@ -43,13 +43,12 @@ fn case(name: impl Into<String>, file: impl Into<Vec<u8>>, refusal: u32, line: u
 }
 
 fn beginnings_and_ends() -> Vec<Case> {
-    let without_last_byte = &sample::FILE[..sample::FILE.len() - 1];
     vec![
         case("the sample", sample::FILE, 0, 0),
         case("empty input", "", 8, 1),
         case("sizes alone", "50020302\n", 8, 2),
         case("no end frame", removed(13), 8, 13),
-        case("no final 0A", without_last_byte, 1, 13),
+        case("no final 0A", sample::without_last_byte(), 1, 13),
         case("no 0A at all", "50020302", 1, 1),
         case("end count one too high", replaced(13, "45000D"), 7, 13),
         case("end count one too low", replaced(13, "45000B"), 7, 13),
@@ -206,7 +205,7 @@ fn sizes() -> Vec<Case> {
 }
 
 /// A program of so many routines and nothing else.
-fn with_routines(count: usize) -> Vec<u8> {
+pub fn with_routines(count: usize) -> Vec<u8> {
     let mut frames = vec![vec![0x50, count as u8, 8, 32]];
     frames.extend((0..count).map(|routine| vec![0x52, routine as u8, 16]));
     frames.push(end(frames.len()));

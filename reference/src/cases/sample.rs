@@ -11,11 +11,15 @@
 //! ```
 
 use crate::model::file::read;
-use crate::model::lines;
+use crate::model::lines::{self, line_of};
 use crate::model::program::Program;
+use crate::model::write::end;
 
 /// The sample program file.
 pub const FILE: &[u8] = include_bytes!("../../../examples/F.txt");
+
+/// The numbers of its standings.
+pub const STANDINGS: [usize; 5] = [0, 65, 129, 1024, 1089];
 
 /// The program that it says.
 pub fn program() -> Program {
@@ -59,4 +63,20 @@ pub fn swapped(one: usize, other: usize) -> Vec<u8> {
 /// The sample with something after its end.
 pub fn followed_by(text: impl AsRef<[u8]>) -> Vec<u8> {
     [FILE, text.as_ref()].concat()
+}
+
+/// The sample without its last byte.
+pub fn without_last_byte() -> Vec<u8> {
+    FILE[..FILE.len() - 1].to_vec()
+}
+
+/// The sample with these lines in the place of those from the first to the last, both counted from
+/// 1, and with its end count made right.
+pub fn rewritten(first: usize, last: usize, texts: &[&str]) -> Vec<u8> {
+    let mut lines = lines();
+    let texts = texts.iter().map(|text| format!("{text}\n").into_bytes());
+    lines.splice(first - 1..last, texts);
+    lines.pop();
+    lines.push(line_of(&end(lines.len())));
+    lines.concat()
 }

@@ -65,74 +65,34 @@ impl Analysis {
 #[cfg(test)]
 mod tests {
     use super::*;
-    use crate::cases::sample;
+    use crate::cases::{self, sample};
     use crate::generate::programs::{hub, program_of_seed, program_of_shape, Shape};
     use crate::generate::random::Random;
+    use crate::model::file::read;
     use crate::model::least::least_set;
-    use crate::model::program::{Label, Step};
     use crate::model::runs::search;
     use crate::model::standing::marked;
-    use std::collections::BTreeSet;
 
     #[test]
-    fn the_sample_has_five_standings_and_needs_six_takings() {
-        let analysis = analyze(&sample::program());
-        assert_eq!(marked(&analysis.sheet), [0, 65, 129, 1024, 1089]);
-        assert_eq!((analysis.standings(), analysis.takings), (5, 6));
-        assert_eq!(analysis.findings, []);
-        assert_eq!(analysis.next_finding(0), NONE);
+    fn cases_worked_out_by_hand() {
+        for case in cases::analyses::all() {
+            let analysis = analyze(&read(&case.file).expect("the file is accepted"));
+            assert_eq!(marked(&analysis.sheet), case.standings, "{}", case.name);
+            let standings = analysis.standings() as usize;
+            assert_eq!(standings, case.standings.len(), "{}", case.name);
+            assert_eq!(analysis.findings, case.findings, "{}", case.name);
+            assert_eq!(analysis.takings, case.takings, "{}", case.name);
+        }
     }
 
     #[test]
-    fn without_a_start_state_nothing_is_taken() {
-        let mut program = sample::program();
-        program.starts.clear();
-        let analysis = analyze(&program);
-        assert_eq!((marked(&analysis.sheet), analysis.takings), (vec![], 0));
-    }
-
-    #[test]
-    fn a_forbidden_state_is_followed_like_any_other() {
-        let mut program = sample::program();
-        program.forbidden.insert(0);
-        let analysis = analyze(&program);
-        assert_eq!(marked(&analysis.sheet), [0, 65, 129, 1024, 1089]);
-        assert_eq!(analysis.findings, [0, 1024]);
-        let next = |from| analysis.next_finding(from);
-        assert_eq!((next(0), next(1), next(1024)), (0, 1024, 1024));
-        assert_eq!((next(1025), next(NONE)), (NONE, NONE));
-    }
-
-    #[test]
-    fn main_that_only_calls_itself_has_one_standing() {
-        let mut program = sample::program();
-        program.steps = BTreeSet::from([Step {
-            routine: 0,
-            from: 0,
-            label: Label::Call(0),
-            to: 1,
-        }]);
-        assert_eq!(marked(&own_sheet(&program)), [0]);
-    }
-
-    #[test]
-    fn a_step_that_breaks_the_rule_is_found() {
-        let mut program = sample::program();
-        program.steps.insert(Step {
-            routine: 0,
-            from: 0,
-            label: Label::Action(1),
-            to: 2,
-        });
-        let analysis = analyze(&program);
-        let finding = Standing {
-            routine: 0,
-            place: 2,
-            root: 0,
-            state: 2,
-        };
-        assert_eq!(analysis.findings, [finding.number() as u32]);
-        assert_eq!(analysis.standings(), 6);
+    fn the_next_finding_is_the_first_at_or_above_a_number() {
+        let next = |file: &[u8], from| analyze(&read(file).expect("accepted")).next_finding(from);
+        assert_eq!(next(sample::FILE, 0), NONE);
+        let file = &cases::analyses::entry_forbidden();
+        for (from, wanted) in [(0, 0), (1, 1024), (1024, 1024), (1025, NONE), (NONE, NONE)] {
+            assert_eq!(next(file, from), wanted, "from {from}");
+        }
     }
 
     /// The procedure marks exactly the least set, takes nothing too often and what is not marked

@@ -73,52 +73,13 @@ fn block(program: &Program) -> Vec<u8> {
 #[cfg(test)]
 mod tests {
     use super::*;
-    use crate::cases::sample;
-
-    fn printed(input: &[u8]) -> String {
-        String::from_utf8(bench(input)).expect("digits")
-    }
-
-    fn after_sample(edits: &str) -> String {
-        printed(&[sample::FILE, edits.as_bytes()].concat())
-    }
+    use crate::cases;
 
     #[test]
-    fn the_sample_prints_what_it_should() {
-        let wanted = "5A00050000\n5800020002\n5A00060001\n5A00050000\n210E\n";
-        let edits = "2B00000102\n2D00000102\n2D00000102\n";
-        assert_eq!(after_sample(edits), wanted);
-    }
-
-    #[test]
-    fn a_refused_file_prints_one_line() {
-        assert_eq!(printed(b""), "21080001\n");
-        assert_eq!(printed(b"2B00000102\n"), "21020001\n");
-        assert_eq!(printed(b"450000\n2B00000102\n"), "21040001\n");
-        assert_eq!(printed(&sample::removed(13)), "2108000D\n");
-        let no_last_byte = &sample::FILE[..sample::FILE.len() - 1];
-        assert_eq!(printed(no_last_byte), "2101000D\n");
-        let wrong_end = [&sample::replaced(13, "45000B")[..], b"2B00000102\n"].concat();
-        assert_eq!(printed(&wrong_end), "2107000D\n");
-    }
-
-    #[test]
-    fn input_may_have_16384_bytes() {
-        assert_eq!(printed(&[b'\n'; 16_384]), "21010001\n");
-        assert_eq!(printed(&[b'\n'; 16_385]), "2112\n");
-        let padded = |length| [sample::FILE, &vec![b'\n'; length - sample::FILE.len()]].concat();
-        let refused = "210C\n".repeat(16_384 - sample::FILE.len());
-        assert_eq!(printed(&padded(16_384)), format!("5A00050000\n{refused}"));
-        assert_eq!(printed(&padded(16_385)), "2112\n");
-    }
-
-    #[test]
-    fn every_line_after_the_file_is_an_edit() {
-        let (block, refused) = ("5A00050000\n", "210C\n");
-        assert_eq!(after_sample("\n"), format!("{block}{refused}"));
-        assert_eq!(after_sample("2B00000102"), format!("{block}{refused}"));
-        assert_eq!(after_sample("45000C\n"), format!("{block}{refused}"));
-        let findings = "5A00050000\n210C\n5800020002\n5A00060001\n210C\n";
-        assert_eq!(after_sample("\n2B00000102\n2D"), findings);
+    fn named_inputs_print_what_they_should() {
+        for case in cases::inputs::all() {
+            let printed = String::from_utf8(bench(&case.input)).expect("digits");
+            assert_eq!(printed, case.printed, "{}", case.name);
+        }
     }
 }

@@ -149,13 +149,9 @@ mod tests {
     fn the_three_edits_change_the_set_and_nothing_else() {
         let program = sample::program();
         let after = |line: &[u8]| write(&edited_by_line(&program, line).expect("accepted"));
-        let end = |file: Vec<u8>, end: &str| {
-            let text = String::from_utf8(file).expect("digits");
-            text.replace("45000C", end).into_bytes()
-        };
-        let added = sample::inserted(4, "5300000102");
-        assert_eq!(after(b"2B00000102\n"), end(added, "45000D"));
-        assert_eq!(after(b"2D00020101\n"), end(sample::removed(5), "45000B"));
+        let added = sample::rewritten(4, 4, &["5300000102", "5300004102"]);
+        assert_eq!(after(b"2B00000102\n"), added);
+        assert_eq!(after(b"2D00020101\n"), sample::rewritten(5, 5, &[]));
         assert_eq!(after(b"3D0002010141\n"), sample::replaced(5, "5300024101"));
     }
 }

@@ -77,13 +77,13 @@ fn is_led_to(program: &Program, kept: &[u8], standing: Standing) -> bool {
 #[cfg(test)]
 mod tests {
     use super::*;
+    use crate::cases::keepings::{self, KeepingCase};
     use crate::cases::sample;
-    use crate::cases::small::{dropped, program};
     use crate::generate::programs::program_of_seed;
     use crate::generate::random::Random;
     use crate::model::analysis::own_sheet;
     use crate::model::edit::{after, Edit};
-    use crate::model::standing::marked;
+    use crate::model::standing::{marked, standings};
 
     #[test]
     fn the_own_sheet_is_kept_as_it_is() {
@@ -120,62 +120,44 @@ mod tests {
         }
     }
 
-    #[test]
-    fn a_gap_on_the_sheet_cuts_off_what_lies_behind_it() {
-        let program = sample::program();
-        for (gap, left) in [
-            (0, vec![]),
-            (65, vec![0, 129, 1024, 1089]),
-            (129, vec![0, 1024, 1089]),
-            (1024, vec![0]),
-            (1089, vec![0, 1024]),
-        ] {
-            let mut sheet = own_sheet(&program);
-            sheet[gap] = 0;
-            assert_eq!(marked(&keep(&program, &sheet)), left, "without {gap}");
+    fn check(cases: &[KeepingCase]) {
+        for case in cases {
+            let kept = keep(&case.program, &case.sheet);
+            assert_eq!(marked(&kept), case.left);
+        }
+    }
+
+    /// After a drop, what is left is the edited program's own sheet.
+    fn check_drops(cases: &[KeepingCase]) {
+        check(cases);
+        for case in cases {
+            assert_eq!(marked(&own_sheet(&case.program)), case.left);
         }
     }
 
     #[test]
-    fn a_call_that_never_returns_supports_the_called_entry() {
-        let old = sample::program();
-        let never_returns = dropped(&old, "01000001");
-        assert_eq!(marked(&own_sheet(&never_returns)), [0, 1024]);
-        let further = dropped(&never_returns, "00020101");
-        let kept = keep(&further, &own_sheet(&never_returns));
-        assert_eq!(marked(&kept), [0, 1024]);
+    fn a_gap_on_the_sheet_cuts_off_what_lies_behind_it() {
+        check(&keepings::gaps());
     }
 
-    /// Main acts, and calls itself in state 1, which is no start state.
+    #[test]
+    fn a_call_that_never_returns_supports_the_called_entry() {
+        check_drops(&keepings::unreturned_call());
+    }
+
     #[test]
     fn main_called_in_another_state_is_no_start() {
-        let old = program("50010201 520003 5300000002 5300024001 54000001 4900");
-        let in_state_1 = Standing::entry(0, 1);
-        assert_eq!(own_sheet(&old)[in_state_1.number()], 1);
-        let after = dropped(&old, "00024001");
-        let kept = keep(&after, &own_sheet(&old));
-        assert_eq!(kept[in_state_1.number()], 0);
-        assert_eq!(marked(&kept), [0, 129]);
-        assert_eq!(kept, own_sheet(&after));
+        let called = own_sheet(&keepings::main_calls_itself());
+        assert_eq!(called[Standing::entry(0, 1).number()], 1);
+        check_drops(&keepings::main_called_in_another_state());
     }
 
-    /// Routines 1 and 2 call each other, and main calls the first of them.
     #[test]
     fn two_routines_that_call_each_other_do_not_support_each_other() {
-        let routines = "520002 520103 520202";
-        let calls = "5300004101 5301004202 5301020001 5302000001 5302004101";
-        let old = program(&format!(
-            "50030201 {routines} {calls} 54000000 54000001 4900"
-        ));
-        let count = |sheet: &[u8], routine: usize| {
-            let sheet = &sheet[1024 * routine..1024 * (routine + 1)];
-            marked(sheet).len()
-        };
-        assert!(count(&own_sheet(&old), 1) > 2 && count(&own_sheet(&old), 2) > 2);
-        let after = dropped(&old, "00004101");
-        let kept = keep(&after, &own_sheet(&old));
-        assert_eq!(marked(&kept), [0]);
-        assert_eq!(kept, own_sheet(&after));
+        let called = standings(&own_sheet(&keepings::two_that_call_each_other()));
+        let count = |routine| called.iter().filter(|at| at.routine == routine).count();
+        assert!(count(1) > 2 && count(2) > 2);
+        check_drops(&keepings::no_outside_call());
     }
 
     #[test]

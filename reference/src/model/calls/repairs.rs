@@ -75,67 +75,50 @@ fn judged(before: &Program, lent: &Buffers) -> Result<(Edit, Program), u32> {
 #[cfg(test)]
 mod tests {
     use super::*;
-    use crate::cases::small::{after, dropped, program};
+    use crate::cases::small::after;
     use crate::cases::{self, sample};
     use crate::model::file::read;
     use crate::model::standing::marked;
     use crate::model::standing::SHEET_SIZE;
     use crate::model::write::OUTPUT_SIZE;
 
-    /// An inside-out repair with a program's own sheet: the sheet that is left, and the answer.
-    fn repaired(program: &Program, line: &str) -> (Vec<usize>, Answer<Repaired>) {
+    /// A repair with a program's own sheet: the answer, and the sheet that is left.
+    fn with_own_sheet(
+        repair: Repair,
+        program: &Program,
+        line: &[u8],
+    ) -> (Answer<Repaired>, Vec<u8>) {
         let mut sheet = own_sheet(program);
         let (mut output, mut work) = (vec![7; OUTPUT_SIZE], vec![7; SHEET_SIZE]);
-        let line = format!("{line}\n");
-        let answer = repair_answer(
-            Repair::InsideOut,
-            &Ok(program.clone()),
-            &mut Buffers {
-                sheet: &mut sheet,
-                line: line.as_bytes(),
-                output: &mut output,
-                work: &mut work,
-            },
-        );
-        (marked(&sheet), answer)
+        let lent = &mut Buffers {
+            sheet: &mut sheet,
+            line,
+            output: &mut output,
+            work: &mut work,
+        };
+        let answer = repair_answer(repair, &Ok(program.clone()), lent);
+        (answer, sheet)
     }
 
     #[test]
-    fn p5_and_p6_a_dropped_step_and_a_dropped_call() {
-        let (left, answer) = repaired(&sample::program(), "2D01000001");
-        assert_eq!((left, answer.value.reopened), (vec![0, 1024], 0b11));
-        let (left, answer) = repaired(&sample::program(), "2D00004102");
-        assert_eq!((left, answer.value.reopened), (vec![0], 0b01));
-        let (left, answer) = repaired(&dropped(&sample::program(), "01000001"), "2D00004102");
-        assert_eq!((left, answer.value.reopened), (vec![0], 0b01));
+    fn cases_worked_out_by_hand() {
+        for case in cases::repairs::all() {
+            let (answer, left) = with_own_sheet(Repair::InsideOut, &case.program, case.line);
+            assert_eq!(answer.refusal, case.refusal, "{}", case.name);
+            assert_eq!(answer.value.reopened, case.reopened, "{}", case.name);
+            assert_eq!(marked(&left), case.left, "{}", case.name);
+            if case.refusal != 0 {
+                assert_eq!(answer, Answer::refused(case.refusal, 0), "{}", case.name);
+            }
+        }
     }
 
     #[test]
-    fn p7_main_that_only_calls_itself() {
-        let main_alone = program("50020302 520003 520102 54000001 54000102 54010001 54010101 4900");
-        let (left, answer) = repaired(&main_alone, "2B00004001");
-        assert_eq!((left, answer.value.reopened), (vec![0], 0));
-        let calls_itself = after(&main_alone, "2B00004001");
-        let (left, answer) = repaired(&calls_itself, "2D00004001");
-        assert_eq!((left, answer.value.reopened), (vec![0], 0b01));
-    }
-
-    #[test]
-    fn p8_a_step_of_a_routine_that_nobody_calls() {
-        let uncalled = dropped(&sample::program(), "00004102");
-        let (left, answer) = repaired(&uncalled, "2B01000101");
-        assert_eq!(
-            (left, answer.refusal, answer.value.reopened),
-            (vec![0], 0, 0)
-        );
-    }
-
-    #[test]
-    fn p9_and_p10_a_label_by_itself_and_an_absent_step() {
-        let own = marked(&own_sheet(&sample::program()));
-        for (line, refusal) in [("3D0000410241", 15), ("2D00000102", 14)] {
-            let (left, answer) = repaired(&sample::program(), line);
-            assert_eq!((left, answer), (own.clone(), Answer::refused(refusal, 0)));
+    fn reopening_stops_where_pairs_stay() {
+        let (program, drops) = cases::repairs::reopenings();
+        for (line, reopened) in drops {
+            let (answer, _) = with_own_sheet(Repair::InsideOut, &program, line);
+            assert_eq!((answer.refusal, answer.value.reopened), (0, reopened));
         }
     }
 
@@ -210,26 +193,10 @@ mod tests {
     #[test]
     fn named_edits_get_the_answers_worked_out_by_hand() {
         for case in cases::edits::all() {
-            let reading = read(&case.file);
-            let program = reading.clone().expect("the file is accepted");
-            let mut sheet = own_sheet(&program);
-            let (mut output, mut work) = (vec![7; OUTPUT_SIZE], vec![7; SHEET_SIZE]);
-            let answer = repair_answer(
-                Repair::Forward,
-                &reading,
-                &mut Buffers {
-                    sheet: &mut sheet,
-                    line: &case.line,
-                    output: &mut output,
-                    work: &mut work,
-                },
-            );
-            assert_eq!(
-                (answer.refusal, answer.line),
-                (case.refusal, 0),
-                "{}",
-                case.name
-            );
+            let program = read(&case.file).expect("the file is accepted");
+            let (answer, _) = with_own_sheet(Repair::Forward, &program, &case.line);
+            let given = (answer.refusal, answer.line);
+            assert_eq!(given, (case.refusal, 0), "{}", case.name);
         }
     }
 }

@@ -1,0 +1,74 @@
+//! Files whose analysis is worked out by hand. P1 to P4 and P7 are the scope paper's.
+
+use crate::cases::sample;
+
+/// A file that is accepted, the numbers of its standings and of its findings, and how many takings
+/// its fresh working needs.
+pub struct AnalysisCase {
+    pub name: &'static str,
+    pub file: Vec<u8>,
+    pub standings: Vec<usize>,
+    pub findings: Vec<u32>,
+    pub takings: u32,
+}
+
+fn case(
+    name: &'static str,
+    file: &[u8],
+    standings: &[usize],
+    findings: &[u32],
+    takings: u32,
+) -> AnalysisCase {
+    AnalysisCase {
+        name,
+        file: file.to_vec(),
+        standings: standings.to_vec(),
+        findings: findings.to_vec(),
+        takings,
+    }
+}
+
+/// The sample with state 0 forbidden too. A forbidden state is followed like any other.
+pub fn entry_forbidden() -> Vec<u8> {
+    sample::rewritten(12, 12, &["4600", "4602"])
+}
+
+pub fn all() -> Vec<AnalysisCase> {
+    let five = &sample::STANDINGS;
+    let six = &[0, 65, 129, 130, 1024, 1089];
+    let no_start = sample::rewritten(11, 11, &[]);
+    let main_calls_main = sample::rewritten(4, 6, &["5300004001"]);
+    let faulty = include_bytes!("../../../examples/F_fault.txt");
+    let never_returns = sample::rewritten(6, 6, &[]);
+    vec![
+        case("P1 and P2, the sample", sample::FILE, five, &[], 6),
+        case("P3, no start state", &no_start, &[], &[], 0),
+        case(
+            "P4, state 0 forbidden",
+            &entry_forbidden(),
+            five,
+            &[0, 1024],
+            6,
+        ),
+        case("P7, main calls main", &main_calls_main, &[0], &[], 1),
+        case("a step that breaks the rule", faulty, six, &[130], 7),
+        case(
+            "a call that never returns",
+            &never_returns,
+            &[0, 1024],
+            &[],
+            2,
+        ),
+    ]
+}
+
+#[cfg(test)]
+mod tests {
+    use super::*;
+
+    #[test]
+    fn the_faulty_example_is_the_sample_with_one_step_more() {
+        let faulty = sample::rewritten(4, 4, &["5300000102", "5300004102"]);
+        assert_eq!(faulty, include_bytes!("../../../examples/F_fault.txt"));
+    }
+}

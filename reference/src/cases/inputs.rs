@@ -1,0 +1,176 @@
+//! Inputs of `bench` that are known by name, with all that is printed for them.
+
+use crate::cases::files::{full_steps, with_routines};
+use crate::cases::keepings::main_calls_itself;
+use crate::cases::sample::{self, followed_by, removed, replaced};
+use crate::model::write::write;
+
+/// An input, and what is printed for it.
+pub struct InputCase {
+    pub name: &'static str,
+    pub input: Vec<u8>,
+    pub printed: String,
+}
+
+/// What is printed for the sample, and after the step that breaks its rule is added.
+const BLOCK: &str = "5A00050000\n";
+const BROKEN: &str = "5800020002\n5A00060001\n";
+/// What is printed for a line that is no edit.
+const NO_EDIT: &str = "210C\n";
+/// The edit that adds the step which breaks the sample's rule.
+const EDIT: &[u8] = b"2B00000102\n";
+/// A block without standings.
+const EMPTY: &str = "5A00000000\n";
+
+/// Every named input.
+pub fn all() -> Vec<InputCase> {
+    let mut cases = Vec::new();
+    cases.extend(worked_out());
+    cases.extend(lengths());
+    cases.extend(refused_files());
+    cases.extend(edits_after_the_sample());
+    cases.extend(limits());
+    cases
+}
+
+fn case(name: &'static str, input: impl Into<Vec<u8>>, printed: impl Into<String>) -> InputCase {
+    InputCase {
+        name,
+        input: input.into(),
+        printed: printed.into(),
+    }
+}
+
+fn after_sample(name: &'static str, edits: &str, blocks: &[&str]) -> InputCase {
+    case(
+        name,
+        followed_by(edits),
+        BLOCK.to_string() + &blocks.concat(),
+    )
+}
+
+fn worked_out() -> Vec<InputCase> {
+    let edits = "2B00000102\n2D00000102\n2D00000102\n";
+    let drops = "2D01000001\n2D00020101\n2D00004102\n2B01000101\n3D0100010101\n";
+    let (two, one) = ("5A00020000\n", "5A00010000\n");
+    let called = [write(&main_calls_itself()), b"2D00024001\n".to_vec()].concat();
+    vec![
+        after_sample("the paper's input", edits, &[BROKEN, BLOCK, "210E\n"]),
+        after_sample("drops", drops, &[two, two, one, one, "210F\n"]),
+        case("main is called", called, "5A00030000\n5A00020000\n"),
+        case("no edit", sample::FILE, BLOCK),
+    ]
+}
+
+/// The sample, filled up with empty lines to so many bytes.
+fn filled(length: usize) -> Vec<u8> {
+    followed_by("\n".repeat(length - sample::FILE.len()))
+}
+
+fn lengths() -> Vec<InputCase> {
+    let refused = NO_EDIT.repeat(16_384 - sample::FILE.len());
+    let of_no_file = "21010001\n";
+    vec![
+        case("16,384 bytes", filled(16_384), format!("{BLOCK}{refused}")),
+        case("16,385 bytes", filled(16_385), "2112\n"),
+        case("16,384 bytes of no file", [b'\n'; 16_384], of_no_file),
+        case("16,385 bytes of no file", [0; 16_385], "2112\n"),
+        case("16,385 empty lines", [b'\n'; 16_385], "2112\n"),
+        case("70,000 bytes", [b'5'; 70_000], "2112\n"),
+        case("16,384 bytes without 0A", [b'5'; 16_384], of_no_file),
+    ]
+}
+
+fn refused_files() -> Vec<InputCase> {
+    let with_edit = |file: &[u8]| [file, EDIT].concat();
+    let wrong_end = with_edit(&replaced(13, "45000B"));
+    let no_end = with_edit(&removed(13));
+    vec![
+        case("empty input", "", "21080001\n"),
+        case("0A alone", "\n", "21010001\n"),
+        case("edits after a refused file", wrong_end, "2107000D\n"),
+        case("45 first, too short", with_edit(b"45\n"), "21030001\n"),
+        case("45 first", with_edit(b"450000\n"), "21040001\n"),
+        case("edits without a file", EDIT, "21020001\n"),
+        case("no end frame", removed(13), "2108000D\n"),
+        case("no end frame, then an edit", no_end, "2102000D\n"),
+        case("no last 0A", sample::without_last_byte(), "2101000D\n"),
+    ]
+}
+
+fn edits_after_the_sample() -> Vec<InputCase> {
+    let no_0a_twice = "\n2B00000102\n2D";
+    let file = String::from_utf8_lossy(sample::FILE);
+    vec![
+        after_sample("no 0A after an edit", "2B00000102", &[NO_EDIT]),
+        after_sample(
+            "no 0A after a second edit",
+            "2B00000102\n2D00000102",
+            &[BROKEN, NO_EDIT],
+        ),
+        after_sample(
+            "no edit about one",
+            no_0a_twice,
+            &[NO_EDIT, BROKEN, NO_EDIT],
+        ),
+        after_sample("the file twice", &file, &[NO_EDIT; 13]),
+        after_sample("an end frame as an edit", "45000C\n", &[NO_EDIT]),
+        after_sample(
+            "an end frame, then an edit",
+            "45000C\n2B00000102\n",
+            &[NO_EDIT, BROKEN],
+        ),
+        after_sample("an empty line as an edit", "\n", &[NO_EDIT]),
+        after_sample(
+            "an empty line, then an edit",
+            "\n2B00000102\n",
+            &[NO_EDIT, BROKEN],
+        ),
+        after_sample("0D before 0A", "2B00000102\r\n", &[NO_EDIT]),
+        after_sample("zero bytes as an edit", "\0\0\n", &[NO_EDIT]),
+    ]
+}
+
+/// 16 and 17 routines, 256 and 257 steps, Q 8 and 9, label 1F and 20.
+fn limits() -> Vec<InputCase> {
+    let small = |sizes: &str, step: &str, edit: &str| {
+        format!("{sizes}\n520002\n{step}\n4900\n450004\n{edit}")
+    };
+    let one = "5A00010000\n";
+    let many = |count: usize, edits: &[u8]| [&full_steps(count), edits].concat();
+    let about_256 = many(256, b"2B0F0F4F0F\n2D00000F0F\n2B0F0F4F0F\n");
+    let up_to_256 = many(255, b"2B0F0F4F0F\n2B0F0F4F0E\n");
+    vec![
+        case("16 routines", with_routines(16), EMPTY),
+        case("17 routines", with_routines(17), "21050001\n"),
+        case(
+            "256 steps",
+            about_256,
+            [EMPTY, "2110\n", EMPTY, EMPTY].concat(),
+        ),
+        case("257 steps", full_steps(257), "21060112\n"),
+        case(
+            "255 steps and two more",
+            up_to_256,
+            [EMPTY, EMPTY, "2110\n"].concat(),
+        ),
+        case("Q 8", small("50010801", "5300000001", ""), one),
+        case("Q 9", small("50010901", "5300000001", ""), "21050001\n"),
+        case("label 1F", small("50010120", "5300001F01", ""), one),
+        case(
+            "label 20",
+            small("50010120", "5300002001", ""),
+            "21050003\n",
+        ),
+        case(
+            "label 1F as an edit",
+            small("50010120", "5300001E01", "2B00001F01\n"),
+            one.repeat(2),
+        ),
+        case(
+            "label 20 as an edit",
+            small("50010120", "5300001E01", "2B00002001\n"),
+            [one, "210D\n"].concat(),
+        ),
+    ]
+}
