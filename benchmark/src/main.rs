@@ -7,8 +7,9 @@ mod plain;
 
 use library::Buffers;
 use plain::{Search, Tables};
-use reference::generate::programs::{hub, program_of_shape, Shape};
+use reference::generate::programs::{hub, program_of_shape};
 use reference::generate::random::Random;
+use reference::generate::shapes::Shape;
 use reference::model::program::Program;
 use reference::model::standing::SHEET_SIZE;
 use reference::model::write::write;

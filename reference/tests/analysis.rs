@@ -5,22 +5,22 @@
 
 mod desk;
 
-use desk::lent::{with_more_after, Lent, MARGIN};
+use desk::lent::{self, Lending, Lent};
 use reference::cases::{self, sample};
-use reference::generate::files;
-use reference::generate::programs::{hub, program_of_seed, program_of_shape, SHAPES};
+use reference::generate::files::file_of_seed;
+use reference::generate::met::Met;
+use reference::generate::programs::{hub, program_of_seed, program_of_shape};
 use reference::generate::random::Random;
-use reference::generate::sheets::{foreign, FOREIGN};
-use reference::model::analysis::{self, Analysis, Analyzed, NONE};
+use reference::generate::shapes::SHAPES;
+use reference::generate::sheets::{foreign, wrong_lengths, FOREIGN};
+use reference::model::analysis::{self, own_sheet, Analysis, Analyzed, NONE};
 use reference::model::calls::sheets::{analyze_answer, next_answer, Counts};
 use reference::model::calls::Answer;
 use reference::model::file;
-use reference::model::refusals::FOREIGN_SHEET;
-use reference::model::standing::SHEET_SIZE;
+use reference::model::refusals::{BAD_LINE, FOREIGN_SHEET, SHEET_LENGTH, WORK_LENGTH};
+use reference::model::standing::{marked, SHEET_SIZE};
 use reference::model::write::write;
 
-/// Lengths that a buffer may not have.
-const WRONG_LENGTHS: [usize; 7] = [0, 1, 16, 8192, 16_383, 16_385, 20_000];
 /// How often each refusal and each outcome has to be met, so that agreeing on it means something.
 const OFTEN: usize = 50;
 /// A program with more standings than this gets fewer calls, as each of them takes long.
@@ -35,9 +35,9 @@ const FILE_SEEDS: u64 = 4_000;
 struct Tally {
     programs: usize,
     calls: usize,
-    /// Answers of the two calls by number (0: none was refused).
-    analyzed: [usize; 18],
-    asked: [usize; 18],
+    /// Answers of the two calls.
+    analyzed: Met,
+    asked: Met,
     no_standing: usize,
     no_finding: usize,
     findings: usize,
@@ -69,46 +69,25 @@ impl Case {
         }
     }
 
-    fn input(&self) -> String {
-        format!("{}: {}", self.name, self.file.escape_ascii())
-    }
-
     fn analysis(&self) -> Option<&Analysis> {
         self.analyzed.as_ref().ok()
     }
 }
 
-fn check_bytes(case: &Case, what: &str, given: &[u8], wanted: &[u8]) {
-    let different = (0..wanted.len()).find(|&at| given[at] != wanted[at]);
-    if let Some(at) = different {
-        let from_start = at as isize - MARGIN as isize;
-        let (given, wanted) = (given[at], wanted[at]);
-        let input = case.input();
-        panic!("{what} has {given} and not {wanted} at {from_start}, {input}");
-    }
-}
-
-/// Works the file afresh with both, in buffers that were the same, and compares all of it.
+/// Works the file afresh with both.
 fn compare_analyze(case: &Case, marks: &Lent, work: &Lent, tally: &mut Tally) -> Answer<Counts> {
-    let (mut given_marks, mut given_work) = (marks.clone(), work.clone());
-    let (mut marks, mut work) = (marks.clone(), work.clone());
-    let lent = with_more_after(&case.file);
-    let given = desk::analyze(
-        &lent[..case.file.len()],
-        given_marks.content_mut(),
-        given_work.content_mut(),
+    let (answer, _) = lent::compare(
+        &case.name,
+        &Lending::sheet(&case.file, marks, work),
+        |file, lent| desk::analyze(file, lent.sheet, lent.work),
+        |lent| analyze_answer(&case.analyzed, lent.sheet, lent.work),
     );
-    let wanted = analyze_answer(&case.analyzed, marks.content_mut(), work.content_mut());
-    assert_eq!(given, wanted, "a fresh working, {}", case.input());
-    check_bytes(case, "the sheet", &given_marks.bytes, &marks.bytes);
-    check_bytes(case, "the working buffer", &given_work.bytes, &work.bytes);
-    check_bytes(case, "the file", &lent, &with_more_after(&case.file));
-    tally.analyzed[given.refusal as usize] += 1;
+    tally.analyzed.note(answer.refusal);
     tally.calls += 1;
-    given
+    answer
 }
 
-/// Asks both for the next finding, with buffers that were the same, and compares all of it.
+/// Asks both for the next finding.
 fn compare_next(
     case: &Case,
     marks: &Lent,
@@ -116,32 +95,26 @@ fn compare_next(
     from: u32,
     tally: &mut Tally,
 ) -> Answer<u32> {
-    let (given_marks, mut given_work, mut work) = (marks.clone(), work.clone(), work.clone());
-    let lent = with_more_after(&case.file);
-    let file = &lent[..case.file.len()];
-    let content = given_work.content_mut();
-    let given = desk::next_violation(file, given_marks.content(), content, from);
-    let wanted = next_answer(&case.analyzed, marks.content(), work.content_mut(), from);
-    assert_eq!(given, wanted, "next from {from}, {}", case.input());
-    check_bytes(case, "the sheet", &given_marks.bytes, &marks.bytes);
-    check_bytes(case, "the working buffer", &given_work.bytes, &work.bytes);
-    check_bytes(case, "the file", &lent, &with_more_after(&case.file));
-    tally.asked[given.refusal as usize] += 1;
+    let (answer, _) = lent::compare(
+        &format!("{}, from {from}", case.name),
+        &Lending::sheet(&case.file, marks, work),
+        |file, lent| desk::next_violation(file, lent.sheet, lent.work, from),
+        |lent| next_answer(&case.analyzed, lent.sheet, lent.work, from),
+    );
+    let found = answer.value;
+    tally.asked.note(answer.refusal);
     tally.calls += 1;
-    if given.refusal == 0 {
-        tally.found_none += usize::from(given.value == NONE);
-        tally.found_at_once += usize::from(given.value == from && from != NONE);
-        tally.found_above += usize::from(given.value != NONE && given.value > from);
+    if answer.refusal == 0 {
+        tally.found_none += usize::from(found == NONE);
+        tally.found_at_once += usize::from(found == from && from != NONE);
+        tally.found_above += usize::from(found != NONE && found > from);
     }
-    given
+    answer
 }
 
 /// Calls with buffers of any length, at least one of them a wrong one.
 fn compare_wrong_lengths(case: &mut Case, tally: &mut Tally) {
-    let wrong = case.random.pick(&WRONG_LENGTHS);
-    let other = case.random.pick(&WRONG_LENGTHS);
-    let lengths = [(wrong, other), (wrong, SHEET_SIZE), (SHEET_SIZE, wrong)];
-    let (marks, work) = case.random.pick(&lengths);
+    let (marks, work) = wrong_lengths(&mut case.random);
     let marks = Lent::of_length(&mut case.random, marks);
     let work = Lent::of_length(&mut case.random, work);
     let from = some_number(&mut case.random, &[]);
@@ -196,11 +169,11 @@ fn compare_list(case: &Case, marks: &Lent, work: &Lent, findings: &[u32], tally:
     let mut from = 0;
     for &finding in findings {
         let answer = compare_next(case, marks, work, from, tally);
-        assert_eq!(answer.value, finding, "{}", case.input());
+        assert_eq!(answer.value, finding, "{}", case.name);
         from = finding + 1;
     }
     let answer = compare_next(case, marks, work, from, tally);
-    assert_eq!(answer.value, NONE, "{}", case.input());
+    assert_eq!(answer.value, NONE, "{}", case.name);
     tally.lists += 1;
 }
 
@@ -243,22 +216,28 @@ fn note(answer: &Answer<Counts>, tally: &mut Tally) {
     }
 }
 
+/// Holds the library against the reference on the files of so many seeds.
+fn compare_seeds(what: &str, seeds: u64, file: impl Fn(u64) -> Vec<u8>) -> Tally {
+    let mut tally = Tally::default();
+    for seed in 0..seeds {
+        let name = format!("{what} {seed}");
+        compare(&mut Case::new(name, file(seed), seed), &mut tally);
+    }
+    println!("{what}s of seeds: {tally:?}");
+    tally
+}
+
 #[test]
 fn programs_of_many_seeds_agree() {
-    let mut tally = Tally::default();
-    for seed in 0..PROGRAM_SEEDS {
-        let file = write(&program_of_seed(seed));
-        compare(
-            &mut Case::new(format!("seed {seed}"), file, seed),
-            &mut tally,
-        );
-    }
-    println!("programs of seeds: {tally:?}");
-    let numbers = [tally.analyzed[0], tally.asked[0], tally.asked[17]];
-    let lengths = [9, 11].map(|number| tally.analyzed[number].min(tally.asked[number]));
+    let tally = compare_seeds("program", PROGRAM_SEEDS, |seed| {
+        write(&program_of_seed(seed))
+    });
+    tally.analyzed.check([0, SHEET_LENGTH, WORK_LENGTH], OFTEN);
+    let asked = [0, SHEET_LENGTH, WORK_LENGTH, FOREIGN_SHEET];
+    tally.asked.check(asked, OFTEN);
     let sizes = [tally.no_standing, tally.no_finding, tally.findings];
     let found = [tally.found_at_once, tally.found_above, tally.found_none];
-    let counts = [&numbers[..], &lengths, &sizes, &found, &tally.foreign];
+    let counts = [&sizes[..], &found, &tally.foreign];
     for (place, &times) in counts.concat().iter().enumerate() {
         assert!(times >= OFTEN, "outcome {place} was met {times} times only");
     }
@@ -268,18 +247,9 @@ fn programs_of_many_seeds_agree() {
 
 #[test]
 fn damaged_files_agree() {
-    let mut tally = Tally::default();
-    for seed in 0..FILE_SEEDS {
-        let file = files::file_of_seed(seed);
-        compare(
-            &mut Case::new(format!("file {seed}"), file, seed),
-            &mut tally,
-        );
-    }
-    println!("files of seeds: {tally:?}");
-    for number in (1..=9).chain([11]) {
-        let times = tally.analyzed[number].min(tally.asked[number]);
-        assert!(times >= OFTEN, "{number} was met {times} times only");
+    let tally = compare_seeds("file", FILE_SEEDS, file_of_seed);
+    for met in [tally.analyzed, tally.asked] {
+        met.check((BAD_LINE..=SHEET_LENGTH).chain([WORK_LENGTH]), OFTEN);
     }
 }
 
@@ -309,19 +279,13 @@ fn named_files_agree() {
 }
 
 /// A fresh working by the library alone: the marked numbers and the three counts.
-fn worked(file: &[u8]) -> (Vec<usize>, [u32; 3]) {
+fn worked(file: &[u8]) -> (Vec<usize>, Counts) {
     let (mut marks, mut work) = (vec![0xA5; SHEET_SIZE], vec![0x5A; SHEET_SIZE]);
     let answer = desk::analyze(file, &mut marks, &mut work);
     assert_eq!((answer.refusal, answer.line), (0, 0));
     assert!(marks.iter().all(|&byte| byte <= 1));
     assert!(work.iter().all(|&byte| byte == 0));
-    let marked = (0..SHEET_SIZE).filter(|&number| marks[number] == 1);
-    let counts = [
-        answer.value.standings,
-        answer.value.findings,
-        answer.value.takings,
-    ];
-    (marked.collect(), counts)
+    (marked(&marks), answer.value)
 }
 
 /// The list of findings by the library alone.
@@ -341,40 +305,23 @@ fn listed(file: &[u8]) -> Vec<u32> {
     }
 }
 
-/// The sample with some lines in place of the lines from one to another, both counted from 1, and
-/// with its end count made right.
-fn edited(first: usize, last: usize, lines: &[&str]) -> Vec<u8> {
-    let sample = String::from_utf8(sample::FILE.to_vec()).expect("digits");
-    let mut text: Vec<&str> = sample.lines().collect();
-    text.splice(first - 1..last, lines.iter().copied());
-    text.pop();
-    let end = format!("45{:04X}", text.len());
-    text.push(&end);
-    format!("{}\n", text.join("\n")).into_bytes()
-}
-
 #[test]
 fn cases_worked_out_by_hand() {
-    let five = vec![0, 65, 129, 1024, 1089];
-    assert_eq!(worked(sample::FILE), (five.clone(), [5, 0, 6]));
-    assert_eq!(listed(sample::FILE), []);
-    let no_start = edited(11, 11, &[]);
-    assert_eq!(worked(&no_start), (vec![], [0, 0, 0]));
-    let entry_forbidden = edited(12, 12, &["4600", "4602"]);
-    assert_eq!(worked(&entry_forbidden), (five, [5, 2, 6]));
-    assert_eq!(listed(&entry_forbidden), [0, 1024]);
-    let main_calls_main = edited(4, 6, &["5300004001"]);
-    assert_eq!(worked(&main_calls_main), (vec![0], [1, 0, 1]));
-    let faulty = edited(4, 4, &["5300000102", "5300004102"]);
-    assert_eq!(faulty, include_bytes!("../../examples/F_fault.txt"));
-    assert_eq!(listed(&faulty), [130]);
-    let never_returns = edited(6, 6, &[]);
-    assert_eq!(worked(&never_returns), (vec![0, 1024], [2, 0, 2]));
+    for case in cases::analyses::all() {
+        let counts = Counts {
+            standings: case.standings.len() as u32,
+            findings: case.findings.len() as u32,
+            takings: case.takings,
+        };
+        let wanted = (case.standings, counts);
+        assert_eq!(worked(&case.file), wanted, "{}", case.name);
+        assert_eq!(listed(&case.file), case.findings, "{}", case.name);
+    }
 }
 
 #[test]
 fn each_byte_of_a_sheet_counts() {
-    let own = analysis::analyze(&sample::program()).sheet;
+    let own = own_sheet(&sample::program());
     let mut work = vec![0xA5; SHEET_SIZE];
     for at in 0..SHEET_SIZE {
         let mut sheet = own.clone();
@@ -384,8 +331,7 @@ fn each_byte_of_a_sheet_counts() {
             own[at] ^ 2
         };
         let answer = desk::next_violation(sample::FILE, &sheet, &mut work, 0);
-        let answer = (answer.refusal, answer.line, answer.value);
-        assert_eq!(answer, (17, 0, 0), "byte {at}");
+        assert_eq!(answer, Answer::refused(FOREIGN_SHEET, 0), "byte {at}");
     }
     let answer = desk::next_violation(sample::FILE, &own, &mut work, 0);
     assert_eq!((answer.refusal, answer.value), (0, NONE));
@@ -393,7 +339,7 @@ fn each_byte_of_a_sheet_counts() {
 
 #[test]
 fn a_list_can_be_asked_from_any_number() {
-    let file = edited(12, 12, &["4600", "4602"]);
+    let file = cases::analyses::entry_forbidden();
     let analysis = analysis::analyze(&file::read(&file).expect("accepted"));
     let mut work = vec![0; SHEET_SIZE];
     let far = (14..32).map(|power| 1 << power).chain([NONE - 1, NONE]);

@@ -29,7 +29,8 @@ pub fn all() -> Vec<InputCase> {
     cases.extend(lengths());
     cases.extend(refused_files());
     cases.extend(edits_after_the_sample());
-    cases.extend(limits());
+    cases.extend(routines_and_steps());
+    cases.extend(states_and_labels());
     cases
 }
 
@@ -99,7 +100,6 @@ fn refused_files() -> Vec<InputCase> {
 }
 
 fn edits_after_the_sample() -> Vec<InputCase> {
-    let no_0a_twice = "\n2B00000102\n2D";
     let file = String::from_utf8_lossy(sample::FILE);
     vec![
         after_sample("no 0A after an edit", "2B00000102", &[NO_EDIT]),
@@ -109,8 +109,8 @@ fn edits_after_the_sample() -> Vec<InputCase> {
             &[BROKEN, NO_EDIT],
         ),
         after_sample(
-            "no edit about one",
-            no_0a_twice,
+            "an edit between two lines that are none",
+            "\n2B00000102\n2D",
             &[NO_EDIT, BROKEN, NO_EDIT],
         ),
         after_sample("the file twice", &file, &[NO_EDIT; 13]),
@@ -131,45 +131,40 @@ fn edits_after_the_sample() -> Vec<InputCase> {
     ]
 }
 
-/// 16 and 17 routines, 256 and 257 steps, Q 8 and 9, label 1F and 20.
-fn limits() -> Vec<InputCase> {
-    let small = |sizes: &str, step: &str, edit: &str| {
-        format!("{sizes}\n520002\n{step}\n4900\n450004\n{edit}")
-    };
-    let one = "5A00010000\n";
+/// 16 and 17 routines, 256 and 257 steps.
+fn routines_and_steps() -> Vec<InputCase> {
     let many = |count: usize, edits: &[u8]| [&full_steps(count), edits].concat();
     let about_256 = many(256, b"2B0F0F4F0F\n2D00000F0F\n2B0F0F4F0F\n");
-    let up_to_256 = many(255, b"2B0F0F4F0F\n2B0F0F4F0E\n");
+    let about_256_printed = [EMPTY, "2110\n", EMPTY, EMPTY].concat();
+    let up_to_257 = many(255, b"2B0F0F4F0F\n2B0F0F4F0E\n");
+    let up_to_257_printed = [EMPTY, EMPTY, "2110\n"].concat();
     vec![
         case("16 routines", with_routines(16), EMPTY),
         case("17 routines", with_routines(17), "21050001\n"),
-        case(
-            "256 steps",
-            about_256,
-            [EMPTY, "2110\n", EMPTY, EMPTY].concat(),
-        ),
+        case("256 steps", about_256, about_256_printed),
         case("257 steps", full_steps(257), "21060112\n"),
+        case("255 steps and two more", up_to_257, up_to_257_printed),
+    ]
+}
+
+/// Q 8 and 9, label 1F and 20.
+fn states_and_labels() -> Vec<InputCase> {
+    let small = |sizes: &str, step: &str, edit: &str| {
+        format!("{sizes}\n520002\n{step}\n4900\n450004\n{edit}")
+    };
+    let states = |sizes: &str| small(sizes, "5300000001", "");
+    let label = |step: &str| small("50010120", step, "");
+    let edit = |edit: &str| small("50010120", "5300001E01", edit);
+    let one = "5A00010000\n";
+    vec![
+        case("Q 8", states("50010801"), one),
+        case("Q 9", states("50010901"), "21050001\n"),
+        case("label 1F", label("5300001F01"), one),
+        case("label 20", label("5300002001"), "21050003\n"),
+        case("edit to label 1F", edit("2B00001F01\n"), one.repeat(2)),
         case(
-            "255 steps and two more",
-            up_to_256,
-            [EMPTY, EMPTY, "2110\n"].concat(),
-        ),
-        case("Q 8", small("50010801", "5300000001", ""), one),
-        case("Q 9", small("50010901", "5300000001", ""), "21050001\n"),
-        case("label 1F", small("50010120", "5300001F01", ""), one),
-        case(
-            "label 20",
-            small("50010120", "5300002001", ""),
-            "21050003\n",
-        ),
-        case(
-            "label 1F as an edit",
-            small("50010120", "5300001E01", "2B00001F01\n"),
-            one.repeat(2),
-        ),
-        case(
-            "label 20 as an edit",
-            small("50010120", "5300001E01", "2B00002001\n"),
+            "edit to label 20",
+            edit("2B00002001\n"),
             [one, "210D\n"].concat(),
         ),
     ]

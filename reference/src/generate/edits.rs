@@ -6,7 +6,7 @@
 
 use crate::generate::random::Random;
 use crate::model::edit::Edit;
-use crate::model::lines::{line_of, lines, numbers_of_line};
+use crate::model::lines::{line_of, numbers_of_line};
 use crate::model::program::{Label, Program, Step, EXIT, FIRST_CALL};
 
 /// A line for a program as it is now, with its sheet. What it had at home, before any edit, comes
@@ -59,13 +59,18 @@ fn some_step(random: &mut Random, program: &Program) -> Step {
     }
 }
 
-/// One of the steps that begin where something is marked, if there is one.
-fn step_that_acts(random: &mut Random, program: &Program, sheet: &[u8]) -> Step {
+/// The steps that begin where something is marked.
+pub fn steps_that_act(program: &Program, sheet: &[u8]) -> Vec<Step> {
     let acts = |step: &&Step| {
         let place = 16 * usize::from(step.routine) + usize::from(step.from);
         sheet[64 * place..64 * (place + 1)].contains(&1)
     };
-    let steps: Vec<Step> = program.steps.iter().filter(acts).copied().collect();
+    program.steps.iter().filter(acts).copied().collect()
+}
+
+/// One of the steps that begin where something is marked, if there is one.
+fn step_that_acts(random: &mut Random, program: &Program, sheet: &[u8]) -> Step {
+    let steps = steps_that_act(program, sheet);
     if steps.is_empty() {
         some_step(random, program)
     } else {
@@ -236,21 +241,19 @@ fn no_edit(random: &mut Random, edit: Edit) -> Vec<u8> {
     }
 }
 
-/// Whether a text can stand as a line of its own among others.
-pub fn is_one_line(text: &[u8]) -> bool {
-    lines(text).len() == 1 && text.ends_with(b"\n")
-}
-
 #[cfg(test)]
 mod tests {
     use super::*;
-    use crate::generate::programs::{program_of_seed, program_of_shape, Shape};
+    use crate::generate::met::Met;
+    use crate::generate::programs::{program_of_seed, program_of_shape};
+    use crate::generate::shapes::Shape;
     use crate::model::analysis::own_sheet;
     use crate::model::edit::edited_by_line;
+    use crate::model::refusals::{BAD_EDIT, STEPS_FULL};
 
     #[test]
     fn most_lines_are_accepted_and_each_refusal_is_met() {
-        let mut met = [0; 17];
+        let mut met = Met::default();
         for seed in 0..4000 {
             let random = &mut Random::new(seed);
             let home = if seed % 20 == 0 {
@@ -260,10 +263,10 @@ mod tests {
             };
             let line = line(random, &home, &home, &own_sheet(&home));
             let after = edited_by_line(&home, &line);
-            met[after.err().unwrap_or(0) as usize] += 1;
+            met.note(after.err().unwrap_or(0));
         }
         println!("{met:?}");
-        assert!(met[0] >= 2000, "{met:?}");
-        assert!(met[12..].iter().all(|&times| times >= 20), "{met:?}");
+        met.check([0], 2000);
+        met.check(BAD_EDIT..=STEPS_FULL, 20);
     }
 }

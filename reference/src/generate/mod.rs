@@ -1,13 +1,20 @@
 //! The generators: whatever the library and the model are tried on, the same from the same seed.
 //!
 //! - `random` is the source of numbers.
-//! - `files` makes files for reading: programs of every size, damaged ones, and hardly files at all.
-//! - `programs` makes programs for the analysis, in which much can happen.
-//! - `edits` makes edit lines, `sheets` makes sheets, and `calls` makes the calls of a list.
+//! - `files` makes files for reading: programs of every size, damaged ones, and hardly files at all;
+//!   `damage` does the damage.
+//! - `programs` makes programs for the analysis, in which much can happen, by plans for the `shapes`.
+//! - `edits` makes edit lines, `sheets` makes sheets, `calls` makes the calls of a list, and `inputs`
+//!   makes inputs of `bench`.
+//! - `met` counts what they have met.
 
 pub mod calls;
+pub mod damage;
 pub mod edits;
 pub mod files;
+pub mod inputs;
+pub mod met;
 pub mod programs;
 pub mod random;
+pub mod shapes;
 pub mod sheets;

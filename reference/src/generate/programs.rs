@@ -5,204 +5,31 @@
 //! needed. The shapes differ in what calls what, and in how much there is of everything.
 
 use crate::generate::random::Random;
-use crate::model::program::{Label, Program, RuleLine, Step, EXIT, TABLE_ROWS};
+use crate::generate::shapes::{plan, shape_by_shares, Callees, Plan, Shape, Shares};
+use crate::model::program::{Label, Program, RuleLine, Step, EXIT};
 use std::collections::BTreeSet;
-
-/// What a program is to be like.
-#[derive(Clone, Copy, Debug, PartialEq, Eq)]
-pub enum Shape {
-    /// A few standings, to be followed by hand.
-    Tiny,
-    /// Routines that call themselves and each other in circles.
-    Recursive,
-    /// Many routines and no circles: each calls only later ones.
-    Wide,
-    /// Nothing in particular, of middling size.
-    Mixed,
-    /// All that a file can hold: 16 routines of 16 places, 8 states, full tables.
-    Full,
-    /// As many steps as a file can hold, or nearly so, and few states.
-    Crowded,
-    /// Small routines that call later ones only, each with hardly a step too many.
-    Layered,
-}
-
-pub const SHAPES: [Shape; 7] = [
-    Shape::Tiny,
-    Shape::Recursive,
-    Shape::Wide,
-    Shape::Mixed,
-    Shape::Full,
-    Shape::Crowded,
-    Shape::Layered,
-];
 
 /// The program that belongs to a seed. Few are full, as these take long.
 pub fn program_of_seed(seed: u64) -> Program {
-    let random = &mut Random::new(seed);
-    let shape = match random.below(100) {
-        0..=36 => Shape::Tiny,
-        37..=69 => Shape::Recursive,
-        70..=76 => Shape::Wide,
-        77..=97 => Shape::Mixed,
-        _ => Shape::Full,
-    };
+    let shares = [
+        (37, Shape::Tiny),
+        (33, Shape::Recursive),
+        (7, Shape::Wide),
+        (21, Shape::Mixed),
+        (2, Shape::Full),
+    ];
+    program_by_shares(&mut Random::new(seed), &shares)
+}
+
+/// A program of some shape, by the shares.
+pub fn program_by_shares(random: &mut Random, shares: &Shares) -> Program {
+    let shape = shape_by_shares(random, shares);
     program_of_shape(random, shape)
 }
 
 pub fn program_of_shape(random: &mut Random, shape: Shape) -> Program {
-    let plan = match shape {
-        Shape::Tiny => tiny(random),
-        Shape::Recursive => recursive(random),
-        Shape::Wide => wide(random),
-        Shape::Mixed => mixed(random),
-        Shape::Full => full(random),
-        Shape::Crowded => crowded(random),
-        Shape::Layered => layered(random),
-    };
+    let plan = plan(random, shape);
     program_to_plan(random, &plan)
-}
-
-/// Which routines a routine calls.
-#[derive(Clone, Copy)]
-enum Callees {
-    Any,
-    /// Itself, its neighbours, and main.
-    Circles,
-    /// Later ones only; the last calls none.
-    Later,
-    /// Later ones only, and mostly the next.
-    Next,
-}
-
-struct Plan {
-    routines: usize,
-    least_places: usize,
-    most_places: usize,
-    states: usize,
-    actions: usize,
-    steps: usize,
-    rule: usize,
-    callees: Callees,
-    calls_in_a_hundred: usize,
-    /// How many of a hundred routines have steps to their exit.
-    return_in_a_hundred: usize,
-    /// Whether every state has a rule line for every action, as far as there is room.
-    rule_is_total: bool,
-}
-
-fn tiny(random: &mut Random) -> Plan {
-    Plan {
-        routines: random.between(1, 3),
-        least_places: 2,
-        most_places: random.between(2, 4),
-        states: random.between(1, 3),
-        actions: random.between(1, 2),
-        steps: random.between(0, 7),
-        rule: random.between(0, 6),
-        callees: random.pick(&[Callees::Any, Callees::Circles, Callees::Later]),
-        calls_in_a_hundred: random.pick(&[20, 40, 60]),
-        return_in_a_hundred: random.pick(&[50, 80, 100]),
-        rule_is_total: random.percent(50),
-    }
-}
-
-fn recursive(random: &mut Random) -> Plan {
-    Plan {
-        routines: random.between(1, 6),
-        least_places: 2,
-        most_places: random.between(3, 7),
-        states: random.between(2, 8),
-        actions: random.between(1, 4),
-        steps: random.between(6, 40),
-        rule: random.between(4, 30),
-        callees: Callees::Circles,
-        calls_in_a_hundred: random.pick(&[30, 40, 50]),
-        return_in_a_hundred: random.pick(&[60, 90, 100]),
-        rule_is_total: random.percent(70),
-    }
-}
-
-fn wide(random: &mut Random) -> Plan {
-    Plan {
-        routines: random.between(6, 16),
-        least_places: 4,
-        most_places: random.between(6, 16),
-        states: random.between(3, 8),
-        actions: random.between(2, 32),
-        steps: random.between(80, 200),
-        rule: random.between(20, 256),
-        callees: Callees::Later,
-        calls_in_a_hundred: random.pick(&[15, 25, 40]),
-        return_in_a_hundred: random.pick(&[80, 95, 100]),
-        rule_is_total: random.percent(80),
-    }
-}
-
-fn mixed(random: &mut Random) -> Plan {
-    Plan {
-        routines: random.between(2, 10),
-        least_places: 2,
-        most_places: random.between(3, 12),
-        states: random.between(1, 8),
-        actions: random.between(1, 16),
-        steps: random.between(5, 90),
-        rule: random.between(2, 80),
-        callees: random.pick(&[Callees::Any, Callees::Circles, Callees::Later]),
-        calls_in_a_hundred: random.pick(&[10, 30, 60]),
-        return_in_a_hundred: random.pick(&[50, 80, 100]),
-        rule_is_total: random.percent(60),
-    }
-}
-
-fn full(random: &mut Random) -> Plan {
-    Plan {
-        routines: 16,
-        least_places: random.pick(&[8, 12, 16]),
-        most_places: 16,
-        states: 8,
-        actions: random.pick(&[4, 6, 8, 16, 32]),
-        steps: TABLE_ROWS,
-        rule: TABLE_ROWS,
-        callees: random.pick(&[Callees::Any, Callees::Any, Callees::Circles, Callees::Later]),
-        calls_in_a_hundred: random.pick(&[10, 20, 30, 50]),
-        return_in_a_hundred: random.pick(&[90, 100]),
-        rule_is_total: true,
-    }
-}
-
-fn crowded(random: &mut Random) -> Plan {
-    Plan {
-        routines: random.between(8, 16),
-        least_places: 6,
-        most_places: random.between(8, 16),
-        states: random.between(1, 2),
-        actions: random.between(2, 8),
-        steps: TABLE_ROWS - random.pick(&[0, 0, 0, 1, 2]),
-        rule: random.between(2, 12),
-        callees: random.pick(&[Callees::Any, Callees::Circles, Callees::Later]),
-        calls_in_a_hundred: random.pick(&[20, 40, 60]),
-        return_in_a_hundred: random.pick(&[60, 90, 100]),
-        rule_is_total: random.percent(50),
-    }
-}
-
-fn layered(random: &mut Random) -> Plan {
-    let routines = random.between(3, 8);
-    let most_places = random.between(2, 4);
-    Plan {
-        routines,
-        least_places: 2,
-        most_places,
-        states: random.between(2, 4),
-        actions: random.between(1, 3),
-        steps: routines * (most_places - 1) + random.between(0, routines),
-        rule: random.between(2, 12),
-        callees: Callees::Next,
-        calls_in_a_hundred: random.pick(&[40, 60, 80]),
-        return_in_a_hundred: random.pick(&[90, 100]),
-        rule_is_total: true,
-    }
 }
 
 fn program_to_plan(random: &mut Random, plan: &Plan) -> Program {
@@ -249,25 +76,10 @@ fn steps(random: &mut Random, plan: &Plan, places: &[u8]) -> BTreeSet<Step> {
         let room = plan.steps.saturating_sub(steps.len());
         steps.extend(needed.into_iter().take(room));
     }
-    fill(random, &mut steps, plan.steps, |random| {
+    random.filled(steps, plan.steps, |random| {
         let routine = random.below(plan.routines);
         other_step(random, plan, routine, places[routine], ends[routine])
-    });
-    steps
-}
-
-/// Puts things in until there are so many, or until a fair number of tries finds no more.
-fn fill<T: Ord>(
-    random: &mut Random,
-    set: &mut BTreeSet<T>,
-    count: usize,
-    mut one: impl FnMut(&mut Random) -> T,
-) {
-    let mut tries = 0;
-    while set.len() < count && tries < 20 * count {
-        set.insert(one(random));
-        tries += 1;
-    }
+    })
 }
 
 /// Steps that lead from the entry to every other place, the exit only where the routine ends.
@@ -348,12 +160,18 @@ fn rule(random: &mut Random, plan: &Plan) -> BTreeSet<RuleLine> {
             }
         }
     }
-    fill(random, &mut lines, plan.rule, |random| RuleLine {
-        from: random.below(plan.states) as u8,
-        action: random.below(plan.actions) as u8,
-        to: random.below(plan.states) as u8,
-    });
-    lines
+    random.filled(lines, plan.rule, |random| {
+        rule_line(random, plan.states, plan.actions)
+    })
+}
+
+/// Any rule line for so many states and actions.
+pub fn rule_line(random: &mut Random, states: usize, actions: usize) -> RuleLine {
+    RuleLine {
+        from: random.below(states) as u8,
+        action: random.below(actions) as u8,
+        to: random.below(states) as u8,
+    }
 }
 
 /// The program that takes one standing as often as any can be taken: main's entry calls all 16

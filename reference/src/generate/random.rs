@@ -1,5 +1,7 @@
 //! A small source of numbers that look random and come back the same from the same seed.
 
+use std::collections::BTreeSet;
+
 /// The state of the source. Each number is mixed from a counter (the method called splitmix64).
 #[derive(Clone, Debug)]
 pub struct Random {
@@ -48,6 +50,22 @@ impl Random {
     /// One of the row, which is not empty.
     pub fn pick<T: Copy>(&mut self, row: &[T]) -> T {
         row[self.below(row.len())]
+    }
+
+    /// The set with things put in until there are so many, or until a fair number of tries finds no
+    /// more.
+    pub fn filled<T: Ord>(
+        &mut self,
+        mut set: BTreeSet<T>,
+        count: usize,
+        mut one: impl FnMut(&mut Random) -> T,
+    ) -> BTreeSet<T> {
+        let mut tries = 0;
+        while set.len() < count && tries < 20 * count {
+            set.insert(one(self));
+            tries += 1;
+        }
+        set
     }
 }
 

@@ -5,6 +5,19 @@ use crate::generate::random::Random;
 use crate::model::analysis::own_sheet;
 use crate::model::standing::{marked, SHEET_SIZE};
 
+/// Lengths that a sheet or a working buffer may not have.
+const WRONG_LENGTHS: [usize; 7] = [0, 1, 16, 8192, 16_383, 16_385, 20_000];
+
+pub fn wrong_length(random: &mut Random) -> usize {
+    random.pick(&WRONG_LENGTHS)
+}
+
+/// Lengths of a sheet and a working buffer, at least one of them a wrong one.
+pub fn wrong_lengths(random: &mut Random) -> (usize, usize) {
+    let (one, other) = (wrong_length(random), wrong_length(random));
+    random.pick(&[(one, other), (one, SHEET_SIZE), (SHEET_SIZE, one)])
+}
+
 /// How many ways there are to make a foreign sheet.
 pub const FOREIGN: usize = 6;
 

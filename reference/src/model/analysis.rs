@@ -66,8 +66,9 @@ impl Analysis {
 mod tests {
     use super::*;
     use crate::cases::{self, sample};
-    use crate::generate::programs::{hub, program_of_seed, program_of_shape, Shape};
+    use crate::generate::programs::{hub, program_of_seed, program_of_shape};
     use crate::generate::random::Random;
+    use crate::generate::shapes::Shape;
     use crate::model::file::read;
     use crate::model::least::least_set;
     use crate::model::runs::search;

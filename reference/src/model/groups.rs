@@ -126,8 +126,9 @@ mod tests {
     use super::*;
     use crate::cases::small::program;
     use crate::generate::edits;
-    use crate::generate::programs::{program_of_shape, Shape};
+    use crate::generate::programs::program_of_shape;
     use crate::generate::random::Random;
+    use crate::generate::shapes::Shape;
     use crate::model::edit::{edit_of_line, edited};
     use crate::model::inside_out;
 

@@ -109,12 +109,15 @@ impl ByBook {
 mod tests {
     use super::*;
     use crate::generate::calls::call;
-    use crate::generate::programs::{program_of_seed, program_of_shape, Shape};
+    use crate::generate::met::Met;
+    use crate::generate::programs::{program_of_seed, program_of_shape};
     use crate::generate::random::Random;
+    use crate::generate::shapes::Shape;
+    use crate::model::refusals::{BAD_LINE, FOREIGN_SHEET, OUTPUT_SHORT, SHEET_LENGTH, STEPS_FULL};
 
     #[test]
     fn the_book_foretells_what_the_repairs_leave() {
-        let mut met = [0; 18];
+        let mut met = Met::default();
         for seed in 0..150 {
             let random = &mut Random::new(seed);
             let home = match seed % 15 {
@@ -131,12 +134,13 @@ mod tests {
                 let (given, wanted) = (repairs.call(&call), book.call(&call));
                 assert_eq!(given.answer, wanted.answer, "seed {seed}, call {number}");
                 assert!(given == wanted, "seed {seed}, call {number}");
-                met[given.answer.refusal as usize] += 1;
+                met.note(given.answer.refusal);
             }
         }
         println!("{met:?}");
-        assert!(met[0] >= 3000, "{met:?}");
-        assert!(met[10..17].iter().all(|&times| times >= 20), "{met:?}");
-        assert_eq!(met[1..10].iter().sum::<usize>() + met[17], 0);
+        met.check([0], 3000);
+        met.check(OUTPUT_SHORT..=STEPS_FULL, 20);
+        let others = (BAD_LINE..=SHEET_LENGTH).chain([FOREIGN_SHEET]);
+        assert_eq!(others.map(|number| met.times(number)).sum::<usize>(), 0);
     }
 }

@@ -3,11 +3,15 @@
 #![allow(dead_code)]
 
 pub mod lent;
+pub mod lists;
 pub mod trial;
 
 use reference::model::calls::repairs::{Buffers, Repair, Repaired};
 use reference::model::calls::sheets::Counts;
 use reference::model::calls::Answer;
+use reference::model::program::Program;
+use reference::model::standing::{marked, SHEET_SIZE};
+use reference::model::write::write as write_program;
 
 /// An answer in the reference's words, its value made from the numbers that C gets.
 fn in_words<const N: usize, V>(
@@ -59,6 +63,16 @@ pub fn next_violation(file: &[u8], marks: &[u8], work: &mut [u8], from: u32) -> 
 pub fn prune(file: &[u8], marks: &mut [u8], work: &mut [u8]) -> Answer<()> {
     let (marks, work) = (unless_empty_mut(marks), unless_empty_mut(work));
     in_words(binding::prune(unless_empty(file), marks, work), |[]| ())
+}
+
+/// A keeping by the library alone: the numbers that stay.
+pub fn kept(program: &Program, sheet: &[u8]) -> Vec<usize> {
+    let (mut sheet, mut work) = (sheet.to_vec(), vec![7; SHEET_SIZE]);
+    let answer = prune(&write_program(program), &mut sheet, &mut work);
+    assert_eq!((answer.refusal, answer.line), (0, 0));
+    assert!(sheet.iter().all(|&byte| byte <= 1));
+    assert!(work.iter().all(|&byte| byte == 0));
+    marked(&sheet)
 }
 
 /// A repair, with NULL for each buffer of no bytes.

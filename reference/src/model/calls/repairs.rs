@@ -9,7 +9,8 @@ use crate::model::file::Reading;
 use crate::model::groups::reopened;
 use crate::model::program::Program;
 use crate::model::refusals::{refuse_if, Refused, FOREIGN_SHEET};
-use crate::model::write::write;
+use crate::model::standing::SHEET_SIZE;
+use crate::model::write::{write, OUTPUT_SIZE};
 
 /// Which of the two repairs is called.
 #[derive(Clone, Copy, Debug, PartialEq, Eq)]
@@ -46,6 +47,36 @@ pub struct Buffers<'a> {
     pub work: &'a mut [u8],
 }
 
+/// The same, as one holds it who lends it.
+#[derive(Clone)]
+pub struct Held {
+    pub sheet: Vec<u8>,
+    pub line: Vec<u8>,
+    pub output: Vec<u8>,
+    pub work: Vec<u8>,
+}
+
+impl Held {
+    /// A program's own sheet, a line, and buffers of the right lengths, filled with sevens.
+    pub fn for_line(program: &Program, line: &[u8]) -> Held {
+        Held {
+            sheet: own_sheet(program),
+            line: line.to_vec(),
+            output: vec![7; OUTPUT_SIZE],
+            work: vec![7; SHEET_SIZE],
+        }
+    }
+
+    pub fn lend(&mut self) -> Buffers<'_> {
+        Buffers {
+            sheet: &mut self.sheet,
+            line: &self.line,
+            output: &mut self.output,
+            work: &mut self.work,
+        }
+    }
+}
+
 /// What the library has to answer to a repair of a file of this reading, and what it has to leave in
 /// all that is lent.
 pub fn repair_answer(repair: Repair, reading: &Reading, lent: &mut Buffers) -> Answer<Repaired> {
@@ -79,25 +110,12 @@ mod tests {
     use crate::cases::{self, sample};
     use crate::model::file::read;
     use crate::model::standing::marked;
-    use crate::model::standing::SHEET_SIZE;
-    use crate::model::write::OUTPUT_SIZE;
 
-    /// A repair with a program's own sheet: the answer, and the sheet that is left.
-    fn with_own_sheet(
-        repair: Repair,
-        program: &Program,
-        line: &[u8],
-    ) -> (Answer<Repaired>, Vec<u8>) {
-        let mut sheet = own_sheet(program);
-        let (mut output, mut work) = (vec![7; OUTPUT_SIZE], vec![7; SHEET_SIZE]);
-        let lent = &mut Buffers {
-            sheet: &mut sheet,
-            line,
-            output: &mut output,
-            work: &mut work,
-        };
-        let answer = repair_answer(repair, &Ok(program.clone()), lent);
-        (answer, sheet)
+    /// A repair with a program's own sheet: the answer, and what is left.
+    fn with_own_sheet(repair: Repair, program: &Program, line: &[u8]) -> (Answer<Repaired>, Held) {
+        let mut held = Held::for_line(program, line);
+        let answer = repair_answer(repair, &Ok(program.clone()), &mut held.lend());
+        (answer, held)
     }
 
     #[test]
@@ -106,7 +124,7 @@ mod tests {
             let (answer, left) = with_own_sheet(Repair::InsideOut, &case.program, case.line);
             assert_eq!(answer.refusal, case.refusal, "{}", case.name);
             assert_eq!(answer.value.reopened, case.reopened, "{}", case.name);
-            assert_eq!(marked(&left), case.left, "{}", case.name);
+            assert_eq!(marked(&left.sheet), case.left, "{}", case.name);
             if case.refusal != 0 {
                 assert_eq!(answer, Answer::refused(case.refusal, 0), "{}", case.name);
             }
@@ -124,25 +142,17 @@ mod tests {
 
     #[test]
     fn an_accepted_call_leaves_the_new_file_and_the_rest_of_the_output() {
-        let mut sheet = own_sheet(&sample::program());
-        let (mut output, mut work) = (vec![7; OUTPUT_SIZE + 1], vec![7; SHEET_SIZE]);
-        let answer = repair_answer(
-            Repair::Forward,
-            &Ok(sample::program()),
-            &mut Buffers {
-                sheet: &mut sheet,
-                line: b"2B00000102\n",
-                output: &mut output,
-                work: &mut work,
-            },
-        );
-        let file = write(&after(&sample::program(), "2B00000102"));
+        let sample = sample::program();
+        let mut held = Held::for_line(&sample, b"2B00000102\n");
+        held.output.push(7);
+        let answer = repair_answer(Repair::Forward, &Ok(sample.clone()), &mut held.lend());
+        let file = write(&after(&sample, "2B00000102"));
         assert_eq!((answer.refusal, answer.line), (0, 0));
         assert_eq!(answer.value.written as usize, file.len());
-        assert_eq!(&output[..file.len()], file);
-        assert!(output[file.len()..].iter().all(|&byte| byte == 7));
-        assert_eq!(marked(&sheet), [0, 65, 129, 130, 1024, 1089]);
-        assert!(work.iter().all(|&byte| byte == 0));
+        assert_eq!(&held.output[..file.len()], file);
+        assert!(held.output[file.len()..].iter().all(|&byte| byte == 7));
+        assert_eq!(marked(&held.sheet), [0, 65, 129, 130, 1024, 1089]);
+        assert!(held.work.iter().all(|&byte| byte == 0));
     }
 
     #[test]
@@ -170,23 +180,18 @@ mod tests {
             } else {
                 file.as_bytes()
             };
-            let (mut left, mut written) = (sheet.to_vec(), vec![7; output]);
-            let mut worked = vec![7; work];
-            let answer = repair_answer(
-                Repair::Forward,
-                &read(file),
-                &mut Buffers {
-                    sheet: &mut left,
-                    line: line.as_bytes(),
-                    output: &mut written,
-                    work: &mut worked,
-                },
-            );
-            assert_eq!((answer.refusal, answer.line), wanted);
-            assert_eq!((answer.value.written, left), (0, sheet.to_vec()));
-            assert!(written.iter().all(|&byte| byte == 7));
+            let mut held = Held {
+                sheet: sheet.to_vec(),
+                line: line.as_bytes().to_vec(),
+                output: vec![7; output],
+                work: vec![7; work],
+            };
+            let answer = repair_answer(Repair::Forward, &read(file), &mut held.lend());
+            assert_eq!(answer, Answer::refused(wanted.0, wanted.1));
+            assert_eq!(held.sheet, sheet);
+            assert_eq!(held.output, vec![7; output]);
             let byte = if wanted.0 == 17 { 0 } else { 7 };
-            assert_eq!(worked, vec![byte; work]);
+            assert_eq!(held.work, vec![byte; work]);
         }
     }
 

@@ -1,0 +1,209 @@
+//! The shapes of programs, and a plan for each: how much there is of everything.
+
+use crate::generate::random::Random;
+use crate::model::program::TABLE_ROWS;
+
+/// What a program is to be like.
+#[derive(Clone, Copy, Debug, PartialEq, Eq)]
+pub enum Shape {
+    /// A few standings, to be followed by hand.
+    Tiny,
+    /// Routines that call themselves and each other in circles.
+    Recursive,
+    /// Many routines and no circles: each calls only later ones.
+    Wide,
+    /// Nothing in particular, of middling size.
+    Mixed,
+    /// All that a file can hold: 16 routines of 16 places, 8 states, full tables.
+    Full,
+    /// As many steps as a file can hold, or nearly so, and few states.
+    Crowded,
+    /// Small routines that call later ones only, each with hardly a step too many.
+    Layered,
+}
+
+pub const SHAPES: [Shape; 7] = [
+    Shape::Tiny,
+    Shape::Recursive,
+    Shape::Wide,
+    Shape::Mixed,
+    Shape::Full,
+    Shape::Crowded,
+    Shape::Layered,
+];
+
+/// Some shapes, each with its share of the programs.
+pub type Shares = [(usize, Shape)];
+
+/// The shape whose turn it is, where each has as many turns in a row as its share.
+pub fn shape_in_turn(turn: usize, shares: &Shares) -> Shape {
+    let mut turns = shares
+        .iter()
+        .flat_map(|&(share, shape)| std::iter::repeat(shape).take(share));
+    turns.nth(turn % sum(shares)).expect("some share")
+}
+
+/// A shape, drawn by the shares.
+pub fn shape_by_shares(random: &mut Random, shares: &Shares) -> Shape {
+    shape_in_turn(random.below(sum(shares)), shares)
+}
+
+fn sum(shares: &Shares) -> usize {
+    shares.iter().map(|&(share, _)| share).sum()
+}
+
+/// Which routines a routine calls.
+#[derive(Clone, Copy)]
+pub enum Callees {
+    Any,
+    /// Itself, its neighbours, and main.
+    Circles,
+    /// Later ones only; the last calls none.
+    Later,
+    /// Later ones only, and mostly the next.
+    Next,
+}
+
+/// How large a program is to be, and what calls what.
+pub struct Plan {
+    pub routines: usize,
+    pub least_places: usize,
+    pub most_places: usize,
+    pub states: usize,
+    pub actions: usize,
+    pub steps: usize,
+    pub rule: usize,
+    pub callees: Callees,
+    pub calls_in_a_hundred: usize,
+    /// How many of a hundred routines have steps to their exit.
+    pub return_in_a_hundred: usize,
+    /// Whether every state has a rule line for every action, as far as there is room.
+    pub rule_is_total: bool,
+}
+
+/// A plan of this shape.
+pub fn plan(random: &mut Random, shape: Shape) -> Plan {
+    match shape {
+        Shape::Tiny => tiny(random),
+        Shape::Recursive => recursive(random),
+        Shape::Wide => wide(random),
+        Shape::Mixed => mixed(random),
+        Shape::Full => full(random),
+        Shape::Crowded => crowded(random),
+        Shape::Layered => layered(random),
+    }
+}
+
+fn tiny(random: &mut Random) -> Plan {
+    Plan {
+        routines: random.between(1, 3),
+        least_places: 2,
+        most_places: random.between(2, 4),
+        states: random.between(1, 3),
+        actions: random.between(1, 2),
+        steps: random.between(0, 7),
+        rule: random.between(0, 6),
+        callees: random.pick(&[Callees::Any, Callees::Circles, Callees::Later]),
+        calls_in_a_hundred: random.pick(&[20, 40, 60]),
+        return_in_a_hundred: random.pick(&[50, 80, 100]),
+        rule_is_total: random.percent(50),
+    }
+}
+
+fn recursive(random: &mut Random) -> Plan {
+    Plan {
+        routines: random.between(1, 6),
+        least_places: 2,
+        most_places: random.between(3, 7),
+        states: random.between(2, 8),
+        actions: random.between(1, 4),
+        steps: random.between(6, 40),
+        rule: random.between(4, 30),
+        callees: Callees::Circles,
+        calls_in_a_hundred: random.pick(&[30, 40, 50]),
+        return_in_a_hundred: random.pick(&[60, 90, 100]),
+        rule_is_total: random.percent(70),
+    }
+}
+
+fn wide(random: &mut Random) -> Plan {
+    Plan {
+        routines: random.between(6, 16),
+        least_places: 4,
+        most_places: random.between(6, 16),
+        states: random.between(3, 8),
+        actions: random.between(2, 32),
+        steps: random.between(80, 200),
+        rule: random.between(20, 256),
+        callees: Callees::Later,
+        calls_in_a_hundred: random.pick(&[15, 25, 40]),
+        return_in_a_hundred: random.pick(&[80, 95, 100]),
+        rule_is_total: random.percent(80),
+    }
+}
+
+fn mixed(random: &mut Random) -> Plan {
+    Plan {
+        routines: random.between(2, 10),
+        least_places: 2,
+        most_places: random.between(3, 12),
+        states: random.between(1, 8),
+        actions: random.between(1, 16),
+        steps: random.between(5, 90),
+        rule: random.between(2, 80),
+        callees: random.pick(&[Callees::Any, Callees::Circles, Callees::Later]),
+        calls_in_a_hundred: random.pick(&[10, 30, 60]),
+        return_in_a_hundred: random.pick(&[50, 80, 100]),
+        rule_is_total: random.percent(60),
+    }
+}
+
+fn full(random: &mut Random) -> Plan {
+    Plan {
+        routines: 16,
+        least_places: random.pick(&[8, 12, 16]),
+        most_places: 16,
+        states: 8,
+        actions: random.pick(&[4, 6, 8, 16, 32]),
+        steps: TABLE_ROWS,
+        rule: TABLE_ROWS,
+        callees: random.pick(&[Callees::Any, Callees::Any, Callees::Circles, Callees::Later]),
+        calls_in_a_hundred: random.pick(&[10, 20, 30, 50]),
+        return_in_a_hundred: random.pick(&[90, 100]),
+        rule_is_total: true,
+    }
+}
+
+fn crowded(random: &mut Random) -> Plan {
+    Plan {
+        routines: random.between(8, 16),
+        least_places: 6,
+        most_places: random.between(8, 16),
+        states: random.between(1, 2),
+        actions: random.between(2, 8),
+        steps: TABLE_ROWS - random.pick(&[0, 0, 0, 1, 2]),
+        rule: random.between(2, 12),
+        callees: random.pick(&[Callees::Any, Callees::Circles, Callees::Later]),
+        calls_in_a_hundred: random.pick(&[20, 40, 60]),
+        return_in_a_hundred: random.pick(&[60, 90, 100]),
+        rule_is_total: random.percent(50),
+    }
+}
+
+fn layered(random: &mut Random) -> Plan {
+    let routines = random.between(3, 8);
+    let most_places = random.between(2, 4);
+    Plan {
+        routines,
+        least_places: 2,
+        most_places,
+        states: random.between(2, 4),
+        actions: random.between(1, 3),
+        steps: routines * (most_places - 1) + random.between(0, routines),
+        rule: random.between(2, 12),
+        callees: Callees::Next,
+        calls_in_a_hundred: random.pick(&[40, 60, 80]),
+        return_in_a_hundred: random.pick(&[90, 100]),
+        rule_is_total: true,
+    }
+}

@@ -1,0 +1,132 @@
+//! Lists of repair calls, held against the book. The comparisons of both repairs share this.
+
+use super::lent::Lending;
+use super::trial::{compare, foreign_sheet, lending, Tally};
+use reference::generate::calls::call;
+use reference::generate::programs::program_of_shape;
+use reference::generate::random::Random;
+use reference::generate::shapes::{shape_in_turn, Shape, Shares};
+use reference::model::analysis::{analyze, own_sheet};
+use reference::model::calls::repairs::Repair;
+use reference::model::lists::{ByBook, Seen};
+use reference::model::program::Program;
+use reference::model::refusals::{FOREIGN_SHEET, OUTPUT_SHORT};
+use reference::model::standing::marked;
+use reference::model::write::write;
+
+/// How lists of calls are made. Each is by one of the rows of repairs, in turn, with shapes by their
+/// shares, also in turn.
+pub struct Lists<'a> {
+    pub first_seed: u64,
+    pub calls: usize,
+    pub shares: &'a Shares,
+    pub repairs: &'a [&'a [Repair]],
+    /// For a list of one large program.
+    pub large: &'a [Repair],
+}
+
+const LISTS: u64 = 60;
+/// How often each refusal has to be met, so that agreeing on it means something.
+const OFTEN: usize = 20;
+
+/// A full program with thousands of standings.
+fn large_home() -> Program {
+    let mut full = (0..).map(|seed| program_of_shape(&mut Random::new(seed), Shape::Full));
+    let large = full.find(|program| analyze(program).standings() >= 5_000);
+    large.expect("some are large")
+}
+
+/// Many lists of calls, by the library and by the book.
+pub fn compare_lists(plan: &Lists, tally: &mut Tally) {
+    for number in 0..LISTS {
+        let random = &mut Random::new(plan.first_seed + number);
+        let shape = shape_in_turn(number as usize, plan.shares);
+        let home = program_of_shape(random, shape);
+        let repairs = plan.repairs[number as usize % plan.repairs.len()];
+        let name = format!("list {number}");
+        list(&name, &home, plan.calls, repairs, random, tally);
+    }
+    let random = &mut Random::new(LISTS);
+    list("large", &large_home(), 15, plan.large, random, tally);
+    let refusals = (OUTPUT_SHORT..=FOREIGN_SHEET).chain([0]);
+    tally.met.check(refusals, OFTEN);
+    assert!(tally.largest_sheet >= 3_000, "{tally:?}");
+}
+
+/// A list of so many calls. At times a call that is no part of it comes in between.
+fn list(
+    name: &str,
+    home: &Program,
+    count: usize,
+    repairs: &[Repair],
+    random: &mut Random,
+    tally: &mut Tally,
+) {
+    let mut list = List {
+        home,
+        repairs,
+        book: ByBook::new(home),
+        file: write(home),
+        sheet: own_sheet(home),
+    };
+    for number in 0..count {
+        let name = format!("{name}, call {number}");
+        if random.percent(6) {
+            list.stray_call(&name, random, tally);
+        }
+        list.call(&name, random, tally);
+        let marks = marked(&list.sheet).len();
+        tally.largest_sheet = tally.largest_sheet.max(marks);
+    }
+    tally.lists += 1;
+}
+
+/// A list as it goes on: the book, and the file and the sheet as the library has left them.
+struct List<'a> {
+    home: &'a Program,
+    repairs: &'a [Repair],
+    book: ByBook,
+    file: Vec<u8>,
+    sheet: Vec<u8>,
+}
+
+impl List<'_> {
+    /// The next call, by the library and by the book.
+    fn call(&mut self, name: &str, random: &mut Random, tally: &mut Tally) {
+        let now = self.book.book.program.clone();
+        let repair = random.pick(self.repairs);
+        let mut call = call(random, self.home, &now, &self.book.sheet);
+        call.repair = repair;
+        let mut given = lending(random, &self.file, &self.sheet, &call);
+        let mut wanted = given.clone();
+        let answer = given.call(|file, lent| super::repair(repair, file, lent));
+        let seen = self.book.call(&call);
+        assert_eq!(answer, seen.answer, "{}", given.input(name));
+        expect(&mut wanted, &seen);
+        given.check_bytes(&wanted, name);
+        tally.note(repair, &answer, self.sheet != seen.sheet);
+        if answer.refusal == 0 {
+            tally.note_edit(&now, &call.line);
+            self.file = given.output.content()[..answer.value.written as usize].to_vec();
+        }
+        self.sheet = given.sheet.content().to_vec();
+    }
+
+    /// A call in the midst of a list that is no part of it: with a foreign sheet. It leaves no
+    /// trace.
+    fn stray_call(&self, name: &str, random: &mut Random, tally: &mut Tally) {
+        let now = &self.book.book.program;
+        let sheet = foreign_sheet(random, now, &self.sheet);
+        let repair = random.pick(self.repairs);
+        let call = call(random, now, now, &self.sheet);
+        let lending = lending(random, &self.file, &sheet, &call);
+        compare(name, repair, &lending, &Ok(now.clone()), tally);
+    }
+}
+
+/// Puts into the buffers what the book says of them.
+fn expect(lending: &mut Lending, seen: &Seen) {
+    lending.sheet.content_mut().copy_from_slice(&seen.sheet);
+    lending.output.content_mut().copy_from_slice(&seen.output);
+    lending.work.content_mut().copy_from_slice(&seen.work);
+}

@@ -1,0 +1,213 @@
+//! The proved library against the reference: the keeping.
+//!
+//! Every number of every answer is compared, and every byte of the sheet and of the working buffer,
+//! with the bytes that stand about them. A mismatch names the seed or the case and shows the input.
+
+mod desk;
+
+use desk::lent::{self, Lending, Lent};
+use reference::cases::keepings::{self, KeepingCase};
+use reference::cases::sample;
+use reference::generate::files::file_of_seed;
+use reference::generate::met::Met;
+use reference::generate::programs::{hub, program_by_shares, program_of_shape};
+use reference::generate::random::Random;
+use reference::generate::shapes::Shape;
+use reference::generate::sheets;
+use reference::model::analysis::own_sheet;
+use reference::model::calls::sheets::keep_answer;
+use reference::model::file::{read, Reading};
+use reference::model::program::Program;
+use reference::model::refusals::{BAD_LINE, SHEET_LENGTH, WORK_LENGTH};
+use reference::model::standing::{marked, SHEET_SIZE};
+use reference::model::write::write;
+
+/// How often each refusal has to be met, so that agreeing on it means something.
+const OFTEN: usize = 20;
+const SEEDS: u64 = 2_000;
+const FILE_SEEDS: u64 = 1_500;
+
+/// What the keepings have met.
+#[derive(Debug, Default)]
+struct Tally {
+    calls: usize,
+    met: Met,
+    /// Sheets of which something went and something stayed.
+    parted: usize,
+    /// Of these, the ones that kept less than the program's own sheet has.
+    less_than_own: usize,
+    /// Sheets that had other bytes than 0 and 1.
+    other_bytes: usize,
+}
+
+/// One keeping by the library and by the reference: the sheet that is left.
+fn compare(
+    name: &str,
+    file: &[u8],
+    reading: &Reading,
+    [sheet, work]: [&Lent; 2],
+    tally: &mut Tally,
+) -> Lent {
+    let (answer, left) = lent::compare(
+        name,
+        &Lending::sheet(file, sheet, work),
+        |file, lent| desk::prune(file, lent.sheet, lent.work),
+        |lent| keep_answer(reading, lent.sheet, lent.work),
+    );
+    tally.calls += 1;
+    tally.met.note(answer.refusal);
+    left.sheet
+}
+
+/// A sheet made in one way, with the program and at times with a step of it dropped.
+fn compare_sheet(
+    name: &str,
+    program: &Program,
+    way: usize,
+    random: &mut Random,
+    tally: &mut Tally,
+) {
+    let sheet = sheets::any(random, &own_sheet(program), way);
+    let edited = at_times_dropped(random, program);
+    let lent = Lent::new(random, &sheet);
+    let work = Lent::of_length(random, SHEET_SIZE);
+    let (name, file) = (format!("{name}, way {way}"), write(&edited));
+    let kept = compare(&name, &file, &Ok(edited.clone()), [&lent, &work], tally);
+    let (stayed, were) = (marked(kept.content()).len(), marked(&sheet).len());
+    let parted = stayed > 0 && stayed < were;
+    let own = marked(&own_sheet(&edited)).len();
+    tally.parted += usize::from(parted);
+    tally.less_than_own += usize::from(parted && stayed < own);
+    tally.other_bytes += usize::from(sheet.iter().any(|&byte| byte > 1));
+}
+
+/// The program, half of the times with a step less.
+fn at_times_dropped(random: &mut Random, program: &Program) -> Program {
+    let mut edited = program.clone();
+    let some_step = random.below(program.steps.len() + 1);
+    if let Some(step) = program.steps.iter().nth(some_step) {
+        if random.percent(50) {
+            edited.steps.remove(step);
+        }
+    }
+    edited
+}
+
+#[test]
+fn keepings_of_many_seeds_agree() {
+    let mut tally = Tally::default();
+    let shares = [
+        (45, Shape::Tiny),
+        (25, Shape::Recursive),
+        (25, Shape::Layered),
+        (4, Shape::Mixed),
+        (1, Shape::Crowded),
+    ];
+    for seed in 0..SEEDS {
+        let random = &mut Random::new(seed);
+        let program = program_by_shares(random, &shares);
+        let way = random.below(sheets::ANY);
+        compare_sheet(&format!("seed {seed}"), &program, way, random, &mut tally);
+    }
+    println!("keepings of seeds: {tally:?}");
+    assert!(tally.parted >= 500 && tally.other_bytes >= 500, "{tally:?}");
+    assert!(tally.less_than_own >= 200, "{tally:?}");
+}
+
+#[test]
+fn keepings_of_every_shape_agree() {
+    let mut tally = Tally::default();
+    let shapes = [
+        Shape::Tiny,
+        Shape::Recursive,
+        Shape::Wide,
+        Shape::Mixed,
+        Shape::Full,
+    ];
+    for (place, shape) in shapes.into_iter().enumerate() {
+        for way in 0..sheets::ANY {
+            let random = &mut Random::new((100 * place + way) as u64);
+            let program = program_of_shape(random, shape);
+            compare_sheet(&format!("{shape:?}"), &program, way, random, &mut tally);
+        }
+    }
+    for way in 0..sheets::ANY {
+        compare_sheet("hub", &hub(), way, &mut Random::new(way as u64), &mut tally);
+    }
+    println!("keepings of shapes: {tally:?}");
+}
+
+#[test]
+fn refused_keepings_agree() {
+    let mut tally = Tally::default();
+    for seed in 0..FILE_SEEDS {
+        let random = &mut Random::new(seed);
+        let file = file_of_seed(seed);
+        let (sheet, work) = sheets::wrong_lengths(random);
+        let sheet = Lent::of_length(random, sheet);
+        let work = Lent::of_length(random, work);
+        let name = format!("file {seed}");
+        compare(&name, &file, &read(&file), [&sheet, &work], &mut tally);
+    }
+    println!("refused keepings: {tally:?}");
+    let refusals = (BAD_LINE..=SHEET_LENGTH).chain([WORK_LENGTH]);
+    tally.met.check(refusals, OFTEN);
+}
+
+#[test]
+fn each_single_mark_and_each_single_gap_agrees() {
+    let mut tally = Tally::default();
+    let own = own_sheet(&sample::program());
+    let random = &mut Random::new(1);
+    for at in (0..SHEET_SIZE).step_by(31).chain(marked(&own)) {
+        let (mut mark, mut gap) = (own.clone(), vec![1; SHEET_SIZE]);
+        mark[at] = 1 - own[at];
+        gap[at] = 0;
+        for sheet in [mark, gap] {
+            let sheet = Lent::new(random, &sheet);
+            let work = Lent::of_length(random, SHEET_SIZE);
+            let (name, reading) = (format!("standing {at}"), Ok(sample::program()));
+            compare(&name, sample::FILE, &reading, [&sheet, &work], &mut tally);
+        }
+    }
+}
+
+/// Keepings by the library alone leave the numbers that they should.
+fn check(cases: &[KeepingCase]) {
+    for case in cases {
+        assert_eq!(desk::kept(&case.program, &case.sheet), case.left);
+    }
+}
+
+#[test]
+fn a_gap_on_the_sheet_cuts_off_what_lies_behind_it() {
+    check(&keepings::gaps());
+}
+
+#[test]
+fn a_call_that_never_returns_supports_the_called_entry() {
+    check(&keepings::unreturned_call());
+}
+
+#[test]
+fn main_called_in_another_state_is_no_start() {
+    check(&keepings::main_called_in_another_state());
+}
+
+#[test]
+fn two_routines_that_call_each_other_do_not_support_each_other() {
+    check(&keepings::no_outside_call());
+}
+
+#[test]
+fn buffers_of_no_bytes_may_be_null() {
+    let file = Some(sample::FILE);
+    assert_eq!(binding::prune(None, None, None), desk::refused(8, 1));
+    assert_eq!(binding::prune(file, None, None), desk::refused(9, 0));
+    let sheet = &mut [1; SHEET_SIZE];
+    assert_eq!(
+        binding::prune(file, Some(sheet), None),
+        desk::refused(11, 0)
+    );
+    assert_eq!(sheet, &[1; SHEET_SIZE]);
+}
