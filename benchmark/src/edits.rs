@@ -1,8 +1,9 @@
 //! How many edits a second the two repairs do, beside the analysis of the edited program.
 
-use crate::library::Buffers;
+use crate::library::{Buffers, Repair};
 use crate::{print_row, rates, Input};
-use reference::model::edit::{edited, Edit};
+use reference::generate::edits::steps_that_act;
+use reference::model::edit::{after, Edit};
 use reference::model::program::{Label, Program, Step};
 use reference::model::standing::SHEET_SIZE;
 use reference::model::write::write;
@@ -39,16 +40,18 @@ struct Task {
     changed: usize,
 }
 
-/// Whether a forward repair writes as much as it should.
-fn forward(task: &Task, buffers: &mut Buffers) -> bool {
+/// Whether a repair, which begins from the old marks, writes as much as it should.
+fn repair<const N: usize>(by: Repair<N>, task: &Task, buffers: &mut Buffers) -> bool {
     buffers.marks.copy_from_slice(&task.old_marks);
-    buffers.repair_forward(&task.old_file, &task.line) == task.new_file.len() as u32
+    buffers.repair(by, &task.old_file, &task.line) == task.new_file.len() as u32
 }
 
-/// The same for an inside-out repair.
+fn forward(task: &Task, buffers: &mut Buffers) -> bool {
+    repair(binding::repair_forward, task, buffers)
+}
+
 fn inside_out(task: &Task, buffers: &mut Buffers) -> bool {
-    buffers.marks.copy_from_slice(&task.old_marks);
-    buffers.repair_inside_out(&task.old_file, &task.line) == task.new_file.len() as u32
+    repair(binding::repair_inside_out, task, buffers)
 }
 
 /// Whether the analysis of the edited program counts what it should.
@@ -58,7 +61,7 @@ fn analysis(task: &Task, buffers: &mut Buffers) -> bool {
 
 /// An edit of a program, after all sides have done it and agree.
 fn task(old: &Program, edit: Edit) -> Task {
-    let new = edited(old, edit).expect("the edit is accepted");
+    let new = after(old, edit);
     let (old_file, new_file) = (write(old), write(&new));
     let mut buffers = Buffers::new();
     buffers.analyze(&old_file);
@@ -88,11 +91,7 @@ fn task(old: &Program, edit: Edit) -> Task {
 fn chosen_steps(input: &Input) -> Vec<Step> {
     let mut buffers = Buffers::new();
     buffers.analyze(&input.file);
-    let acts = |step: &&Step| {
-        let place = 16 * usize::from(step.routine) + usize::from(step.from);
-        buffers.marks[64 * place..64 * (place + 1)].contains(&1)
-    };
-    let steps: Vec<Step> = input.program.steps.iter().filter(acts).copied().collect();
+    let steps = steps_that_act(&input.program, &buffers.marks);
     let middle = |part: usize| steps[(2 * part + 1) * steps.len() / (2 * EDITS)];
     (0..EDITS).map(middle).collect()
 }
@@ -101,7 +100,7 @@ fn chosen_steps(input: &Input) -> Vec<Step> {
 /// then the calls, and then the first action again.
 fn next_label(program: &Program, step: Step) -> Label {
     let actions = (0..program.actions).map(Label::Action);
-    let calls = (0..program.places.len() as u8).map(Label::Call);
+    let calls = (0..program.routines()).map(Label::Call);
     let labels: Vec<Label> = actions.chain(calls).collect();
     let is_own = |&label: &Label| label == step.label;
     let is_new = |&label: &Label| !program.steps.contains(&Step { label, ..step });
@@ -115,7 +114,7 @@ fn next_label(program: &Program, step: Step) -> Label {
 }
 
 fn add(program: &Program, step: Step) -> Task {
-    let without = edited(program, Edit::Drop(step)).expect("the step is there");
+    let without = after(program, Edit::Drop(step));
     task(&without, Edit::Add(step))
 }
 

@@ -1,7 +1,17 @@
 //! The proved library, called again and again with the same buffers.
 
+use binding::Answer;
 use reference::model::standing::SHEET_SIZE;
 use reference::model::write::OUTPUT_SIZE;
+
+/// A repair, which takes a file, marks, an edit, an output and a working buffer.
+pub type Repair<const N: usize> = fn(
+    Option<&[u8]>,
+    Option<&mut [u8]>,
+    Option<&[u8]>,
+    Option<&mut [u8]>,
+    Option<&mut [u8]>,
+) -> Answer<N>;
 
 /// The sheet, the working buffer and the output. Nobody clears them between calls.
 pub struct Buffers {
@@ -27,22 +37,15 @@ impl Buffers {
         answer.values
     }
 
-    /// How many bytes a forward repair writes.
-    pub fn repair_forward(&mut self, file: &[u8], line: &[u8]) -> u32 {
+    /// How many bytes a repair writes.
+    pub fn repair<const N: usize>(&mut self, by: Repair<N>, file: &[u8], line: &[u8]) -> u32 {
+        let Buffers {
+            marks,
+            work,
+            output,
+        } = self;
         let (file, line) = (Some(file), Some(line));
-        let (marks, work) = (&mut self.marks[..], &mut self.work[..]);
-        let output = &mut self.output[..];
-        let answer = binding::repair_forward(file, Some(marks), line, Some(output), Some(work));
-        assert_eq!(answer.refusal, 0, "the edit is accepted");
-        answer.values[0]
-    }
-
-    /// The same for an inside-out repair.
-    pub fn repair_inside_out(&mut self, file: &[u8], line: &[u8]) -> u32 {
-        let (file, line) = (Some(file), Some(line));
-        let (marks, work) = (&mut self.marks[..], &mut self.work[..]);
-        let output = &mut self.output[..];
-        let answer = binding::repair_inside_out(file, Some(marks), line, Some(output), Some(work));
+        let answer = by(file, Some(marks), line, Some(output), Some(work));
         assert_eq!(answer.refusal, 0, "the edit is accepted");
         answer.values[0]
     }
