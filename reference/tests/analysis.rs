@@ -69,6 +69,10 @@ impl Case {
         }
     }
 
+    fn input(&self) -> String {
+        format!("{}: {}", self.name, self.file.escape_ascii())
+    }
+
     fn analysis(&self) -> Option<&Analysis> {
         self.analyzed.as_ref().ok()
     }
@@ -169,11 +173,11 @@ fn compare_list(case: &Case, marks: &Lent, work: &Lent, findings: &[u32], tally:
     let mut from = 0;
     for &finding in findings {
         let answer = compare_next(case, marks, work, from, tally);
-        assert_eq!(answer.value, finding, "{}", case.name);
+        assert_eq!(answer.value, finding, "{}", case.input());
         from = finding + 1;
     }
     let answer = compare_next(case, marks, work, from, tally);
-    assert_eq!(answer.value, NONE, "{}", case.name);
+    assert_eq!(answer.value, NONE, "{}", case.input());
     tally.lists += 1;
 }
 

@@ -15,6 +15,8 @@ use reference::generate::shapes::Shape;
 use reference::model::analysis::own_sheet;
 use reference::model::calls::repairs::Repair::Forward;
 use reference::model::file::read;
+use reference::model::kinds::DROP;
+use reference::model::lines::starts_with_kind;
 use reference::model::refusals::{BAD_EDIT, FOREIGN_SHEET, THERE_ALREADY};
 
 /// How often each refusal has to be met, so that agreeing on it means something.
@@ -111,7 +113,7 @@ fn a_forward_drop_is_the_keeping_on_the_old_sheet() {
         let random = &mut Random::new(seed);
         let before = trial::home(random);
         let line = edits::edit_in_range(random, &before);
-        if !line.starts_with(b"2D") {
+        if !starts_with_kind(&line, DROP) {
             continue;
         }
         let (answer, left, file) = trial::repaired(Forward, &before, &line);

@@ -5,7 +5,7 @@
 
 use crate::generate::random::Random;
 use crate::model::kinds::{count_of_numbers, END, FRAMES, ROUTINE, SIZES};
-use crate::model::lines::{line_of, lines};
+use crate::model::lines::{line_of, lines, starts_with_kind};
 use crate::model::program::FIRST_CALL;
 use crate::model::write::end;
 
@@ -42,20 +42,15 @@ pub fn mend(random: &mut Random, mut lines: Lines) -> Vec<u8> {
 /// Where a line stands by its kind; lines of no kind stand last.
 fn place_of_line(line: &[u8]) -> usize {
     let mut kinds = FRAMES.iter();
-    let place = kinds.position(|kind| is_of_kind(kind.number, line));
+    let place = kinds.position(|kind| starts_with_kind(line, kind.number));
     place.unwrap_or(FRAMES.len())
-}
-
-/// Whether a line begins as those of this kind do.
-fn is_of_kind(kind: u8, line: &[u8]) -> bool {
-    line.starts_with(format!("{kind:02X}").as_bytes())
 }
 
 /// Makes the last line's count right, if the last line is an end frame.
 fn correct_end_count(lines: &mut Lines) {
     let before = lines.len().saturating_sub(1);
     if let Some(last) = lines.last_mut() {
-        if is_of_kind(END, last) {
+        if starts_with_kind(last, END) {
             *last = line_of(&end(before));
         }
     }
@@ -176,7 +171,7 @@ fn telling_number(random: &mut Random, lines: &Lines) -> u8 {
 fn damage_frames(random: &mut Random, mut lines: Lines) -> Lines {
     let place = random.below(lines.len() + 1);
     let routines: Vec<usize> = (0..lines.len())
-        .filter(|&number| is_of_kind(ROUTINE, &lines[number]))
+        .filter(|&number| starts_with_kind(&lines[number], ROUTINE))
         .collect();
     let after_routines = routines.last().map_or(0, |last| last + 1);
     let some_routine = routines.get(random.below(routines.len() + 1)).copied();

@@ -8,6 +8,7 @@ use crate::generate::random::Random;
 use crate::model::edit::Edit;
 use crate::model::lines::{line_of, numbers_of_line};
 use crate::model::program::{Label, Program, Step, EXIT, FIRST_CALL};
+use crate::model::standing::numbers_at;
 
 /// A line for a program as it is now, with its sheet. What it had at home, before any edit, comes
 /// back at times.
@@ -61,10 +62,7 @@ fn some_step(random: &mut Random, program: &Program) -> Step {
 
 /// The steps that begin where something is marked.
 pub fn steps_that_act(program: &Program, sheet: &[u8]) -> Vec<Step> {
-    let acts = |step: &&Step| {
-        let place = 16 * usize::from(step.routine) + usize::from(step.from);
-        sheet[64 * place..64 * (place + 1)].contains(&1)
-    };
+    let acts = |step: &&Step| sheet[numbers_at(step.routine, step.from)].contains(&1);
     program.steps.iter().filter(acts).copied().collect()
 }
 

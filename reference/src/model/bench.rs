@@ -4,8 +4,8 @@
 use crate::model::analysis::analyze;
 use crate::model::edit::edited_by_line;
 use crate::model::file::read;
-use crate::model::kinds::{COUNTS, FINDING, REFUSED};
-use crate::model::lines::{line_of, lines, two_numbers};
+use crate::model::kinds::{COUNTS, END, FINDING, REFUSED};
+use crate::model::lines::{line_of, lines, starts_with_kind, two_numbers};
 use crate::model::program::Program;
 use crate::model::refusals::INPUT_LONG;
 use crate::model::standing::{Standing, SHEET_SIZE};
@@ -32,7 +32,7 @@ pub fn bench(input: &[u8]) -> Vec<u8> {
 /// such line. Each line after it is an edit.
 fn file_and_edits(input: &[u8]) -> (Vec<u8>, Vec<&[u8]>) {
     let mut lines = lines(input);
-    let end = lines.iter().position(|line| line.starts_with(b"45"));
+    let end = lines.iter().position(|line| starts_with_kind(line, END));
     let edits = match end {
         Some(end) => lines.split_off(end + 1),
         None => Vec::new(),
@@ -62,11 +62,10 @@ fn block(program: &Program) -> Vec<u8> {
         let at = Standing::of_number(finding as usize);
         printed.extend(line_of(&[FINDING, at.routine, at.place, at.root, at.state]));
     }
-    let standings = two_numbers(analysis.standings() as usize);
-    let findings = two_numbers(analysis.findings.len());
-    printed.extend(line_of(
-        &[&[COUNTS], &standings[..], &findings[..]].concat(),
-    ));
+    let [high, low] = two_numbers(analysis.standings() as usize);
+    let [findings_high, findings_low] = two_numbers(analysis.findings.len());
+    let counts = [COUNTS, high, low, findings_high, findings_low];
+    printed.extend(line_of(&counts));
     printed
 }
 

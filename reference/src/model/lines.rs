@@ -21,6 +21,11 @@ pub fn numbers_of_kind(kinds: &[Kind], line: &[u8]) -> Result<Vec<u8>, u32> {
     }
 }
 
+/// Whether a line starts with this kind, whatever follows.
+pub fn starts_with_kind(line: &[u8], kind: u8) -> bool {
+    line.starts_with(format!("{kind:02X}").as_bytes())
+}
+
 /// Two digits make a number. None for an empty line, an odd count of digits, a byte that is no
 /// digit, or a line without its 0A.
 pub fn numbers_of_line(line: &[u8]) -> Option<Vec<u8>> {

@@ -3,6 +3,7 @@
 
 use crate::model::program::EXIT;
 use std::collections::BTreeSet;
+use std::ops::RangeInclusive;
 
 /// How many standings have a number, and so the bytes of a sheet.
 pub const SHEET_SIZE: usize = 16_384;
@@ -62,6 +63,21 @@ impl Standing {
             state: (number % 8) as u8,
         }
     }
+}
+
+/// The numbers of all standings at a place, which stand side by side.
+pub fn numbers_at(routine: u8, place: u8) -> RangeInclusive<usize> {
+    let number = |root, state| {
+        let at = Standing {
+            routine,
+            place,
+            root,
+            state,
+        };
+        at.number()
+    };
+    let last = MOST_STATES - 1;
+    number(0, 0)..=number(last, last)
 }
 
 /// The numbers that a sheet marks, by any byte other than 0.
