@@ -1,71 +1,66 @@
 /*
- * Says of a program file whether the checker accepts it, and whether its
- * program can break the rule.
+ * Says of a program file whether the checker accepts it, and whether some run
+ * of its program arrives in a rejecting state (paper: a forbidden one).
  *
- *     check_file [FILE]
+ *     check_file [--all] [FILE]
  *
- * Without FILE it reads standard input. The exit status is 0 if the file is
- * accepted and no run can break the rule, 1 if the file is refused, 3 if it is
- * accepted and there are violations, and 2 if it could not be read or the
- * checker gave an answer that it must not give.
+ * Without FILE it reads standard input. It prints the first 20 violations
+ * (paper: findings) and how many more there are; with --all it prints each.
+ * The exit status is 0 if the file is accepted and has no violation, 3 if it
+ * is accepted and has one or more, 1 if it is refused, and 2 if anything else
+ * is wrong: an unknown option, a file that cannot be read or is too long, or
+ * an answer that the checker must not give.
  */
 #include "palthrenni.h"
 
+#include <errno.h>
 #include <stdio.h>
-#include <stdlib.h>
 #include <string.h>
 
-/* The bytes read so far, in a buffer that grows. */
-struct bytes {
-    uint8_t *at;
+/* How many violations are printed without --all. */
+#define FIRST 20
+
+/* No accepted file has more than PALTHRENNI_OUTPUT_SIZE bytes. A longer one is
+ * handed over too, up to this length, so that the checker names its fault. */
+#define LONGEST 16384
+
+/* The file: its name for messages, and its bytes, with room for one that is
+ * too many. */
+static struct {
+    const char *name;
+    uint8_t bytes[LONGEST + 1];
     size_t len;
-    size_t room;
-};
+} file = {.name = "standard input"};
 
-static int make_room(struct bytes *bytes)
+/* The marks (paper: the sheet), and room to work in. */
+static uint8_t marks[PALTHRENNI_MARKS_SIZE];
+static uint8_t work[PALTHRENNI_MARKS_SIZE];
+
+/* Says on standard error what is wrong, and gives the status for it. */
+static int wrong(const char *where, const char *what)
 {
-    if (bytes->len < bytes->room)
-        return 1;
-    if (bytes->room > SIZE_MAX / 2)
-        return 0;
-    size_t room = bytes->room == 0 ? 8192 : 2 * bytes->room;
-    uint8_t *at = realloc(bytes->at, room);
-    if (at == NULL)
-        return 0;
-    bytes->at = at;
-    bytes->room = room;
-    return 1;
+    fprintf(stderr, "check_file: %s: %s\n", where, what);
+    return 2;
 }
 
-/* Reads to the end, in as many pieces as it comes in. Returns 0 on failure. */
-static int read_all(FILE *in, struct bytes *bytes)
+static int read_open(FILE *in)
 {
-    for (;;) {
-        if (!make_room(bytes)) {
-            fprintf(stderr, "check_file: out of memory\n");
-            return 0;
-        }
-        size_t got = fread(bytes->at + bytes->len, 1, bytes->room - bytes->len, in);
-        bytes->len += got;
-        if (got == 0) {
-            if (ferror(in))
-                perror("check_file");
-            return !ferror(in);
-        }
-    }
+    file.len = fread(file.bytes, 1, sizeof file.bytes, in);
+    if (ferror(in))
+        return wrong(file.name, strerror(errno));
+    if (file.len > LONGEST)
+        return wrong(file.name, "the file has more than 16384 bytes");
+    return 0;
 }
 
-static int read_named(const char *name, struct bytes *bytes)
+static int read_named(void)
 {
-    FILE *in = fopen(name, "rb");
-    if (in == NULL) {
-        fprintf(stderr, "check_file: ");
-        perror(name);
-        return 0;
-    }
-    int well = read_all(in, bytes);
+    FILE *in = fopen(file.name, "rb");
+    if (in == NULL)
+        return wrong(file.name, strerror(errno));
+    int status = read_open(in);
     fclose(in);
-    return well;
+    return status;
 }
 
 static const char *meaning(uint32_t refusal)
@@ -80,9 +75,9 @@ static const char *meaning(uint32_t refusal)
     case PALTHRENNI_ORDER:
         return "the order of the frames is broken";
     case PALTHRENNI_RANGE:
-        return "a number is outside its range";
+        return "a number is outside its range, or an edge leaves the exit";
     case PALTHRENNI_TABLE_FULL:
-        return "more than 256 steps or rule lines";
+        return "more than 256 edges or transitions";
     case PALTHRENNI_END_COUNT:
         return "the end count is wrong";
     case PALTHRENNI_FILE_END:
@@ -92,23 +87,16 @@ static const char *meaning(uint32_t refusal)
     }
 }
 
-/* The checker gave an answer that it must not give. */
-static int wrong(const char *what)
-{
-    fprintf(stderr, "check_file: %s\n", what);
-    return 2;
-}
-
 /* Writes the accepted file back and holds the copy against it. */
-static int check_copy(const struct bytes *file)
+static int check_copy(void)
 {
     static uint8_t output[PALTHRENNI_OUTPUT_SIZE];
     uint32_t line, written;
-    uint32_t refusal = palthrenni_write(file->at, file->len, output, sizeof output,
+    uint32_t refusal = palthrenni_write(file.bytes, file.len, output, sizeof output,
                                         &line, &written);
-    if (refusal != PALTHRENNI_OK || written != file->len
-        || memcmp(output, file->at, written) != 0)
-        return wrong("accepted, but not written back as it was read");
+    if (refusal != PALTHRENNI_OK || written != file.len
+        || memcmp(output, file.bytes, written) != 0)
+        return wrong(file.name, "accepted, but not written back as it was read");
     printf("accepted: %lu bytes, written back as the same bytes\n",
            (unsigned long)written);
     return 0;
@@ -116,89 +104,145 @@ static int check_copy(const struct bytes *file)
 
 static void print_violation(uint32_t number)
 {
-    printf("violation: routine %lu, place %lu, begun in state %lu, now in state %lu\n",
+    printf("violation: routine %lu, node %lu, root %lu, state %lu\n",
            (unsigned long)PALTHRENNI_ROUTINE(number),
            (unsigned long)PALTHRENNI_NODE(number),
            (unsigned long)PALTHRENNI_ROOT(number),
            (unsigned long)PALTHRENNI_STATE(number));
 }
 
-static uint8_t marks[PALTHRENNI_MARKS_SIZE];
-static uint8_t work[PALTHRENNI_MARKS_SIZE];
-
-/* Prints every violation, the lowest first; there should be so many. */
-static int list_violations(const struct bytes *file, uint32_t violations)
+/*
+ * Prints the first violations as the checker lists them, the lowest first.
+ * Each call costs a full analysis (paper: working afresh) of the program, so
+ * it makes FIRST calls at most.
+ */
+static int print_first(uint32_t *printed)
 {
-    uint32_t from = 0, listed = 0;
-    for (;;) {
+    uint32_t from = 0;
+    for (*printed = 0; *printed < FIRST; ++*printed) {
         uint32_t line, found;
-        uint32_t refusal = palthrenni_next_violation(file->at, file->len,
+        uint32_t refusal = palthrenni_next_violation(file.bytes, file.len,
                                                      marks, sizeof marks,
                                                      work, sizeof work,
                                                      from, &line, &found);
         if (refusal != PALTHRENNI_OK)
-            return wrong("the marks of the analysis were refused");
+            return wrong(file.name, "the marks of the analysis were refused");
         if (found == PALTHRENNI_NONE)
             break;
         if (found < from || found >= PALTHRENNI_MARKS_SIZE)
-            return wrong("a violation was listed out of order");
+            return wrong(file.name, "a violation was listed out of order");
         print_violation(found);
-        listed++;
         from = found + 1;
     }
-    return listed == violations ? 0 : wrong("the list has another length");
+    return 0;
+}
+
+/* A frame 46 q says that state q is rejecting. The file is accepted: so each
+ * line is a frame, and q is below 8 and the fourth digit of its line. */
+static void find_rejecting(int rejecting[8])
+{
+    for (size_t at = 0; at < file.len; at++) {
+        int starts_line = at == 0 || file.bytes[at - 1] == 0x0A;
+        if (starts_line && file.bytes[at] == '4' && file.bytes[at + 1] == '6')
+            rejecting[file.bytes[at + 3] - '0'] = 1;
+    }
+}
+
+/* Prints every violation straight from the marks, without another analysis: a
+ * violation is a marked configuration (paper: standing) whose state is
+ * rejecting. */
+static void print_all(uint32_t *printed)
+{
+    int rejecting[8] = {0};
+    find_rejecting(rejecting);
+    *printed = 0;
+    for (uint32_t number = 0; number < PALTHRENNI_MARKS_SIZE; number++) {
+        if (marks[number] == 1 && rejecting[PALTHRENNI_STATE(number)]) {
+            print_violation(number);
+            ++*printed;
+        }
+    }
+}
+
+/* Prints the violations; the analysis has counted so many. */
+static int print_violations(uint32_t violations, int all)
+{
+    uint32_t wanted = all || violations < FIRST ? violations : FIRST;
+    uint32_t printed;
+    if (all)
+        print_all(&printed);
+    else if (print_first(&printed) != 0)
+        return 2;
+    if (printed != wanted)
+        return wrong(file.name, "the violations are not as many as were counted");
+    if (printed < violations)
+        printf("and %lu more (--all prints them)\n",
+               (unsigned long)(violations - printed));
+    return 0;
 }
 
 /* Analyzes the accepted file and says what was found. */
-static int check_rule(const struct bytes *file)
+static int check_runs(int all)
 {
     uint32_t line, configurations, violations, iterations;
-    uint32_t refusal = palthrenni_analyze(file->at, file->len, marks, sizeof marks,
+    uint32_t refusal = palthrenni_analyze(file.bytes, file.len, marks, sizeof marks,
                                           work, sizeof work, &line, &configurations,
                                           &violations, &iterations);
     if (refusal != PALTHRENNI_OK)
-        return wrong("accepted, but not analyzed");
+        return wrong(file.name, "accepted, but not analyzed");
     printf("analyzed: configurations %lu, violations %lu, iterations %lu\n",
            (unsigned long)configurations, (unsigned long)violations,
            (unsigned long)iterations);
-    int status = list_violations(file, violations);
-    if (status != 0)
-        return status;
+    if (print_violations(violations, all) != 0)
+        return 2;
     if (violations == 0) {
-        printf("no run can break the rule\n");
+        printf("no run arrives in a rejecting state\n");
         return 0;
     }
-    printf("the rule can be broken: %lu violation%s\n", (unsigned long)violations,
-           violations == 1 ? "" : "s");
+    printf("some run arrives in a rejecting state: %lu violation%s\n",
+           (unsigned long)violations, violations == 1 ? "" : "s");
     return 3;
 }
 
-static int check(const struct bytes *file)
+static int check(int all)
 {
     uint32_t line;
-    uint32_t refusal = palthrenni_read(file->at, file->len, &line);
+    uint32_t refusal = palthrenni_read(file.bytes, file.len, &line);
     if (refusal != PALTHRENNI_OK) {
         printf("refused: %lu (%s) at line %lu\n", (unsigned long)refusal,
                meaning(refusal), (unsigned long)line);
         return 1;
     }
-    int status = check_copy(file);
-    return status == 0 ? check_rule(file) : status;
+    int status = check_copy();
+    return status == 0 ? check_runs(all) : status;
+}
+
+static int misused(const char *argument, const char *what)
+{
+    wrong(argument, what);
+    fprintf(stderr, "usage: check_file [--all] [FILE]\n");
+    return 2;
 }
 
 int main(int argc, char **argv)
 {
-    if (argc > 2) {
-        fprintf(stderr, "usage: check_file [FILE]\n");
-        return 2;
+    int all = 0, named = 0;
+    for (int i = 1; i < argc; i++) {
+        if (strcmp(argv[i], "--all") == 0) {
+            all = 1;
+        } else if (argv[i][0] == '-') {
+            return misused(argv[i], "no such option");
+        } else if (named) {
+            return misused(argv[i], "a second file");
+        } else {
+            file.name = argv[i];
+            named = 1;
+        }
     }
-    struct bytes file = {NULL, 0, 0};
-    int well = argc == 2 ? read_named(argv[1], &file) : read_all(stdin, &file);
-    int status = well ? check(&file) : 2;
-    free(file.at);
-    if (fflush(stdout) != 0) {
-        perror("check_file");
-        return 2;
-    }
+    int status = named ? read_named() : read_open(stdin);
+    if (status == 0)
+        status = check(all);
+    if (fflush(stdout) != 0 || ferror(stdout))
+        return wrong("standard output", "not all could be written");
     return status;
 }
