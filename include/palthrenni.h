@@ -5,6 +5,14 @@
  *
  *     gcc -std=c11 -O2 -Iinclude my_program.c target/staticlib/libdesk.a
  *
+ * Terms. A program has routines; a routine has nodes (paper: places), which
+ * edges (paper: steps) join. An edge's label is an action or a call. The
+ * automaton (paper: the rule) goes from state to state by transitions (paper:
+ * rule lines), one for each action of a run. A run begins at main's entry in
+ * an initial state (paper: start state) and should never arrive in a
+ * rejecting one (paper: forbidden). docs/GLOSSARY.md has all terms; "paper"
+ * is the scope paper.
+ *
  * Buffers. A buffer is a pointer and a length in bytes. The pointer has to be
  * valid for that many bytes during the call; with length 0 it is not looked
  * at and may be NULL. No two buffers of a call may overlap, and the numbers
@@ -48,9 +56,9 @@ extern "C" {
 /* The first frame is not 50, there is a second 50, the kinds or the numbers
  * within a kind do not ascend, or a routine frame is left out or repeated. */
 #define PALTHRENNI_ORDER 4
-/* A number is outside its range, or a step leaves the exit. */
+/* A number is outside its range, or an edge leaves the exit. */
 #define PALTHRENNI_RANGE 5
-/* The 257th step, or the 257th rule line. */
+/* The 257th edge, or the 257th transition. */
 #define PALTHRENNI_TABLE_FULL 6
 /* The end frame does not say how many frames came before it. */
 #define PALTHRENNI_END_COUNT 7
@@ -58,7 +66,8 @@ extern "C" {
  * last), or a line follows the end frame (the line is that one). */
 #define PALTHRENNI_FILE_END 8
 
-/* Refusals of buffers, of an edit and of marks. They come with line 0. */
+/* Refusals of buffers, of an edit and of marks (paper: the sheet). They come
+ * with line 0. */
 
 /* The marks do not have exactly PALTHRENNI_MARKS_SIZE bytes. */
 #define PALTHRENNI_MARKS_LENGTH 9
@@ -69,14 +78,14 @@ extern "C" {
 /* The edit is not exactly one line of hexadecimal, its kind is none of 2B, 2D
  * and 3D, or the kind has another count of numbers. */
 #define PALTHRENNI_EDIT_LINE 12
-/* A number of the edit is outside its range, or its step leaves the exit. */
+/* A number of the edit is outside its range, or its edge leaves the exit. */
 #define PALTHRENNI_EDIT_RANGE 13
-/* The step that is to be dropped or replaced is not there. */
-#define PALTHRENNI_NO_SUCH_STEP 14
-/* The step that would be made is there already. */
-#define PALTHRENNI_STEP_EXISTS 15
-/* A step is to be added, and there are 256. */
-#define PALTHRENNI_STEPS_FULL 16
+/* The edge that is to be dropped or replaced is not there. */
+#define PALTHRENNI_NO_SUCH_EDGE 14
+/* The edge that would be made is there already. */
+#define PALTHRENNI_EDGE_EXISTS 15
+/* An edge is to be added, and there are 256. */
+#define PALTHRENNI_EDGES_FULL 16
 /* The marks are not the program's own: some byte is not the one that
  * palthrenni_analyze would leave there. */
 #define PALTHRENNI_FOREIGN_MARKS 17
@@ -86,14 +95,16 @@ extern "C" {
 /* The length of the marks, and of the working buffer. */
 #define PALTHRENNI_MARKS_SIZE 16384
 
-/* What palthrenni_next_violation sets where there is no violation. */
+/* What palthrenni_next_violation sets where there is no violation (paper:
+ * finding). */
 #define PALTHRENNI_NONE UINT32_MAX
 
 /*
- * A configuration is where a program can be: in which routine, at which node
- * of it (0 is the entry, 1 the exit), with which root (the state in which the
- * routine was called, or the start state) and in which state of the rule now.
- * It has a number below PALTHRENNI_MARKS_SIZE,
+ * A configuration (paper: standing) is where a program can be: in which
+ * routine, at which node of it (0 is the entry, 1 the exit), with which root
+ * (the state in which the routine was called, or the initial state) and in
+ * which state of the automaton now. It has a number below
+ * PALTHRENNI_MARKS_SIZE,
  *
  *     ((routine * 16 + node) * 8 + root) * 8 + state
  *
@@ -137,8 +148,9 @@ uint32_t palthrenni_write(const uint8_t *file, size_t file_len,
 
 /*
  * Reads a program file and marks every configuration that can occur in a run
- * of its program. A violation is one of them whose state is forbidden; so no
- * run can break the rule if and only if there are no violations.
+ * of its program: the full analysis (paper: working afresh). A violation is
+ * one of them whose state is rejecting; so no run arrives in a rejecting state
+ * if and only if there are no violations.
  *
  *   file, file_len    the file's bytes, of any length
  *   marks, marks_len  where the marks go: PALTHRENNI_MARKS_SIZE bytes, which
@@ -148,8 +160,9 @@ uint32_t palthrenni_write(const uint8_t *file, size_t file_len,
  *   line              set to the line of a refusal 1 to 8, else to 0
  *   configurations    set to how many configurations can occur
  *   violations        set to how many of them are violations
- *   iterations        set to how many times the analysis took a configuration
- *                     up, always the lowest that was waiting
+ *   iterations        set to how many times (paper: takings) the analysis
+ *                     took a configuration, always the lowest that was
+ *                     pending (paper: waiting)
  *
  * Returns 1 to 8; then 9 or 11, the lower first, if the file is accepted and
  * a buffer has another length; else PALTHRENNI_OK. On PALTHRENNI_OK the marks
@@ -165,8 +178,15 @@ uint32_t palthrenni_analyze(const uint8_t *file, size_t file_len,
 /*
  * Reads a program file and finds the first violation at or above a number.
  * To go through all of them, begin from 0 and go on from the one after the
- * last that was found. Each call analyzes the program afresh, to see whether
- * the marks are its own (17): thousands of violations take as many analyses.
+ * last that was found.
+ *
+ * Each call costs a full analysis of the program, to see whether the marks
+ * are its own (17); only a refusal before 17 costs less. To go through
+ * thousands of violations this way takes thousands of analyses. Where the
+ * marks are sure to be those that palthrenni_analyze or a repair left for
+ * this file, they can be read instead: the violations are the numbers whose
+ * byte is 1 and whose state is rejecting, that is, has a frame 46 in the
+ * file. examples/check_file.c does both.
  *
  *   file, file_len    the file's bytes, of any length
  *   marks, marks_len  the marks as palthrenni_analyze left them for this
@@ -190,12 +210,13 @@ uint32_t palthrenni_next_violation(const uint8_t *file, size_t file_len,
                                    uint32_t *line, uint32_t *found);
 
 /*
- * Reads a program file and prunes marks by it: of the configurations that are
- * marked those stay that have support back to a start through marked ones. A
- * start is main's entry in a start state. A configuration has support by a
- * step from a kept one: an action that the rule allows, a call, which
- * supports the called entry whether or not the call ever returns, or a call
- * and a kept exit of the called routine with the same root.
+ * Reads a program file and prunes marks by it (paper: the keeping): of the
+ * configurations that are marked those stay that have support, through marked
+ * ones, back to main's entry in an initial state. A configuration has support
+ * by an edge from one that stays: by an action that the automaton allows; by
+ * a call, which supports the called entry whether or not the call ever
+ * returns; or by a call and an exit of the called routine that stays and has
+ * the state of that call as its root.
  *
  *   file, file_len    the file's bytes, of any length
  *   marks, marks_len  any marks, the program's own or not:
@@ -218,14 +239,20 @@ uint32_t palthrenni_prune(const uint8_t *file, size_t file_len,
  * Reads a program file and one edit, changes the marks to those of the edited
  * program, and writes that program. An edit is one line of hexadecimal,
  *
- *     2B f n a m      adds a step of routine f from place n to m by label a
- *     2D f n a m      drops that step
- *     3D f n a m b    gives that step the label b
+ *     2B f n a m      adds an edge of routine f from node n to m by label a
+ *     2D f n a m      drops that edge
+ *     3D f n a m b    gives that edge the label b
  *
- * two digits a number and a byte 0A at the end. For a chain of repairs keep
- * two buffers for files that change places: the next call's file is what this
- * one wrote, the first `written` bytes of its output, and goes on as it was
- * after a refusal. The marks go on as each call leaves them.
+ * two digits a number and a byte 0A at the end.
+ *
+ * For a chain of repairs keep two buffers for files, one lent as the file and
+ * the other as the output, and swap them after each accepted call: the next
+ * call's file is what this one wrote, the first `written` bytes of its
+ * output. After a refusal lend the same file again. The marks go on as each
+ * call leaves them.
+ *
+ * Each call costs at least one full analysis, to see whether the marks are
+ * the program's own (17); only a refusal before 17 costs less.
  *
  *   file, file_len      the file's bytes, of any length
  *   marks, marks_len    the marks as palthrenni_analyze, or the repair before
@@ -256,15 +283,18 @@ uint32_t palthrenni_repair_forward(const uint8_t *file, size_t file_len,
 /*
  * As palthrenni_repair_forward, by the inside-out repair. The marks, the
  * output, the working buffer and the numbers are the same; one number more
- * says which routines were reanalyzed.
+ * says which routines were reanalyzed (paper: reopened).
  *
  *   reanalyzed          set to a bit for each routine, bit f for routine f, or
- *                       to 0 if the call was refused. On a drop these are the
- *                       routines of each group (routines that call each other
- *                       in circles in the edited program) that holds the
- *                       edited routine or calls one outside it whose pairs
- *                       have changed; on an add those that gained a
- *                       configuration; on a replace both together.
+ *                       to 0 if the call was refused
+ *
+ * On a drop the reanalyzed routines are those of each component (paper:
+ * group) that holds the edited routine, or calls a routine outside it whose
+ * summaries (paper: pairs) have changed. A component is routines that call
+ * each other in circles in the edited program, or one routine alone; a summary
+ * is a root of a routine and a state in which its exit is reached from it. On
+ * an add they are the routines that gained a configuration, on a replace
+ * those of the drop and of the add together.
  */
 uint32_t palthrenni_repair_inside_out(const uint8_t *file, size_t file_len,
                                       uint8_t *marks, size_t marks_len,
