@@ -5,6 +5,7 @@ use mathlib.Core.Option.{Option, some, none}
 use mathlib.Core.List.{List, [], _∷_}
 use lib.Dec.{eqb}
 use lib.ListN.{length}
+use Rattle.program.specs.Sizes.{marksSize}
 use Rattle.program.specs.Program.{Program}
 use Rattle.program.specs.Reading.{readFile}
 use Rattle.program.specs.declared.Verdict.{Verdict}
@@ -21,7 +22,7 @@ use Rattle.analysis.specs.declared.NextAnswer.the-variants as next
 
 abbrev pub checkedBy : Verdict → ℕ → ℕ → Verdict
 checkedBy verdict.Accepted marks work =
-    cond (eqb marks 16384) (cond (eqb work 16384) verdict.Accepted (verdict.Refused 11 0)) (verdict.Refused 9 0)
+    cond (eqb marks marksSize) (cond (eqb work marksSize) verdict.Accepted (verdict.Refused 11 0)) (verdict.Refused 9 0)
 checkedBy (verdict.Refused n line) marks work = verdict.Refused n line
 
 unfoldable pub checked : List ℕ → ℕ → ℕ → Verdict

@@ -6,6 +6,7 @@ use mathlib.Core.Option.{Option, some, none}
 use mathlib.Core.List.{List, map}
 use lib.Dec.{eqb, ltb, leb}
 use lib.ListN.{length, getD, take}
+use Rattle.reach.specs.Sizes.{enoughIterations, summariesSize}
 use Rattle.automaton.specs.Flags.{isSet, Answers}
 use Rattle.program.specs.Program.{Program}
 use Rattle.program.specs.WellFormed.{WellFormed}
@@ -54,7 +55,7 @@ exitAt i = i / 64 * 1024 + 64 + i % 64
 
 -- the known summaries are those of the marked exits
 abbrev pub Learnt : List ℕ → List ℕ → Type 0
-Learnt marks known = Filled (λ i. getD marks (exitAt i) 0) 1024 known
+Learnt marks known = Filled (λ i. getD marks (exitAt i) 0) summariesSize known
 
 -- what is pending at the start of a part: of the marked numbers from low up to high those that are no exits
 abbrev pub firstPending : ℕ → ℕ → ℕ → ℕ → ℕ
@@ -93,7 +94,7 @@ within size r = cond (ltb r size) (some r) none
 
 -- what is pending in these bytes, followed to the end
 abbrev pub followed : Program → List ℕ → List ℕ → List ℕ → Worklist
-followed p marks pending known = work 2113536 p (lowest pending 0) (worklist marks pending known 0)
+followed p marks pending known = work enoughIterations p (lowest pending 0) (worklist marks pending known 0)
 
 -- for this program, following it comes to an end
 pub record Ends (p : Program) (keys : List ℕ) (count : ℕ) (next marks pending known : List ℕ) : Type 0 where

@@ -2,6 +2,7 @@
 ghost use mathlib.Core.Path.{_≡_};
 ghost use Prim.Native.Nat.{ℕ, _<_};
 ghost use lib.ListN.{length, getD, replicate};
+ghost use Rattle.program.specs.Sizes.{marksSize};
 ghost use Rattle.automaton.specs.Flags.{Rejects};
 ghost use Rattle.program.specs.Program.{Program};
 ghost use Rattle.reach.specs.Marks.{countSet, violates, violationsFrom, firstFrom};
@@ -58,8 +59,8 @@ pub fn count_violations(marks: &[u8], rejecting: &[u8]) -> usize
 // The first violation that is not below `from`; a number past the marks where there is none. The caller has measured the
 // marks (refusal 9), and the flags have the size of `StateFlags`: hence the `requires`.
 pub fn first_violation(marks: &[u8], rejecting: &[u8], from: usize) -> usize
-    requires { ⌜ (length (now marks) ≡ 16384) × (length (now rejecting) ≡ 8) ⌝ }
-    ensures { λ r. ⌜ ((p : Program) → Rejects (p .automaton) (now (rejecting .entry)) → firstFrom from (violationsFrom p (now (marks .entry)) 0) ≡ within 16384 r) ⌝ }
+    requires { ⌜ (length (now marks) ≡ marksSize) × (length (now rejecting) ≡ 8) ⌝ }
+    ensures { λ r. ⌜ ((p : Program) → Rejects (p .automaton) (now (rejecting .entry)) → firstFrom from (violationsFrom p (now (marks .entry)) 0) ≡ within marksSize r) ⌝ }
 {
     let mut i = from;
     while i < marks.len() {

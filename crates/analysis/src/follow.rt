@@ -7,6 +7,9 @@ use crate::number::wide;
 ghost use mathlib.Core.Path.{_≡_};
 ghost use Prim.Native.Nat.{_<_, _≤_, _+_, _-_, _*_};
 ghost use lib.ListN.{length, getD};
+ghost use Rattle.reach.specs.Sizes.{summariesSize};
+ghost use Rattle.program.specs.Sizes.{marksSize};
+ghost use Rattle.automaton.specs.Sizes.{nextStatesSize};
 ghost use Rattle.reach.specs.Configurations.{number};
 ghost use Rattle.reach.specs.Worklist.{mark as marked};
 ghost use Rattle.analysis.specs.Parts.{Becomes, Lowers, each, markFlag, wakeAt, labelStep, edgeStep, callerStep};
@@ -21,8 +24,8 @@ fn follow_call(
     q: u8,
     low: usize,
 ) -> usize
-    requires { ⌜ (length (now known) ≡ 1024) × (base < 1000000) × (g < 16) × (q < 8) ⌝ }
-    requires { ⌜ (length (now marks) ≡ 16384) × (length (now pending) ≡ 16384) ⌝ }
+    requires { ⌜ (length (now known) ≡ summariesSize) × (base < 1000000) × (g < 16) × (q < 8) ⌝ }
+    requires { ⌜ (length (now marks) ≡ marksSize) × (length (now pending) ≡ marksSize) ⌝ }
     ensures { λ v. ⌜ Becomes (λ s. each (markFlag (now (known .entry)) ((g * 8 + q) * 8) base) 8 0 (marked (number g 0 q q) s))
         (now (marks .entry)) (now (pending .entry)) (now (marks .exit)) (now (pending .exit))
         × Lowers (now (pending .entry)) low (now (pending .exit)) v ⌝ }
@@ -43,8 +46,8 @@ fn follow_label(
     label: u8,
     low: usize,
 ) -> usize
-    requires { ⌜ (length (now next) ≡ 2048) × (length (now known) ≡ 1024) × (base < 1000000) × (q < 8) ⌝ }
-    requires { ⌜ (length (now marks) ≡ 16384) × (length (now pending) ≡ 16384) ⌝ }
+    requires { ⌜ (length (now next) ≡ nextStatesSize) × (length (now known) ≡ summariesSize) × (base < 1000000) × (q < 8) ⌝ }
+    requires { ⌜ (length (now marks) ≡ marksSize) × (length (now pending) ≡ marksSize) ⌝ }
     ensures { λ v. ⌜ Becomes (labelStep (now (next .entry)) (now (known .entry)) base q label)
         (now (marks .entry)) (now (pending .entry)) (now (marks .exit)) (now (pending .exit))
         × Lowers (now (pending .entry)) low (now (pending .exit)) v ⌝ }
@@ -74,8 +77,8 @@ fn follow_edge(
     q: u8,
     low: usize,
 ) -> usize
-    requires { ⌜ (length (now next) ≡ 2048) × (length (now known) ≡ 1024) × (q < 8) ⌝ }
-    requires { ⌜ (length (now marks) ≡ 16384) × (length (now pending) ≡ 16384) ⌝ }
+    requires { ⌜ (length (now next) ≡ nextStatesSize) × (length (now known) ≡ summariesSize) × (q < 8) ⌝ }
+    requires { ⌜ (length (now marks) ≡ marksSize) × (length (now pending) ≡ marksSize) ⌝ }
     ensures { λ v. ⌜ Becomes (edgeStep (now (next .entry)) (now (known .entry)) f n r q key)
         (now (marks .entry)) (now (pending .entry)) (now (marks .exit)) (now (pending .exit))
         × Lowers (now (pending .entry)) low (now (pending .exit)) v ⌝ }
@@ -113,8 +116,8 @@ pub fn follow_edges(
     q: u8,
     low: usize,
 ) -> usize
-    requires { ⌜ (count ≤ length (now keys)) × (length (now next) ≡ 2048) × (length (now known) ≡ 1024) × (q < 8) ⌝ }
-    requires { ⌜ (length (now marks) ≡ 16384) × (length (now pending) ≡ 16384) ⌝ }
+    requires { ⌜ (count ≤ length (now keys)) × (length (now next) ≡ nextStatesSize) × (length (now known) ≡ summariesSize) × (q < 8) ⌝ }
+    requires { ⌜ (length (now marks) ≡ marksSize) × (length (now pending) ≡ marksSize) ⌝ }
     ensures { λ v. ⌜ Becomes (each (λ i. edgeStep (now (next .entry)) (now (known .entry)) f n r q (getD (now (keys .entry)) i 0)) count 0)
         (now (marks .entry)) (now (pending .entry)) (now (marks .exit)) (now (pending .exit))
         × Lowers (now (pending .entry)) low (now (pending .exit)) v ⌝ }
@@ -130,7 +133,7 @@ pub fn follow_edges(
 
 fn wake_caller(marks: &[u8], pending: &mut [u8], key: u32, f: u8, r: u8, low: usize) -> usize
     requires { ⌜ f < 16 ⌝ }
-    requires { ⌜ (length (now marks) ≡ 16384) × (length (now pending) ≡ 16384) ⌝ }
+    requires { ⌜ (length (now marks) ≡ marksSize) × (length (now pending) ≡ marksSize) ⌝ }
     ensures { λ v. ⌜ Becomes (callerStep f r key) (now (marks .entry)) (now (pending .entry)) (now (marks .entry)) (now (pending .exit))
         × Lowers (now (pending .entry)) low (now (pending .exit)) v ⌝ }
 {
@@ -154,7 +157,7 @@ pub fn wake_callers(
     low: usize,
 ) -> usize
     requires { ⌜ (count ≤ length (now keys)) × (f < 16) ⌝ }
-    requires { ⌜ (length (now marks) ≡ 16384) × (length (now pending) ≡ 16384) ⌝ }
+    requires { ⌜ (length (now marks) ≡ marksSize) × (length (now pending) ≡ marksSize) ⌝ }
     ensures { λ v. ⌜ Becomes (each (λ i. callerStep f r (getD (now (keys .entry)) i 0)) count 0)
         (now (marks .entry)) (now (pending .entry)) (now (marks .entry)) (now (pending .exit))
         × Lowers (now (pending .entry)) low (now (pending .exit)) v ⌝ }

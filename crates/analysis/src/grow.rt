@@ -7,6 +7,7 @@ use program::DecodedProgram;
 ghost use mathlib.Core.Path.{_≡_};
 ghost use Prim.Native.Nat.{_+_, _<_};
 ghost use lib.ListN.{length};
+ghost use Rattle.program.specs.Sizes.{marksSize};
 ghost use Rattle.program.specs.WellFormed.{WellFormed};
 ghost use Rattle.program.specs.Decoded.{programOf};
 ghost use Rattle.reach.specs.Configurations.{number, none-set};
@@ -18,7 +19,7 @@ ghost use Rattle.reach.specs.Marks.{Marked, Shows, ClosedBut};
 // numbers follow one another, can lead to something new; from any other marks what follows elsewhere would be missed: hence the
 // `requires`.
 pub fn follow_added(p: DecodedProgram, f: u8, n: u8, marks: &mut [u8], pending: &mut [u8])
-    requires { ⌜ WellFormed (programOf p) × (f < 16) × (n < 16) × (length (now pending) ≡ 16384) ⌝ }
+    requires { ⌜ WellFormed (programOf p) × (f < 16) × (n < 16) × (length (now pending) ≡ marksSize) ⌝ }
     requires { ⌜ ClosedBut (programOf p) (number f n 0 0) (number f n 0 0 + 64) (now marks) ⌝ }
     ensures { λ _. ⌜ Shows (Derivable (programOf p) (Marked (now (marks .entry))) Any) (now (marks .exit)) × (now (pending .exit) ≡ none-set) ⌝ }
 {

@@ -18,9 +18,11 @@ use count::first_violation;
 use own::is_own;
 use program::DecodedProgram;
 use program::Verdict;
+use program::sizes::MARKS_SIZE;
 use run::analyze_program;
 ghost use mathlib.Core.Path.{_≡_};
 ghost use lib.ListN.{length};
+ghost use Rattle.program.specs.Sizes.{marksSize};
 ghost use Rattle.program.specs.WellFormed.{WellFormed};
 ghost use Rattle.program.specs.Decoded.{programOf};
 ghost use Rattle.program.specs.declared.Verdict.the-variants.{Accepted};
@@ -49,8 +51,8 @@ pub fn check_buffers(v: Verdict, marks: usize, work: usize) -> Verdict
     match v {
         Verdict::Refused(n, line) => Verdict::Refused(n, line),
         Verdict::Accepted => {
-            if marks == 16384 {
-                if work == 16384 {
+            if marks == MARKS_SIZE {
+                if work == MARKS_SIZE {
                     return Verdict::Accepted;
                 }
                 return Verdict::Refused(11, 0);
@@ -62,7 +64,7 @@ pub fn check_buffers(v: Verdict, marks: usize, work: usize) -> Verdict
 
 fn analyze_counts(p: DecodedProgram, marks: &mut [u8], work: &mut [u8]) -> AnalyzeAnswer
     requires { ⌜ WellFormed (programOf p) ⌝ }
-    requires { ⌜ (length (now marks) ≡ 16384) × (length (now work) ≡ 16384) ⌝ }
+    requires { ⌜ (length (now marks) ≡ marksSize) × (length (now work) ≡ marksSize) ⌝ }
     ensures { λ r. ⌜ (r ≡ analyzeBy Accepted (programOf p)) × (now (marks .exit) ≡ freshMarks (programOf p)) × (now (work .exit) ≡ none-set) ⌝ }
 {
     let iterations = analyze_program(p, marks, work);
@@ -96,7 +98,7 @@ pub fn analyze(file: &[u8], marks: &mut [u8], work: &mut [u8]) -> AnalyzeAnswer
 // Marks that differ from the program's own are refused (17); else the first violation not below the number is sought.
 fn search_own(p: DecodedProgram, marks: &[u8], work: &mut [u8], low: usize) -> NextAnswer
     requires { ⌜ WellFormed (programOf p) ⌝ }
-    requires { ⌜ (length (now marks) ≡ 16384) × (length (now work) ≡ 16384) ⌝ }
+    requires { ⌜ (length (now marks) ≡ marksSize) × (length (now work) ≡ marksSize) ⌝ }
     ensures { λ r. ⌜ (r ≡ nextBy Accepted (programOf p) (now (marks .entry)) low) × (now (work .exit) ≡ none-set) ⌝ }
 {
     if is_own(p, marks, work) {
@@ -111,9 +113,9 @@ fn search_own(p: DecodedProgram, marks: &[u8], work: &mut [u8], low: usize) -> N
 
 // A search's result past the end says that there is none.
 fn found(i: usize) -> NextAnswer
-    ensures { λ r. ⌜ r ≡ foundOf (within 16384 i) ⌝ }
+    ensures { λ r. ⌜ r ≡ foundOf (within marksSize i) ⌝ }
 {
-    if i < 16384 {
+    if i < MARKS_SIZE {
         return NextAnswer::Found(i);
     }
     NextAnswer::Nothing

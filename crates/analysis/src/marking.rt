@@ -1,9 +1,11 @@
 // Marking configurations, and setting marked ones pending again. Each function returns a number below which nothing is
 // pending, if there was nothing below the one it was given. Whoever follows has measured both buffers (refusals 9 and 11), and a
 // base is a configuration's number: hence each `requires`.
+use program::sizes::MARKS_SIZE;
 ghost use mathlib.Core.Path.{_≡_};
 ghost use Prim.Native.Nat.{_<_, _≤_, _+_, _*_};
 ghost use lib.ListN.{length};
+ghost use Rattle.program.specs.Sizes.{marksSize};
 ghost use Rattle.reach.specs.Worklist.{mark as marked, markWhen, wake as woken};
 ghost use Rattle.analysis.specs.Parts.{Becomes, Lowers, each, markFlag, wakeAt};
 
@@ -18,11 +20,11 @@ fn lower(a: usize, b: usize) -> usize
 
 // Marks a configuration; where it was not marked, it becomes pending.
 pub fn mark(marks: &mut [u8], pending: &mut [u8], at: usize, low: usize) -> usize
-    requires { ⌜ (length (now marks) ≡ 16384) × (length (now pending) ≡ 16384) ⌝ }
+    requires { ⌜ (length (now marks) ≡ marksSize) × (length (now pending) ≡ marksSize) ⌝ }
     ensures { λ r. ⌜ Becomes (marked at) (now (marks .entry)) (now (pending .entry)) (now (marks .exit)) (now (pending .exit))
         × Lowers (now (pending .entry)) low (now (pending .exit)) r ⌝ }
 {
-    if at < 16384 {
+    if at < MARKS_SIZE {
         if marks[at] == 0 {
             marks[at] = 1;
             pending[at] = 1;
@@ -33,7 +35,7 @@ pub fn mark(marks: &mut [u8], pending: &mut [u8], at: usize, low: usize) -> usiz
 }
 
 fn mark_when(yes: bool, marks: &mut [u8], pending: &mut [u8], at: usize, low: usize) -> usize
-    requires { ⌜ (length (now marks) ≡ 16384) × (length (now pending) ≡ 16384) ⌝ }
+    requires { ⌜ (length (now marks) ≡ marksSize) × (length (now pending) ≡ marksSize) ⌝ }
     ensures { λ r. ⌜ Becomes (markWhen yes at) (now (marks .entry)) (now (pending .entry)) (now (marks .exit)) (now (pending .exit))
         × Lowers (now (pending .entry)) low (now (pending .exit)) r ⌝ }
 {
@@ -53,7 +55,7 @@ pub fn mark_each(
     low: usize,
 ) -> usize
     requires { ⌜ (place + 8 ≤ length (now flags)) × (base < 1000000) ⌝ }
-    requires { ⌜ (length (now marks) ≡ 16384) × (length (now pending) ≡ 16384) ⌝ }
+    requires { ⌜ (length (now marks) ≡ marksSize) × (length (now pending) ≡ marksSize) ⌝ }
     ensures { λ r. ⌜ Becomes (each (markFlag (now (flags .entry)) place base) 8 0) (now (marks .entry)) (now (pending .entry)) (now (marks .exit)) (now (pending .exit))
         × Lowers (now (pending .entry)) low (now (pending .exit)) r ⌝ }
 {
@@ -68,11 +70,11 @@ pub fn mark_each(
 
 // Sets a marked configuration pending again.
 pub fn wake(marks: &[u8], pending: &mut [u8], at: usize, low: usize) -> usize
-    requires { ⌜ (length (now marks) ≡ 16384) × (length (now pending) ≡ 16384) ⌝ }
+    requires { ⌜ (length (now marks) ≡ marksSize) × (length (now pending) ≡ marksSize) ⌝ }
     ensures { λ r. ⌜ Becomes (woken at) (now (marks .entry)) (now (pending .entry)) (now (marks .entry)) (now (pending .exit))
         × Lowers (now (pending .entry)) low (now (pending .exit)) r ⌝ }
 {
-    if at < 16384 {
+    if at < MARKS_SIZE {
         if marks[at] != 0 {
             pending[at] = 1;
             return lower(low, at);
@@ -84,7 +86,7 @@ pub fn wake(marks: &[u8], pending: &mut [u8], at: usize, low: usize) -> usize
 // Wakes base + 8 r for each root r.
 pub fn wake_roots(marks: &[u8], pending: &mut [u8], base: usize, low: usize) -> usize
     requires { ⌜ base < 1000000 ⌝ }
-    requires { ⌜ (length (now marks) ≡ 16384) × (length (now pending) ≡ 16384) ⌝ }
+    requires { ⌜ (length (now marks) ≡ marksSize) × (length (now pending) ≡ marksSize) ⌝ }
     ensures { λ r. ⌜ Becomes (each (wakeAt base) 8 0) (now (marks .entry)) (now (pending .entry)) (now (marks .entry)) (now (pending .exit))
         × Lowers (now (pending .entry)) low (now (pending .exit)) r ⌝ }
 {

@@ -7,6 +7,8 @@ ghost use mathlib.Core.Bool.{cond};
 ghost use Prim.Native.Nat.{_/_, _%_, _≤_};
 ghost use lib.Dec.{eqb};
 ghost use lib.ListN.{length, getD};
+ghost use Rattle.program.specs.Sizes.{marksSize};
+ghost use Rattle.automaton.specs.Sizes.{nextStatesSize};
 ghost use Rattle.program.specs.Program.{Program};
 ghost use Rattle.reach.specs.Configurations.{none-set};
 ghost use Rattle.reach.specs.Reachable.{Derivable, Any};
@@ -41,8 +43,8 @@ fn unless_exit(mark: u8, i: usize) -> u8
 
 // The marked configurations of the numbers from low up to high are pending, but for the exits: these are known. Nothing else is.
 fn await_between(marks: &[u8], pending: &mut [u8], low: usize, high: usize)
-    requires { ⌜ (length (now marks) ≡ 16384) × (length (now pending) ≡ 16384) × (high ≤ 16384) ⌝ }
-    ensures { λ _. ⌜ Filled (λ i. firstPending low high (getD (now (marks .entry)) i 0) i) 16384 (now (pending .exit)) ⌝ }
+    requires { ⌜ (length (now marks) ≡ marksSize) × (length (now pending) ≡ marksSize) × (high ≤ marksSize) ⌝ }
+    ensures { λ _. ⌜ Filled (λ i. firstPending low high (getD (now (marks .entry)) i 0) i) marksSize (now (pending .exit)) ⌝ }
 {
     clear(pending);
     let mut i = low;
@@ -64,7 +66,7 @@ pub fn follow_part(
     low: usize,
     high: usize,
 )
-    requires { ⌜ (length (now next) ≡ 2048) × (length (now pending) ≡ 16384) × (high ≤ 16384) ⌝ }
+    requires { ⌜ (length (now next) ≡ nextStatesSize) × (length (now pending) ≡ marksSize) × (high ≤ marksSize) ⌝ }
     requires { ⌜ ((p : Program) × Followable p (now steps) (now next) low high (now marks)) ⌝ }
     ensures { λ _. ⌜ ((p : Program) → Followable p (now (steps .entry)) (now (next .entry)) low high (now (marks .entry))
         → Shows (Derivable p (Marked (now (marks .entry))) Any) (now (marks .exit)))

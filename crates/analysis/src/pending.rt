@@ -3,10 +3,13 @@ use crate::take::take;
 use automaton::in_use;
 use automaton::next::next_states;
 use program::DecodedProgram;
+use program::sizes::MARKS_SIZE;
 ghost use mathlib.Core.Path.{_≡_};
 ghost use mathlib.Core.Option.{none};
 ghost use Prim.Native.Nat.{_≤_};
 ghost use lib.ListN.{length};
+ghost use Rattle.program.specs.Sizes.{marksSize};
+ghost use Rattle.automaton.specs.Sizes.{nextStatesSize};
 ghost use Rattle.program.specs.Program.{Program};
 ghost use Rattle.program.specs.WellFormed.{WellFormed};
 ghost use Rattle.program.specs.Decoded.{programOf};
@@ -15,11 +18,11 @@ ghost use Rattle.analysis.specs.Parts.{worklist, NoneBelow, within, foll
 
 // The lowest pending number, or one past the end. Nothing below the start of the search is pending.
 fn lowest_pending(pending: &[u8], from: usize) -> usize
-    requires { ⌜ (length (now pending) ≡ 16384) × NoneBelow (now pending) from ⌝ }
-    ensures { λ r. ⌜ (lowest (now (pending .entry)) 0 ≡ within 16384 r) × NoneBelow (now (pending .entry)) r ⌝ }
+    requires { ⌜ (length (now pending) ≡ marksSize) × NoneBelow (now pending) from ⌝ }
+    ensures { λ r. ⌜ (lowest (now (pending .entry)) 0 ≡ within marksSize r) × NoneBelow (now (pending .entry)) r ⌝ }
 {
     let mut i = from;
-    while i < 16384 {
+    while i < MARKS_SIZE {
         if pending[i] != 0 {
             return i;
         }
@@ -39,14 +42,14 @@ pub fn follow_pending(
     known: &mut [u8],
     from: usize,
 ) -> usize
-    requires { ⌜ (count ≤ length (now keys)) × (length (now next) ≡ 2048) × NoneBelow (now pending) from ⌝ }
+    requires { ⌜ (count ≤ length (now keys)) × (length (now next) ≡ nextStatesSize) × NoneBelow (now pending) from ⌝ }
     requires { ⌜ ((p : Program) × Ends p (now keys) count (now next) (now marks) (now pending) (now known)) ⌝ }
     ensures { λ r. ⌜ ((p : Program) → Ends p (now (keys .entry)) count (now (next .entry)) (now (marks .entry)) (now (pending .entry)) (now (known .entry))
         → worklist (now (marks .exit)) (now (pending .exit)) (now (known .exit)) r ≡ followed p (now (marks .entry)) (now (pending .entry)) (now (known .entry))) ⌝ }
 {
     let mut iterations: usize = 0;
     let mut at = lowest_pending(pending, from);
-    while at < 16384 {
+    while at < MARKS_SIZE {
         let low = take(keys, count, next, marks, pending, known, at);
         iterations = iterations + 1;
         at = lowest_pending(pending, low);

@@ -6,8 +6,10 @@ use crate::pending::follow_program;
 use automaton::States;
 use automaton::in_use;
 use program::DecodedProgram;
+use reach::spans::SUMMARIES_SIZE;
 ghost use mathlib.Core.Path.{_≡_};
 ghost use lib.ListN.{length};
+ghost use Rattle.program.specs.Sizes.{marksSize};
 ghost use Rattle.automaton.specs.Decoded.{statesOf};
 ghost use Rattle.program.specs.WellFormed.{WellFormed};
 ghost use Rattle.program.specs.Decoded.{programOf};
@@ -17,7 +19,7 @@ ghost use Rattle.analysis.specs.Parts.{Becomes};
 
 // The main routine's entry in each initial state.
 fn open_initial(initial: States, marks: &mut [u8], pending: &mut [u8])
-    requires { ⌜ (length (now marks) ≡ 16384) × (length (now pending) ≡ 16384) ⌝ }
+    requires { ⌜ (length (now marks) ≡ marksSize) × (length (now pending) ≡ marksSize) ⌝ }
     ensures { λ _. ⌜ Becomes (opened (statesOf initial)) (now (marks .entry)) (now (pending .entry)) (now (marks .exit)) (now (pending .exit)) ⌝ }
 {
     let list = initial.list;
@@ -33,7 +35,7 @@ fn open_initial(initial: States, marks: &mut [u8], pending: &mut [u8])
 
 // Nothing is marked but the main routine's entries, and these are pending.
 fn begin(initial: States, marks: &mut [u8], pending: &mut [u8])
-    requires { ⌜ (length (now marks) ≡ 16384) × (length (now pending) ≡ 16384) ⌝ }
+    requires { ⌜ (length (now marks) ≡ marksSize) × (length (now pending) ≡ marksSize) ⌝ }
     ensures { λ _. ⌜ Becomes (opened (statesOf initial)) none-set none-set (now (marks .exit)) (now (pending .exit)) ⌝ }
 {
     clear(marks);
@@ -45,12 +47,12 @@ fn begin(initial: States, marks: &mut [u8], pending: &mut [u8])
 // accepts only well-formed programs, and the caller has measured the buffers (refusals 9 and 11): hence the `requires`.
 pub fn analyze_program(p: DecodedProgram, marks: &mut [u8], pending: &mut [u8]) -> usize
     requires { ⌜ WellFormed (programOf p) ⌝ }
-    requires { ⌜ (length (now marks) ≡ 16384) × (length (now pending) ≡ 16384) ⌝ }
+    requires { ⌜ (length (now marks) ≡ marksSize) × (length (now pending) ≡ marksSize) ⌝ }
     ensures { λ r. ⌜ (now (marks .exit) ≡ analysis (programOf p) .marks) × (now (pending .exit) ≡ none-set) × (r ≡ analysis (programOf p) .iterations) ⌝ }
 {
     let rule = p.automaton;
     let initial = rule.initial;
-    let mut known = [0u8; 1024];
+    let mut known = [0u8; SUMMARIES_SIZE];
     begin(initial, marks, pending);
     follow_program(p, marks, pending, &mut known, 0)
 }

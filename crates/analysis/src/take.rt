@@ -4,6 +4,9 @@ use crate::follow::wake_callers;
 ghost use mathlib.Core.Path.{_≡_};
 ghost use Prim.Native.Nat.{ℕ, _<_, _≤_, _+_};
 ghost use lib.ListN.{length};
+ghost use Rattle.reach.specs.Sizes.{summariesSize};
+ghost use Rattle.program.specs.Sizes.{marksSize};
+ghost use Rattle.automaton.specs.Sizes.{nextStatesSize};
 ghost use Rattle.program.specs.Program.{Program};
 ghost use Rattle.reach.specs.Worklist.{takeAt};
 ghost use Rattle.analysis.specs.Parts.{worklist, NoneBelow, Tables};
@@ -20,8 +23,8 @@ pub fn take(
     known: &mut [u8],
     i: usize,
 ) -> usize
-    requires { ⌜ (i < 16384) × (count ≤ length (now keys)) × (length (now next) ≡ 2048) × (length (now known) ≡ 1024) ⌝ }
-    requires { ⌜ (length (now marks) ≡ 16384) × (length (now pending) ≡ 16384) ⌝ }
+    requires { ⌜ (i < marksSize) × (count ≤ length (now keys)) × (length (now next) ≡ nextStatesSize) × (length (now known) ≡ summariesSize) ⌝ }
+    requires { ⌜ (length (now marks) ≡ marksSize) × (length (now pending) ≡ marksSize) ⌝ }
     ensures taken { λ v. ⌜ ((p : Program) → Tables p (now (keys .entry)) count (now (next .entry)) → (n : ℕ)
         → worklist (now (marks .exit)) (now (pending .exit)) (now (known .exit)) (n + 1)
         ≡ takeAt p i (worklist (now (marks .entry)) (now (pending .entry)) (now (known .entry)) n)) ⌝ }

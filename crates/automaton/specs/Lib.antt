@@ -1,3 +1,4 @@
+pub mod Sizes
 pub mod Automaton
 pub mod Decoded
 pub mod Flags

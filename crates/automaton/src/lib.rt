@@ -1,6 +1,7 @@
 // The automaton by value, and the questions that are asked of it.
 pub mod flags;
 pub mod next;
+pub mod sizes;
 
 ghost use mathlib.Core.Path.{_≡_};
 ghost use mathlib.Core.List.{[], _∷_, _++_};

@@ -1,12 +1,13 @@
 // The automaton's transitions as a table: may it go from one state to another on an action?
 use crate::DecodedAutomaton;
 use crate::flags::set_flag;
+use crate::sizes::NEXT_STATES_SIZE;
 use crate::transition;
 ghost use Rattle.automaton.specs.Decoded.{automatonOf};
 ghost use Rattle.automaton.specs.Flags.{Answers, Placed};
 
 pub struct NextStates {
-    pub flags: [u8; 2048],
+    pub flags: [u8; NEXT_STATES_SIZE],
 }
 
 // The flag of the transition that has this key. One with a part that is out of range has no flag: its place is past the end.
@@ -18,13 +19,13 @@ fn place_of(key: u32) -> usize
     let a = t.action;
     let s = t.after;
     if 8 <= q {
-        return 2048;
+        return NEXT_STATES_SIZE;
     }
     if 32 <= a {
-        return 2048;
+        return NEXT_STATES_SIZE;
     }
     if 8 <= s {
-        return 2048;
+        return NEXT_STATES_SIZE;
     }
     ((q * 32 + a) * 8 + s) as usize
 }
@@ -35,7 +36,7 @@ pub fn next_states(r: DecodedAutomaton) -> NextStates
     let transitions = r.transitions;
     let keys = transitions.keys;
     let count = transitions.count;
-    let mut flags = [0u8; 2048];
+    let mut flags = [0u8; NEXT_STATES_SIZE];
     let mut i: usize = 0;
     while i < 256 {
         if count <= i {

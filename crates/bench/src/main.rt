@@ -3,6 +3,8 @@
 use libc::STDERR_FILENO;
 use libc::STDIN_FILENO;
 use libc::STDOUT_FILENO;
+use report::BLOCK_SIZE;
+use report::INPUT_SIZE;
 ghost use Prim.Native.Nat.{_≤_};
 ghost use lib.ListN.{length};
 
@@ -20,7 +22,7 @@ fn print(out: &[u8], n: usize) -> bool
 
 // Turn by turn, until the input is at its end or printing fails.
 fn print_turns(inside_out: bool, input: &[u8]) {
-    let mut out = [0u8; 180235];
+    let mut out = [0u8; BLOCK_SIZE];
     let mut turn = transcript::begin(input, &mut out);
     while turn.next < input.len() {
         if !print(&out, turn.size) {
@@ -35,7 +37,7 @@ fn print_turns(inside_out: bool, input: &[u8]) {
 
 // Everything that standard input holds, and of a longer input enough to see that it is too long.
 fn print_all(inside_out: bool) {
-    let mut input = [0u8; 16385];
+    let mut input = [0u8; INPUT_SIZE + 1];
     let size = io::read_full(STDIN_FILENO, &mut input);
     print_turns(inside_out, &input[..size]);
 }

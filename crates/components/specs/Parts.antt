@@ -6,6 +6,7 @@ use mathlib.Core.Bool.{Bool, cond, not}
 use mathlib.Core.List.{List}
 use lib.Dec.{eqb}
 use lib.ListN.{length, getD}
+use Rattle.program.specs.Sizes.{marksSize}
 use Rattle.automaton.specs.declared.Event.the-variants.{Call}
 use Rattle.program.specs.Program.{Program}
 use Rattle.reach.specs.Configurations.{Set}
@@ -44,7 +45,7 @@ PassOf p members roots marks = Derivable (onlyOf (memberOf members) p) (PassSeed
 
 -- a pass may begin: what is marked and the roots are in states of the automaton, and the entries that the routines call outside are marked
 pub record Passable (p : Program) (members roots marks : List ℕ) : Type 0 where
-  pub marks-length : length marks ≡ 16384
+  pub marks-length : length marks ≡ marksSize
   pub marks-bits : (i : ℕ) → getD marks i 0 ≤ 1
   pub members-length : length members ≡ 16
   pub roots-length : length roots ≡ 128
@@ -55,7 +56,7 @@ pub record Passable (p : Program) (members roots marks : List ℕ) : Type 0 wher
 
 -- a pass is done: its routines have what it derives, and the others have what they had
 pub record Passed (p : Program) (members roots marks marks′ : List ℕ) : Type 0 where
-  pub marks-length : length marks′ ≡ 16384
+  pub marks-length : length marks′ ≡ marksSize
   pub marks-bits : (i : ℕ) → getD marks′ i 0 ≤ 1
   pub inside : (f n r q : ℕ) → Member members f → Marked marks′ f n r q ↔ PassOf p members roots marks f n r q
   pub outside : (f n r q : ℕ) → ¬ (Member members f) → Marked marks′ f n r q ↔ Marked marks f n r q

@@ -5,6 +5,7 @@ use mathlib.Core.Bool.{Bool, cond}
 use mathlib.Core.List.{List}
 use lib.Dec.{eqb}
 use lib.ListN.{length, getD}
+use Rattle.program.specs.Sizes.{marksSize}
 use Rattle.program.specs.Program.{Program}
 use Rattle.program.specs.WellFormed.{WellFormed}
 use Rattle.reach.specs.Configurations.{Set}
@@ -26,7 +27,7 @@ is f g = eqb g f
 -- marks from which a pass may go on
 pub record Ready (p : Program) (marks : List ℕ) : Type 0 where
   pub well-formed : WellFormed p
-  pub marks-length : length marks ≡ 16384
+  pub marks-length : length marks ≡ marksSize
   pub marks-bits : (i : ℕ) → getD marks i 0 ≤ 1
   pub states : {f n r q : ℕ} → Marked marks f n r q → q < p .automaton .states
 
@@ -40,7 +41,7 @@ ByMembers p members marks = Derivable (onlyOf (memberOf members) p) (Marked mark
 
 -- marks that have grown by the edges of these routines
 pub record Grows (p : Program) (members marks marks′ : List ℕ) : Type 0 where
-  pub marks-length : length marks′ ≡ 16384
+  pub marks-length : length marks′ ≡ marksSize
   pub marks-bits : (i : ℕ) → getD marks′ i 0 ≤ 1
   pub keeps : Sub (Marked marks) (Marked marks′)
   pub sound : Sub (Marked marks′) (ByMembers p members marks)

@@ -5,6 +5,8 @@ use mathlib.Core.Logic.{_⊎_, _↔_, _≢_}
 use mathlib.Core.Bool.{Bool, true, false}
 use mathlib.Core.List.{List}
 use lib.ListN.{length, getD}
+use Rattle.reach.specs.Sizes.{summariesSize}
+use Rattle.program.specs.Sizes.{marksSize}
 use Rattle.automaton.specs.declared.Event.{Event}
 use Rattle.program.specs.Program.{Edge, Program}
 use Rattle.program.specs.WellFormed.{WellFormed}
@@ -34,7 +36,7 @@ pub record Ranks (p : Program) (rank : ℕ → ℕ) : Type 0 where
 
 -- the summaries on the sheet before
 pub record Before (p : Program) (before : List ℕ) : Type 0 where
-  pub len : length before ≡ 1024
+  pub len : length before ≡ summariesSize
   pub flagged : (f r q : ℕ) → f < 16 → r < 8 → q < 8 → (getD before ((f * 8 + r) * 8 + q) 0 ≢ 0) ↔ Reachable p f 1 r q
 
 -- the turn of routine f of this rank
@@ -43,7 +45,7 @@ turnOf rank f = rank f * 16 + f
 
 -- turn i comes next: whatever has an earlier turn is done, component by component; what is done has its configurations worked anew, and the rest its old ones
 pub record Working (p p′ : Program) (edited : ℕ) (rank : ℕ → ℕ) (i : ℕ) (marks done reopened : List ℕ) : Type 0 where
-  pub marks-length : length marks ≡ 16384
+  pub marks-length : length marks ≡ marksSize
   pub marks-bits : (j : ℕ) → getD marks j 0 ≤ 1
   pub done-length : length done ≡ 16
   pub reopened-length : length reopened ≡ 16

@@ -5,6 +5,8 @@ ghost use Prim.Native.Nat.{_<_, _≤_};
 ghost use mathlib.Core.Path.{_≡_};
 ghost use mathlib.Core.Logic.{_⊎_};
 ghost use lib.ListN.{length};
+ghost use Rattle.reach.specs.Sizes.{summariesSize};
+ghost use Rattle.program.specs.Sizes.{marksSize};
 ghost use Rattle.program.specs.WellFormed.{WellFormed};
 ghost use Rattle.program.specs.Decoded.{edgeOf, programOf};
 ghost use Rattle.components.specs.Parts.{Member};
@@ -13,7 +15,7 @@ ghost use Rattle.components.specs.Turns.{Differs, Says, DifferingEdge, S
 // Whether the summaries of routine g on the sheet are others than before. Its 64 exits follow one another, and so do their
 // flags.
 fn summaries_differ(before: &[u8], marks: &[u8], g: usize) -> bool
-    requires { ⌜ (length (now before) ≡ 1024) × (length (now marks) ≡ 16384) × (g < 16) ⌝ }
+    requires { ⌜ (length (now before) ≡ summariesSize) × (length (now marks) ≡ marksSize) × (g < 16) ⌝ }
     ensures { λ y. ⌜ Says y (Differs (now (before .entry)) (now (marks .entry)) g) ⌝ }
 {
     let mut i: usize = 0;
@@ -30,7 +32,7 @@ fn summaries_differ(before: &[u8], marks: &[u8], g: usize) -> bool
 
 // Whether the edge of a key is a member's and calls a routine outside whose summaries are others than before.
 fn edge_differs(members: &[u8], before: &[u8], marks: &[u8], key: u32) -> bool
-    requires { ⌜ (length (now members) ≡ 16) × (length (now before) ≡ 1024) × (length (now marks) ≡ 16384) ⌝ }
+    requires { ⌜ (length (now members) ≡ 16) × (length (now before) ≡ summariesSize) × (length (now marks) ≡ marksSize) ⌝ }
     ensures { λ y. ⌜ Says y (DifferingEdge (now (members .entry)) (now (before .entry)) (now (marks .entry)) (edgeOf key)) ⌝ }
 {
     let f = (key / 0x1000000) as usize;
@@ -54,7 +56,7 @@ fn edge_differs(members: &[u8], before: &[u8], marks: &[u8], key: u32) -> bool
 }
 
 fn some_differ(keys: &[u32], count: usize, members: &[u8], before: &[u8], marks: &[u8]) -> bool
-    requires { ⌜ (count ≤ length (now keys)) × (length (now members) ≡ 16) × (length (now before) ≡ 1024) × (length (now marks) ≡ 16384) ⌝ }
+    requires { ⌜ (count ≤ length (now keys)) × (length (now members) ≡ 16) × (length (now before) ≡ summariesSize) × (length (now marks) ≡ marksSize) ⌝ }
     ensures { λ y. ⌜ Says y (SomeDiffering (now (members .entry)) (now (before .entry)) (now (marks .entry)) (now (keys .entry)) count) ⌝ }
 {
     let mut i: usize = 0;
@@ -70,7 +72,7 @@ fn some_differ(keys: &[u32], count: usize, members: &[u8], before: &[u8], marks:
 // Whether a member calls a routine outside whose summaries are others than before. The edges are those of a well-formed
 // program: hence the `requires`.
 fn calls_differ(p: DecodedProgram, members: &[u8], before: &[u8], marks: &[u8]) -> bool
-    requires { ⌜ WellFormed (programOf p) × (length (now members) ≡ 16) × (length (now before) ≡ 1024) × (length (now marks) ≡ 16384) ⌝ }
+    requires { ⌜ WellFormed (programOf p) × (length (now members) ≡ 16) × (length (now before) ≡ summariesSize) × (length (now marks) ≡ marksSize) ⌝ }
     ensures { λ y. ⌜ Says y (CallsDiffering (programOf p) (now (members .entry)) (now (before .entry)) (now (marks .entry))) ⌝ }
 {
     let edges = p.edges;
@@ -88,7 +90,7 @@ pub fn is_reopened(
     marks: &[u8],
     edited: usize,
 ) -> bool
-    requires { ⌜ (length (now members) ≡ 16) × (length (now before) ≡ 1024) × (length (now marks) ≡ 16384) × (edited < 16) ⌝ }
+    requires { ⌜ (length (now members) ≡ 16) × (length (now before) ≡ summariesSize) × (length (now marks) ≡ marksSize) × (edited < 16) ⌝ }
     requires { ⌜ WellFormed (programOf p) ⌝ }
     ensures { λ y. ⌜ Says y (Member (now (members .entry)) edited ⊎ CallsDiffering (programOf p) (now (members .entry)) (now (before .entry)) (now (marks .entry))) ⌝ }
 {

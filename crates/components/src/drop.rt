@@ -15,6 +15,7 @@ ghost use mathlib.Core.Path.{_≡_};
 ghost use mathlib.Core.Logic.{_↔_, _≢_};
 ghost use Prim.Native.Nat.{ℕ, _<_, _+_};
 ghost use lib.ListN.{length, getD};
+ghost use Rattle.program.specs.Sizes.{marksSize};
 ghost use Rattle.program.specs.Program.{Program};
 ghost use Rattle.program.specs.Decoded.{programOf};
 ghost use Rattle.reach.specs.Configurations.{none-set};
@@ -36,7 +37,7 @@ fn work_component(
     done: &mut [u8],
     reopened: &mut [u8],
 )
-    requires { ⌜ (f < 16) × (edited < 16) × (length (now pending) ≡ 16384) × (getD (now done) f 0 ≡ 0) ⌝ }
+    requires { ⌜ (f < 16) × (edited < 16) × (length (now pending) ≡ marksSize) × (getD (now done) f 0 ≡ 0) ⌝ }
     requires { ⌜ ((old : Program) × Turning old (programOf p) edited (now leads) (now roots) (now before) (turnOf (rankOf (now leads)) f) (now marks) (now done) (now reopened)) ⌝ }
     ensures { λ _. ⌜ ((old : Program) → Turning old (programOf p) edited (now (leads .entry)) (now (roots .entry)) (now (before .entry)) (turnOf (rankOf (now (leads .entry))) f) (now (marks .entry)) (now (done .entry)) (now (reopened .entry))
         → Turning old (programOf p) edited (now (leads .entry)) (now (roots .entry)) (now (before .entry)) (turnOf (rankOf (now (leads .entry))) f + 1) (now (marks .exit)) (now (done .exit)) (now (reopened .exit))) ⌝ }
@@ -65,7 +66,7 @@ fn visit(
     done: &mut [u8],
     reopened: &mut [u8],
 )
-    requires { ⌜ (edited < 16) × (length (now pending) ≡ 16384) ⌝ }
+    requires { ⌜ (edited < 16) × (length (now pending) ≡ marksSize) ⌝ }
     requires { ⌜ ((old : Program) × Turning old (programOf p) edited (now leads) (now roots) (now before) i (now marks) (now done) (now reopened)) ⌝ }
     ensures { λ _. ⌜ ((old : Program) → Turning old (programOf p) edited (now (leads .entry)) (now (roots .entry)) (now (before .entry)) i (now (marks .entry)) (now (done .entry)) (now (reopened .entry))
         → Turning old (programOf p) edited (now (leads .entry)) (now (roots .entry)) (now (before .entry)) (i + 1) (now (marks .exit)) (now (done .exit)) (now (reopened .exit))) ⌝ }
@@ -103,7 +104,7 @@ fn visit_all(
     done: &mut [u8],
     reopened: &mut [u8],
 )
-    requires { ⌜ (edited < 16) × (length (now pending) ≡ 16384) ⌝ }
+    requires { ⌜ (edited < 16) × (length (now pending) ≡ marksSize) ⌝ }
     requires { ⌜ ((old : Program) × Turning old (programOf p) edited (now leads) (now roots) (now before) 16 (now marks) (now done) (now reopened)) ⌝ }
     ensures { λ _. ⌜ ((old : Program) → Turning old (programOf p) edited (now (leads .entry)) (now (roots .entry)) (now (before .entry)) 16 (now (marks .entry)) (now (done .entry)) (now (reopened .entry))
         → Turning old (programOf p) edited (now (leads .entry)) (now (roots .entry)) (now (before .entry)) 272 (now (marks .exit)) (now (done .exit)) (now (reopened .exit))) ⌝ }
@@ -135,7 +136,7 @@ pub fn drop_inside_out(
     marks: &mut [u8],
     pending: &mut [u8],
 ) -> Routines
-    requires { ⌜ (length (now pending) ≡ 16384) × (edited < 16) ⌝ }
+    requires { ⌜ (length (now pending) ≡ marksSize) × (edited < 16) ⌝ }
     requires { ⌜ ((old : Program) × DropOf old (programOf p) edited × (now marks ≡ freshMarks old)) ⌝ }
     ensures { λ r. ⌜ ((old : Program) → DropOf old (programOf p) edited → now (marks .entry) ≡ freshMarks old
         → (now (marks .exit) ≡ freshMarks (programOf p)) × (now (pending .exit) ≡ none-set)

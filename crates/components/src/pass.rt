@@ -7,9 +7,12 @@ use analysis::part::follow_part;
 use automaton::in_use;
 use automaton::next::next_states;
 use program::DecodedProgram;
+use program::sizes::MARKS_SIZE;
 ghost use mathlib.Core.Path.{_≡_};
 ghost use Prim.Native.Nat.{_<_};
 ghost use lib.ListN.{length, getD};
+ghost use Rattle.program.specs.Sizes.{marksSize};
+ghost use Rattle.automaton.specs.Sizes.{nextStatesSize};
 ghost use Rattle.automaton.specs.Flags.{Answers};
 ghost use Rattle.program.specs.WellFormed.{WellFormed};
 ghost use Rattle.program.specs.Decoded.{programOf};
@@ -21,7 +24,7 @@ ghost use Rattle.components.specs.PassParts.{firstMark, Ready, ByMembers
 
 // The mark of number i at the start: of the component's routines only the entries in their roots are marked.
 fn first_mark(members: &[u8], roots: &[u8], old: u8, i: usize) -> u8
-    requires { ⌜ (length (now members) ≡ 16) × (length (now roots) ≡ 128) × (i < 16384) ⌝ }
+    requires { ⌜ (length (now members) ≡ 16) × (length (now roots) ≡ 128) × (i < marksSize) ⌝ }
     ensures { λ r. ⌜ r ≡ firstMark (now (members .entry)) (now (roots .entry)) old i ⌝ }
 {
     if members[i / 1024] == 0 {
@@ -40,11 +43,11 @@ fn first_mark(members: &[u8], roots: &[u8], old: u8, i: usize) -> u8
 }
 
 fn reset(members: &[u8], roots: &[u8], marks: &mut [u8])
-    requires { ⌜ (length (now members) ≡ 16) × (length (now roots) ≡ 128) × (length (now marks) ≡ 16384) ⌝ }
-    ensures { λ _. ⌜ Filled (λ i. firstMark (now (members .entry)) (now (roots .entry)) (getD (now (marks .entry)) i 0) i) 16384 (now (marks .exit)) ⌝ }
+    requires { ⌜ (length (now members) ≡ 16) × (length (now roots) ≡ 128) × (length (now marks) ≡ marksSize) ⌝ }
+    ensures { λ _. ⌜ Filled (λ i. firstMark (now (members .entry)) (now (roots .entry)) (getD (now (marks .entry)) i 0) i) marksSize (now (marks .exit)) ⌝ }
 {
     let mut i: usize = 0;
-    while i < 16384 {
+    while i < MARKS_SIZE {
         let b = first_mark(members, roots, marks[i], i);
         marks[i] = b;
         i = i + 1;
@@ -61,7 +64,7 @@ fn turn(
     marks: &mut [u8],
     pending: &mut [u8],
 )
-    requires { ⌜ (length (now members) ≡ 16) × (f < 16) × (length (now next) ≡ 2048) × (length (now pending) ≡ 16384) ⌝ }
+    requires { ⌜ (length (now members) ≡ 16) × (f < 16) × (length (now next) ≡ nextStatesSize) × (length (now pending) ≡ marksSize) ⌝ }
     requires { ⌜ Ready (programOf p) (now marks) × Answers (programOf p .automaton) (now next) ⌝ }
     ensures { λ _. ⌜ Turn (programOf p) (now (members .entry)) f (now (marks .entry)) (now (marks .exit)) ⌝ }
 {
@@ -78,7 +81,7 @@ fn turn(
 }
 
 fn round(p: DecodedProgram, members: &[u8], next: &[u8], marks: &mut [u8], pending: &mut [u8])
-    requires { ⌜ (length (now members) ≡ 16) × (length (now next) ≡ 2048) × (length (now pending) ≡ 16384) ⌝ }
+    requires { ⌜ (length (now members) ≡ 16) × (length (now next) ≡ nextStatesSize) × (length (now pending) ≡ marksSize) ⌝ }
     requires { ⌜ Ready (programOf p) (now marks) × Answers (programOf p .automaton) (now next) ⌝ }
     ensures { λ _. ⌜ Round (programOf p) (now (members .entry)) 16 (now (marks .entry)) (now (marks .exit)) ⌝ }
 {
@@ -91,7 +94,7 @@ fn round(p: DecodedProgram, members: &[u8], next: &[u8], marks: &mut [u8], pendi
 
 // Rounds until one marks nothing.
 fn rounds(p: DecodedProgram, members: &[u8], next: &[u8], marks: &mut [u8], pending: &mut [u8])
-    requires { ⌜ (length (now members) ≡ 16) × (length (now next) ≡ 2048) × (length (now pending) ≡ 16384) ⌝ }
+    requires { ⌜ (length (now members) ≡ 16) × (length (now next) ≡ nextStatesSize) × (length (now pending) ≡ marksSize) ⌝ }
     requires { ⌜ Ready (programOf p) (now marks) × Answers (programOf p .automaton) (now next) ⌝ }
     ensures { λ _. ⌜ Shows (ByMembers (programOf p) (now (members .entry)) (now (marks .entry))) (now (marks .exit)) ⌝ }
 {
@@ -115,7 +118,7 @@ pub fn component_pass(
     marks: &mut [u8],
     pending: &mut [u8],
 )
-    requires { ⌜ WellFormed (programOf p) × (length (now pending) ≡ 16384) ⌝ }
+    requires { ⌜ WellFormed (programOf p) × (length (now pending) ≡ marksSize) ⌝ }
     requires { ⌜ Passable (programOf p) (now members) (now roots) (now marks) ⌝ }
     ensures { λ _. ⌜ Passed (programOf p) (now (members .entry)) (now (roots .entry)) (now (marks .entry)) (now (marks .exit)) × (now (pending .exit) ≡ none-set) ⌝ }
 {

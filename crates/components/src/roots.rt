@@ -6,11 +6,13 @@ use automaton::States;
 use automaton::flags::set_flag;
 use automaton::in_use;
 use program::DecodedProgram;
+use program::sizes::MARKS_SIZE;
 ghost use mathlib.Core.Path.{_≡_};
 ghost use Prim.Native.Nat.{ℕ, min, _<_, _≤_};
 ghost use mathlib.Core.Bool.{cond, _&&_};
 ghost use lib.Dec.{ltb};
 ghost use lib.ListN.{length, getD};
+ghost use Rattle.program.specs.Sizes.{marksSize};
 ghost use Rattle.program.specs.WellFormed.{WellFormed};
 ghost use Rattle.program.specs.Decoded.{programOf};
 ghost use Rattle.reach.specs.Marks.{Marked, Shows, countSet};
@@ -24,7 +26,7 @@ pub struct Roots {
 
 // The marked entries (f, 0, r, r). The caller has measured the marks (refusal 9): hence the `requires`.
 pub fn old_roots(marks: &[u8]) -> Roots
-    requires { ⌜ length (now marks) ≡ 16384 ⌝ }
+    requires { ⌜ length (now marks) ≡ marksSize ⌝ }
     ensures { λ r. ⌜ Flagged 16 8 (λ f. λ x. Marked (now (marks .entry)) f 0 x x) (r .flags) ⌝ }
 {
     let mut flags = [0u8; 128];
@@ -105,7 +107,7 @@ fn roots_further(marks: &[u8], states: usize, keys: &[u32], count: usize, live: 
 
 // The roots that occur: passes over the edges until nothing more is set.
 fn live_roots(p: DecodedProgram, marks: &[u8]) -> Roots
-    requires { ⌜ WellFormed (programOf p) × (length (now marks) ≡ 16384) ⌝ }
+    requires { ⌜ WellFormed (programOf p) × (length (now marks) ≡ marksSize) ⌝ }
     ensures { λ r. ⌜ Flagged 16 8 (Live (programOf p) (Marked (now (marks .entry)))) (r .flags) ⌝ }
 {
     let edges = p.edges;
@@ -134,12 +136,12 @@ fn both_set(a: bool, b: bool) -> u8
 
 // Every mark becomes 1 if it is set and its root occurs, else 0.
 fn cut(live: &[u8], marks: &mut [u8])
-    requires { ⌜ (length (now live) ≡ 128) × (length (now marks) ≡ 16384) ⌝ }
-    ensures { λ _. ⌜ (length (now (marks .exit)) ≡ 16384)
-        × ((i : ℕ) → i < 16384 → getD (now (marks .exit)) i 0 ≡ keptByte (now (live .entry)) (now (marks .entry)) i) ⌝ }
+    requires { ⌜ (length (now live) ≡ 128) × (length (now marks) ≡ marksSize) ⌝ }
+    ensures { λ _. ⌜ (length (now (marks .exit)) ≡ marksSize)
+        × ((i : ℕ) → i < marksSize → getD (now (marks .exit)) i 0 ≡ keptByte (now (live .entry)) (now (marks .entry)) i) ⌝ }
 {
     let mut i: usize = 0;
-    while i < 16384 {
+    while i < MARKS_SIZE {
         marks[i] = both_set(marks[i] != 0, live[i / 1024 * 8 + i / 8 % 8] != 0);
         i = i + 1;
     }
@@ -148,7 +150,7 @@ fn cut(live: &[u8], marks: &mut [u8])
 // What has a root that does not occur goes. The reader accepts only well-formed programs, and the caller has measured the
 // marks (refusal 9): hence the `requires`.
 pub fn cut_to_live(p: DecodedProgram, marks: &mut [u8])
-    requires { ⌜ WellFormed (programOf p) × (length (now marks) ≡ 16384) ⌝ }
+    requires { ⌜ WellFormed (programOf p) × (length (now marks) ≡ marksSize) ⌝ }
     ensures { λ _. ⌜ Shows (λ f. λ n. λ x. λ q. Live (programOf p) (Marked (now (marks .entry))) f x × Marked (now (marks .entry)) f n x q) (now (marks .exit)) ⌝ }
 {
     let roots = live_roots(p, marks);

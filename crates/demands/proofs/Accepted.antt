@@ -13,7 +13,8 @@ use Rattle.program.specs.Reading.{Outcome, accepted, readFile, refusal}
 use Rattle.program.specs.declared.Verdict.{Verdict}
 use Rattle.program.specs.declared.Verdict.the-variants.{Accepted, Refused}
 use Rattle.program.proofs.Theorems.{accepted-well-formed, written-back, read-again, written-limited}
-use Rattle.writer.specs.Answers.{outputSize, answerBy, outputBy, writeAnswer, outputAfter, refusal as writeRefusal, writtenLength}
+use Rattle.program.specs.Sizes.{outputSize}
+use Rattle.writer.specs.Answers.{answerBy, outputBy, writeAnswer, outputAfter, refusal as writeRefusal, writtenLength}
 use Rattle.writer.specs.declared.WriteAnswer.the-variants as answer
 use Rattle.desk.specs.Entries.{read, write, Lent, Back, programIn, Gives}
 use Rattle.demands.specs.Demands.{FileOf, Acceptance}

@@ -5,8 +5,8 @@ use Prim.Native.Nat.{ℕ}
 use mathlib.Core.Bool.{cond}
 use mathlib.Core.List.{List, [], _∷_}
 use lib.Dec.{ltb, eqb}
+use Rattle.program.specs.Sizes.{marksSize, outputSize}
 use Rattle.program.specs.Program.{Edge, Program}
-use Rattle.writer.specs.Answers.{outputSize}
 use Rattle.edit.specs.Edits.{oldEdge, newEdge}
 use Rattle.edit.specs.Editing.{without, inserted, withEdges, wantedEdit}
 use Rattle.edit.specs.declared.Edit.{Edit}
@@ -27,7 +27,7 @@ editReadRefusal (Refused n) = n
 -- the first refusal after 9 and before 17 that a call meets, or 0: a short output (10), a working buffer of another length than the marks (11), then those
 -- of the edit line (12 to 16); whether an edge is there, and how many there are, is read off the set
 unfoldable pub bookRefusal : Program → List ℕ → ℕ → ℕ → ℕ
-bookRefusal b line output work = cond (ltb output outputSize) 10 (cond (eqb work 16384) (editReadRefusal (wantedEdit b line)) 11)
+bookRefusal b line output work = cond (ltb output outputSize) 10 (cond (eqb work marksSize) (editReadRefusal (wantedEdit b line)) 11)
 
 -- the set after a call: a refused one leaves it
 abbrev pub bookEdited : EditRead → Program → Program

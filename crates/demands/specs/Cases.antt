@@ -6,7 +6,7 @@ use Prim.Native.Nat.{ℕ}
 use Prim.Native.String.{String}
 use lib.ListN.{length, drop, set, replicate}
 use Rattle.program.specs.Sample.{bytes, lineBytes, header, edges, transitions, F}
-use Rattle.writer.specs.Answers.{outputSize}
+use Rattle.program.specs.Sizes.{outputSize}
 use Rattle.reach.specs.Configurations.{none-set}
 use Rattle.reach.specs.Marks.{violations}
 use Rattle.desk.specs.Entries.{analyze, repair-forward, repair-inside-out, Lent, Back, programIn, Gives}

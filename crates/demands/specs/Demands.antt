@@ -5,12 +5,12 @@ use mathlib.Core.Bool.{true, false}
 use mathlib.Core.List.{List, [], map, List·Memᴰ}
 use Prim.Native.Nat.{ℕ, _≤_, _<_}
 use lib.ListN.{getD, length}
+use Rattle.program.specs.Sizes.{marksSize, outputSize}
 use Rattle.automaton.specs.Automaton.{isRejecting}
 use Rattle.program.specs.Program.{Program}
 use Rattle.program.specs.WellFormed.{WellFormed}
 use Rattle.program.specs.Writing.{written}
 use Rattle.program.specs.Reading.{readFile}
-use Rattle.writer.specs.Answers.{outputSize}
 use Rattle.reach.specs.Configurations.{InRange, number, routineOf, nodeOf, rootOf, stateOf, none-set}
 use Rattle.reach.specs.Runs.{Activation, Run, Occurs}
 use Rattle.reach.specs.Worklist.{analysis}
@@ -55,13 +55,13 @@ pub record Acceptance (b : Lent) (a : Back) : Type 0 where
 -- of a program, and what a full analysis of its file gives back
 pub record Demand2 (p : Program) (a : Back) : Type 0 where
   -- there is a byte for each number
-  pub bytes : length (a .marks) ≡ 16384
+  pub bytes : length (a .marks) ≡ marksSize
   -- at the number of a configuration there is a 1 exactly when some run of the program arrives there
   pub marked : {f n r q : ℕ} → InRange f n r q → (getD (a .marks) (number f n r q) 0 ≡ 1) ↔ Occurs p f n r q
   -- no run arrives at a configuration that has no number
   pub numbered : {f n r q : ℕ} → Occurs p f n r q → InRange f n r q
   -- every other byte is 0
-  pub others : (i : ℕ) → i < 16384
+  pub others : (i : ℕ) → i < marksSize
       → ((getD (a .marks) i 0 ≡ 1) × Occurs p (routineOf i) (nodeOf i) (rootOf i) (stateOf i))
       ⊎ ((getD (a .marks) i 0 ≡ 0) × (¬ (Occurs p (routineOf i) (nodeOf i) (rootOf i) (stateOf i))))
   -- so many configurations are marked

@@ -6,6 +6,7 @@ use mathlib.Core.Bool.{Bool, true, false, cond, _&&_, not}
 use mathlib.Core.List.{List, [], _∷_, _++_}
 use lib.Dec.{ltb, leb, eqb}
 use lib.ListN.{length}
+use Rattle.program.specs.Sizes.{marksSize, outputSize}
 use Rattle.text.specs.Lines.{lines, numbers, lineFrom}
 use Rattle.text.specs.declared.Line.{Line}
 use Rattle.program.specs.Program.{Program}
@@ -102,15 +103,15 @@ editRows p l =
 
 -- the marks do not have 16,384 bytes
 abbrev pub marksRow : Lent → Row
-marksRow b = row 9 (not (eqb (length (b .marks)) 16384))
+marksRow b = row 9 (not (eqb (length (b .marks)) marksSize))
 
 -- the output has under 5,328 bytes
 abbrev pub outputRow : Lent → Row
-outputRow b = row 10 (ltb (length (b .output)) 5328)
+outputRow b = row 10 (ltb (length (b .output)) outputSize)
 
 -- the working buffer does not have 16,384 bytes
 abbrev pub workRow : Lent → Row
-workRow b = row 11 (not (eqb (length (b .work)) 16384))
+workRow b = row 11 (not (eqb (length (b .work)) marksSize))
 
 -- any byte differs from the program's own marks
 abbrev pub foreignRow : Lent → Row

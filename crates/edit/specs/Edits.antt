@@ -1,21 +1,20 @@
 -- Edits, and the edges that they are about.
-use Prim.Native.Nat.{ℕ, _+_, _-_}
+use Prim.Native.Nat.{ℕ}
 use mathlib.Core.Bool.{cond}
-use lib.Dec.{ltb}
-use Rattle.program.specs.Program.{Edge}
+use Rattle.program.specs.Program.{Edge, isAction, calledBy, callOf}
 use Rattle.edit.specs.declared.Label.{Label}
 use Rattle.edit.specs.declared.Label.the-variants.{Action, Call}
 use Rattle.edit.specs.declared.Step.{Step}
 use Rattle.edit.specs.declared.Edit.{Edit}
 use Rattle.edit.specs.declared.Edit.the-variants.{Add, Drop, Replace}
 
--- the label of a number: below 40 (hexadecimal) an action, from there on a call
+-- the label of a number
 abbrev pub labelOf : ℕ → Label
-labelOf a = cond (ltb a 0x40) (Action a) (Call (a - 0x40))
+labelOf a = cond (isAction a) (Action a) (Call (calledBy a))
 
 abbrev pub labelNumber : Label → ℕ
 labelNumber (Action a) = a
-labelNumber (Call g) = 0x40 + g
+labelNumber (Call g) = callOf g
 
 -- the edge of a step with this label, and with its own
 abbrev pub labelled : Step → Label → Edge

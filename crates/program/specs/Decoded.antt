@@ -6,6 +6,7 @@ use Rattle.automaton.specs.Decoded.{keysOf, automatonOf}
 use Rattle.program.specs.Program.{Edge, Program}
 use Rattle.program.specs.declared.Nodes.{Nodes}
 use Rattle.program.specs.declared.DecodedProgram.{DecodedProgram}
+use Rattle.program.specs.declared.edges.DecodedEdge.{DecodedEdge}
 
 abbrev pub nodesOf : Nodes → List ℕ
 nodesOf n = take (n .count) (n .list)
@@ -13,6 +14,10 @@ nodesOf n = take (n .count) (n .list)
 -- an edge is kept as one number in base 256
 abbrev pub edgeOf : ℕ → Edge
 edgeOf k = record { routine = k / 0x1000000; source = k / 0x10000 % 256; label = k / 0x100 % 256; target = k % 256 }
+
+-- the edge of its parts one by one
+abbrev pub edgeView : DecodedEdge → Edge
+edgeView e = record { routine = e .routine; source = e .source; label = e .label; target = e .target }
 
 abbrev pub programOf : DecodedProgram → Program
 programOf d =

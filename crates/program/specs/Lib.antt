@@ -1,3 +1,4 @@
+pub mod Sizes
 pub mod Program
 pub mod Frames
 pub mod Writing

@@ -1,10 +1,12 @@
 -- A measuring program, as lists.
-use Prim.Native.Nat.{ℕ, _+_}
+use Prim.Native.Nat.{ℕ, _+_, _-_}
 use mathlib.Core.Bool.{Bool, _&&_, _||_, not}
 use mathlib.Core.List.{List, []}
 use lib.Dec.{ltb, leb, eqb}
 use lib.ListN.{getD}
+use Rattle.automaton.specs.Sizes.{maxStates, maxActions}
 use Rattle.automaton.specs.Automaton.{Transition, Automaton}
+use Rattle.program.specs.Sizes.{maxRoutines, maxNodes, firstCall}
 
 -- an edge leads from one node of a routine to another (paper: a step from place to place);
 -- its label is the number of an action, or 40 + f (hexadecimal) for a call of routine f
@@ -31,6 +33,22 @@ noProgram =
       automaton = record { states = 0; actions = 0; transitions = []; initial = []; rejecting = [] };
     }
 
+-- ---- labels: the number of an action, or 40 + f (hexadecimal) for a call of routine f
+
+abbrev pub isAction : ℕ → Bool
+isAction a = ltb a firstCall
+
+abbrev pub isCall : ℕ → Bool
+isCall a = leb firstCall a
+
+-- the routine that the label of a call calls
+abbrev pub calledBy : ℕ → ℕ
+calledBy a = a - firstCall
+
+-- the label of a call of f
+abbrev pub callOf : ℕ → ℕ
+callOf f = firstCall + f
+
 -- ---- ranges
 
 abbrev pub within : ℕ → ℕ → ℕ → Bool
@@ -38,11 +56,15 @@ within lo hi x = leb lo x && leb x hi
 
 -- routines, states and actions
 abbrev pub countsFit : ℕ → ℕ → ℕ → Bool
-countsFit r q a = within 1 16 r && within 1 8 q && within 1 32 a
+countsFit r q a = within 1 maxRoutines r && within 1 maxStates q && within 1 maxActions a
 
 -- a label is an action or a call of a routine
 abbrev pub labelFits : ℕ → ℕ → ℕ → Bool
-labelFits routines actions a = ltb a actions || (leb 0x40 a && ltb a (0x40 + routines))
+labelFits routines actions a = ltb a actions || (isCall a && ltb a (callOf routines))
+
+-- how many nodes a routine may have: an entry and an exit at least
+abbrev pub nodesFit : ℕ → Bool
+nodesFit n = within 2 maxNodes n
 
 -- an edge of a routine that has so many nodes; no edge leaves the exit
 abbrev pub placed : ℕ → ℕ → ℕ → Bool

@@ -7,7 +7,9 @@ use lib.ListN.{length, getD}
 use Rattle.text.specs.Lines.{lines, numbers, lineFrom}
 use Rattle.text.specs.declared.Line.{Line}
 use Rattle.automaton.specs.Automaton.{Transition, Automaton}
-use Rattle.program.specs.Program.{Edge, Program, noProgram, within, countsFit, placed, labelFits, edgeFits, transitionFits}
+use Rattle.automaton.specs.Sizes.{maxTransitions}
+use Rattle.program.specs.Sizes.{maxEdges}
+use Rattle.program.specs.Program.{Edge, Program, noProgram, within, nodesFit, countsFit, placed, labelFits, edgeFits, transitionFits}
 use Rattle.program.specs.Frames.{size, num, kind, word, keyOf}
 use Rattle.program.specs.declared.Verdict.{Verdict}
 use Rattle.program.specs.declared.Verdict.the-variants.{Accepted, Refused}
@@ -47,7 +49,7 @@ transitionIn l = record { before = num l 1; action = num l 2; after = num l 3 }
 abbrev pub ranged : Program → ℕ → Line → Bool
 ranged p k l =
     (eqb k 1 && countsFit (num l 1) (num l 2) (num l 3))
-    || (eqb k 2 && ltb (num l 1) (p .routines) && within 2 16 (num l 2))
+    || (eqb k 2 && ltb (num l 1) (p .routines) && nodesFit (num l 2))
     || (eqb k 3 && edgeFits p (edgeIn l))
     || (eqb k 4 && transitionFits (p .automaton) (transitionIn l))
     || (within 5 6 k && ltb (num l 1) (p .automaton .states))
@@ -55,7 +57,7 @@ ranged p k l =
 
 -- the 257th edge or transition
 abbrev pub full : ℕ → ℕ → ℕ → Bool
-full edges transitions k = (eqb k 3 && leb 256 edges) || (eqb k 4 && leb 256 transitions)
+full edges transitions k = (eqb k 3 && leb maxEdges edges) || (eqb k 4 && leb maxTransitions transitions)
 
 -- an end frame with a wrong count
 abbrev pub miscounted : ℕ → ℕ → Line → Bool

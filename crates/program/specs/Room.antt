@@ -2,15 +2,17 @@
 use Prim.Native.Nat.{ℕ, _<_}
 use mathlib.Core.Path.{_≡_}
 use lib.ListN.{length}
+use Rattle.automaton.specs.Sizes.{maxStates, maxTransitions}
 use Rattle.automaton.specs.Automaton.{Automaton}
+use Rattle.program.specs.Sizes.{maxRoutines, maxEdges}
 use Rattle.program.specs.Program.{Program}
 
 pub record RoomInAutomaton (r : Automaton) (k : ℕ) : Type 0 where
-  pub transitions : k ≡ 4 → length (r .transitions) < 256
-  pub initial : k ≡ 5 → length (r .initial) < 8
-  pub rejecting : k ≡ 6 → length (r .rejecting) < 8
+  pub transitions : k ≡ 4 → length (r .transitions) < maxTransitions
+  pub initial : k ≡ 5 → length (r .initial) < maxStates
+  pub rejecting : k ≡ 6 → length (r .rejecting) < maxStates
 
 pub record Room (p : Program) (k : ℕ) : Type 0 where
-  pub nodes : k ≡ 2 → length (p .nodes) < 16
-  pub edges : k ≡ 3 → length (p .edges) < 256
+  pub nodes : k ≡ 2 → length (p .nodes) < maxRoutines
+  pub edges : k ≡ 3 → length (p .edges) < maxEdges
   pub automaton : RoomInAutomaton (p .automaton) k

@@ -5,7 +5,9 @@ use mathlib.Core.Bool.{Bool, true}
 use mathlib.Core.List.{List, [], _∷_, map}
 use lib.ListN.{length}
 use lib.Dec.{ltb}
-use Rattle.program.specs.Program.{Program, within, countsFit, edgeFits, transitionFits}
+use Rattle.automaton.specs.Sizes.{maxTransitions}
+use Rattle.program.specs.Sizes.{maxEdges}
+use Rattle.program.specs.Program.{Program, nodesFit, countsFit, edgeFits, transitionFits}
 use Rattle.program.specs.Frames.{edgeKey, transitionKey, initialKey, rejectingKey}
 
 -- every element passes a test
@@ -21,13 +23,13 @@ Ascending low (k ∷ ks) = (low < k) × Ascending k ks
 pub record WellFormed (p : Program) : Type 0 where
   pub counts-fit : countsFit (p .routines) (p .automaton .states) (p .automaton .actions) ≡ true
   pub complete : length (p .nodes) ≡ p .routines
-  pub nodes-fit : All (within 2 16) (p .nodes)
+  pub nodes-fit : All nodesFit (p .nodes)
   pub edges-fit : All (edgeFits p) (p .edges)
   pub edges-ascend : Ascending 0 (map edgeKey (p .edges))
-  pub edges-limited : length (p .edges) ≤ 256
+  pub edges-limited : length (p .edges) ≤ maxEdges
   pub transitions-fit : All (transitionFits (p .automaton)) (p .automaton .transitions)
   pub transitions-ascend : Ascending 0 (map transitionKey (p .automaton .transitions))
-  pub transitions-limited : length (p .automaton .transitions) ≤ 256
+  pub transitions-limited : length (p .automaton .transitions) ≤ maxTransitions
   pub initial-fit : All (λ q. ltb q (p .automaton .states)) (p .automaton .initial)
   pub initial-ascend : Ascending 0 (map initialKey (p .automaton .initial))
   pub rejecting-fit : All (λ q. ltb q (p .automaton .states)) (p .automaton .rejecting)

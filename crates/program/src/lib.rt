@@ -1,4 +1,7 @@
 // The program of a file, decoded: counts, nodes, edges and the automaton, by value.
+pub mod edges;
+pub mod sizes;
+
 use automaton::DecodedAutomaton;
 use automaton::Table;
 

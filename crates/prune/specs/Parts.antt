@@ -6,6 +6,7 @@ use mathlib.Core.Bool.{Bool, true, false, cond, _&&_, _||_}
 use mathlib.Core.List.{List, [], _∷_, map, List·Memᴰ}
 use lib.Dec.{eqb, ltb}
 use lib.ListN.{length, getD, set, take}
+use Rattle.program.specs.Sizes.{marksSize}
 use Rattle.automaton.specs.Decoded.{transitionOf}
 use Rattle.automaton.specs.Flags.{isSet}
 use Rattle.program.specs.Program.{Program}
@@ -89,7 +90,7 @@ keepsAt keys m lines k marks kept i =
 -- by keeping, one at a time, what a test of the kept bytes names
 pub data Keeps (test : List ℕ → ℕ → Bool) (old : List ℕ) : List ℕ → Type 0 where
   same : Keeps test old old
-  more : {kept : List ℕ} → Keeps test old kept → (i : ℕ) → i < 16384 → test kept i ≡ true → Keeps test old (set kept i 1)
+  more : {kept : List ℕ} → Keeps test old kept → (i : ℕ) → i < marksSize → test kept i ≡ true → Keeps test old (set kept i 1)
 
 -- a pass over the numbers from low to below i says whether it has kept more; if not, none of these was to be kept
 pub record Passed (test : List ℕ → ℕ → Bool) (old new : List ℕ) (more : Bool) (low i : ℕ) : Type 0 where
@@ -103,7 +104,7 @@ pub record Passed (test : List ℕ → ℕ → Bool) (old new : List ℕ) (more 
 pub record Settled (test : List ℕ → ℕ → Bool) (old new : List ℕ) : Type 0 where
   pub len : length new ≡ length old
   pub keeps : Keeps test old new
-  pub none-left : (j : ℕ) → j < 16384 → test new j ≡ false
+  pub none-left : (j : ℕ) → j < marksSize → test new j ≡ false
 
 -- ---- what the kept bytes mean
 
@@ -115,7 +116,7 @@ pub record Tables (p : Program) (keys : List ℕ) (m : ℕ) (lines : List ℕ) (
 
 -- every byte is 0 or 1, and what is kept has support back to a start
 pub record Sound (p : Program) (marks kept : List ℕ) : Type 0 where
-  pub len : length kept ≡ 16384
+  pub len : length kept ≡ marksSize
   pub bits : (i : ℕ) → getD kept i 0 ≤ 1
   pub supported : (i : ℕ) → On kept i → At (Kept p marks) i
 

@@ -10,12 +10,14 @@ use automaton::flags::initial_flags;
 use automaton::in_use;
 use program::DecodedProgram;
 use program::Verdict;
+use program::sizes::MARKS_SIZE;
 use support::has_support;
 ghost use mathlib.Core.Path.{_≡_};
 ghost use mathlib.Core.Bool.{cond, _&&_};
 ghost use mathlib.Core.List.{map};
 ghost use Prim.Native.Nat.{_+_, _*_, _/_, _<_, _≤_};
 ghost use lib.ListN.{length, set, take};
+ghost use Rattle.program.specs.Sizes.{marksSize};
 ghost use Rattle.automaton.specs.Decoded.{keysOf, transitionOf};
 ghost use Rattle.automaton.specs.Flags.{isSet, Starts};
 ghost use Rattle.program.specs.Program.{Program};
@@ -31,11 +33,11 @@ ghost use Rattle.prune.specs.Parts.{keepsAt, PartOf, Passed, Settled, So
 
 // Keeps a configuration that is marked, where the flag says so.
 fn keep_when(yes: bool, marks: &[u8], kept: &mut [u8], at: usize)
-    requires { ⌜ (length (now marks) ≡ 16384) × (length (now kept) ≡ 16384) ⌝ }
+    requires { ⌜ (length (now marks) ≡ marksSize) × (length (now kept) ≡ marksSize) ⌝ }
     ensures { λ _. ⌜ now (kept .exit) ≡ cond (yes && isSet (now (marks .entry)) at) (set (now (kept .entry)) at 1) (now (kept .entry)) ⌝ }
 {
     if yes {
-        if at < 16384 {
+        if at < MARKS_SIZE {
             if marks[at] != 0 {
                 kept[at] = 1;
             }
@@ -45,7 +47,7 @@ fn keep_when(yes: bool, marks: &[u8], kept: &mut [u8], at: usize)
 
 // The starts: main's entry in each initial state, with that state as its root.
 fn keep_starts(initial: &[u8; 8], marks: &[u8], kept: &mut [u8])
-    requires { ⌜ (length (now marks) ≡ 16384) × (length (now kept) ≡ 16384) ⌝ }
+    requires { ⌜ (length (now marks) ≡ marksSize) × (length (now kept) ≡ marksSize) ⌝ }
     ensures { λ _. ⌜ ((p : Program) → Starts (p .automaton) (now (initial .entry)) → Sound p (now (marks .entry)) (now (kept .entry))
         → Started p (now (marks .entry)) (now (kept .exit)) 8) ⌝ }
 {
@@ -69,9 +71,9 @@ fn keep_at(
     kept: &mut [u8],
     i: usize,
 ) -> bool
-    requires { ⌜ (m ≤ length (now keys)) × (k ≤ length (now lines)) × (i < 16384) ⌝ }
+    requires { ⌜ (m ≤ length (now keys)) × (k ≤ length (now lines)) × (i < marksSize) ⌝ }
     requires { ⌜ PartOf (now keys) m (i / 1024) (now part) ⌝ }
-    requires { ⌜ (length (now marks) ≡ 16384) × (length (now kept) ≡ 16384) ⌝ }
+    requires { ⌜ (length (now marks) ≡ marksSize) × (length (now kept) ≡ marksSize) ⌝ }
     ensures { λ y. ⌜ (y ≡ keepsAt (now (keys .entry)) m (now (lines .entry)) k (now (marks .entry)) (now (kept .entry)) i)
         × (now (kept .exit) ≡ cond y (set (now (kept .entry)) i 1) (now (kept .entry))) ⌝ }
 {
@@ -105,7 +107,7 @@ fn keep_numbers(
 ) -> bool
     requires { ⌜ (m ≤ length (now keys)) × (k ≤ length (now lines)) × (f < 16) ⌝ }
     requires { ⌜ PartOf (now keys) m f (now part) ⌝ }
-    requires { ⌜ (length (now marks) ≡ 16384) × (length (now kept) ≡ 16384) ⌝ }
+    requires { ⌜ (length (now marks) ≡ marksSize) × (length (now kept) ≡ marksSize) ⌝ }
     ensures { λ y. ⌜ Passed (keepsAt (now (keys .entry)) m (now (lines .entry)) k (now (marks .entry))) (now (kept .entry)) (now (kept .exit)) y
         (f * 1024) (f * 1024 + 1024) ⌝ }
 {
@@ -133,7 +135,7 @@ fn keep_routine(
 ) -> bool
     requires { ⌜ (m ≤ length (now keys)) × (k ≤ length (now lines)) × (f < 16) ⌝ }
     requires { ⌜ Ascending 0 (map edgeKey (map edgeOf (take m (now keys)))) ⌝ }
-    requires { ⌜ (length (now marks) ≡ 16384) × (length (now kept) ≡ 16384) ⌝ }
+    requires { ⌜ (length (now marks) ≡ marksSize) × (length (now kept) ≡ marksSize) ⌝ }
     ensures { λ y. ⌜ Passed (keepsAt (now (keys .entry)) m (now (lines .entry)) k (now (marks .entry))) (now (kept .entry)) (now (kept .exit)) y
         (f * 1024) (f * 1024 + 1024) ⌝ }
 {
@@ -147,8 +149,8 @@ fn keep_routine(
 fn keep_pass(keys: &[u32], m: usize, lines: &[u32], k: usize, marks: &[u8], kept: &mut [u8]) -> bool
     requires { ⌜ (m ≤ length (now keys)) × (k ≤ length (now lines)) ⌝ }
     requires { ⌜ Ascending 0 (map edgeKey (map edgeOf (take m (now keys)))) ⌝ }
-    requires { ⌜ (length (now marks) ≡ 16384) × (length (now kept) ≡ 16384) ⌝ }
-    ensures { λ y. ⌜ Passed (keepsAt (now (keys .entry)) m (now (lines .entry)) k (now (marks .entry))) (now (kept .entry)) (now (kept .exit)) y 0 16384 ⌝ }
+    requires { ⌜ (length (now marks) ≡ marksSize) × (length (now kept) ≡ marksSize) ⌝ }
+    ensures { λ y. ⌜ Passed (keepsAt (now (keys .entry)) m (now (lines .entry)) k (now (marks .entry))) (now (kept .entry)) (now (kept .exit)) y 0 marksSize ⌝ }
 {
     let mut more = false;
     let mut f: u32 = 0;
@@ -164,7 +166,7 @@ fn keep_pass(keys: &[u32], m: usize, lines: &[u32], k: usize, marks: &[u8], kept
 fn keep_all(keys: &[u32], m: usize, lines: &[u32], k: usize, marks: &[u8], kept: &mut [u8])
     requires { ⌜ (m ≤ length (now keys)) × (k ≤ length (now lines)) ⌝ }
     requires { ⌜ Ascending 0 (map edgeKey (map edgeOf (take m (now keys)))) ⌝ }
-    requires { ⌜ (length (now marks) ≡ 16384) × (length (now kept) ≡ 16384) ⌝ }
+    requires { ⌜ (length (now marks) ≡ marksSize) × (length (now kept) ≡ marksSize) ⌝ }
     ensures { λ _. ⌜ Settled (keepsAt (now (keys .entry)) m (now (lines .entry)) k (now (marks .entry))) (now (kept .entry)) (now (kept .exit)) ⌝ }
 {
     let mut more = true;
@@ -177,7 +179,7 @@ fn keep_all(keys: &[u32], m: usize, lines: &[u32], k: usize, marks: &[u8], kept:
 // of edges ascends, as a well-formed program's does: hence the `requires`.
 fn keep_supported(edges: Table, transitions: Table, marks: &[u8], kept: &mut [u8])
     requires { ⌜ Ascending 0 (map edgeKey (map edgeOf (keysOf edges))) ⌝ }
-    requires { ⌜ (length (now marks) ≡ 16384) × (length (now kept) ≡ 16384) ⌝ }
+    requires { ⌜ (length (now marks) ≡ marksSize) × (length (now kept) ≡ marksSize) ⌝ }
     ensures { λ _. ⌜ ((p : Program) → WellFormed p → p .edges ≡ map edgeOf (keysOf edges) → p .automaton .transitions ≡ map transitionOf (keysOf transitions)
         → Started p (now (marks .entry)) (now (kept .entry)) 8 → Shows (Kept p (now (marks .entry))) (now (kept .exit))) ⌝ }
 {
@@ -191,7 +193,7 @@ fn keep_supported(edges: Table, transitions: Table, marks: &[u8], kept: &mut [u8
 // What stays of the marks. It is gathered in a buffer of its own, so that a mark is never its own support.
 fn keep(p: DecodedProgram, marks: &[u8], kept: &mut [u8])
     requires { ⌜ WellFormed (programOf p) ⌝ }
-    requires { ⌜ (length (now marks) ≡ 16384) × (length (now kept) ≡ 16384) ⌝ }
+    requires { ⌜ (length (now marks) ≡ marksSize) × (length (now kept) ≡ marksSize) ⌝ }
     ensures { λ _. ⌜ Shows (Kept (programOf p) (now (marks .entry))) (now (kept .exit)) ⌝ }
 {
     let rule = p.automaton;
@@ -208,7 +210,7 @@ fn keep(p: DecodedProgram, marks: &[u8], kept: &mut [u8])
 // reader accepts only well-formed programs, and the caller has measured the buffers (refusals 9 and 11): hence the `requires`.
 pub fn prune_program(p: DecodedProgram, marks: &mut [u8], work: &mut [u8])
     requires { ⌜ WellFormed (programOf p) ⌝ }
-    requires { ⌜ (length (now marks) ≡ 16384) × (length (now work) ≡ 16384) ⌝ }
+    requires { ⌜ (length (now marks) ≡ marksSize) × (length (now work) ≡ marksSize) ⌝ }
     ensures { λ _. ⌜ Shows (Kept (programOf p) (now (marks .entry))) (now (marks .exit)) × (now (work .exit) ≡ none-set) ⌝ }
 {
     keep(p, marks, work);

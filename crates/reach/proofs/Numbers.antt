@@ -1,8 +1,11 @@
 -- The laws of the numbers of configurations and of the places of summaries.
 use mathlib.Core.Path.{_≡_, sym, ap, _∙_}
-use Prim.Native.Nat.{ℕ, _+_, _*_, _<_}
+use Prim.Native.Nat.{ℕ, _+_, _*_, _<_, _≤_}
 use native.Mathlib.Omega.{arith}
-use Rattle.reach.specs.Configurations.{Set, InRange, number, routineOf, nodeOf, rootOf, stateOf}
+use Rattle.automaton.specs.Sizes.{maxStates}
+use Rattle.program.specs.Sizes.{maxRoutines, maxNodes, marksSize}
+use Rattle.reach.specs.Sizes.{rootSpan, nodeSpan, routineSpan, summariesSize}
+use Rattle.reach.specs.Configurations.{Set, InRange, PartsOf, exitAt, number, routineOf, nodeOf, rootOf, stateOf}
 use Rattle.reach.specs.Worklist.{summary}
 
 -- every number is that of a configuration
@@ -27,29 +30,43 @@ module _ {f n r q : ℕ} (h : InRange f n r q) where
   unfolding number stateOf
   state-of = omega arith
 
-  pub number-fits : number f n r q < 16384
+  pub number-fits : number f n r q < marksSize
   unfolding number
   number-fits = omega arith
 
 -- of any number, the node, the root and the state are in range
-pub node-small : (i : ℕ) → nodeOf i < 16
+pub node-small : (i : ℕ) → nodeOf i < maxNodes
 unfolding nodeOf
 node-small i = omega arith
 
-pub root-small : (i : ℕ) → rootOf i < 8
+pub root-small : (i : ℕ) → rootOf i < maxStates
 unfolding rootOf
 root-small i = omega arith
 
-pub state-small : (i : ℕ) → stateOf i < 8
+pub state-small : (i : ℕ) → stateOf i < maxStates
 unfolding stateOf
 state-small i = omega arith
 
-pub routine-small : (i : ℕ) → i < 16384 → routineOf i < 16
+pub routine-small : (i : ℕ) → i < marksSize → routineOf i < maxRoutines
 unfolding routineOf
 routine-small i h = omega arith
 
-pub parts-in-range : (i : ℕ) → i < 16384 → InRange (routineOf i) (nodeOf i) (rootOf i) (stateOf i)
+pub parts-in-range : (i : ℕ) → i < marksSize → InRange (routineOf i) (nodeOf i) (rootOf i) (stateOf i)
 parts-in-range i h = record { routine = routine-small i h; node = node-small i; root = root-small i; state = state-small i }
+
+-- the parts that the code computes are these
+module _ {i f n r q : ℕ} (c : PartsOf i f n r q) where
+  pub parts-routine : f ≡ routineOf i
+  parts-routine = sym (routine-of (c .in-range)) ∙ ap routineOf (c .is)
+
+  pub parts-node : n ≡ nodeOf i
+  parts-node = sym (node-of (c .in-range)) ∙ ap nodeOf (c .is)
+
+  pub parts-root : r ≡ rootOf i
+  parts-root = sym (root-of (c .in-range)) ∙ ap rootOf (c .is)
+
+  pub parts-state : q ≡ stateOf i
+  parts-state = sym (state-of (c .in-range)) ∙ ap stateOf (c .is)
 
 -- ---- sets by number
 
@@ -81,16 +98,16 @@ one-to-one h k e =
 
 -- ---- summaries
 
-pub summary-fits : (g q x : ℕ) → g < 16 → q < 8 → x < 8 → summary g q x < 1024
+pub summary-fits : (g q x : ℕ) → g < maxRoutines → q < maxStates → x < maxStates → summary g q x < summariesSize
 unfolding summary
 summary-fits g q x a b c = omega arith
 
-pub summary-apart : (g q x f r y : ℕ) → q < 8 → x < 8 → r < 8 → y < 8 → summary g q x ≡ summary f r y → (g ≡ f) × (q ≡ r) × (x ≡ y)
+pub summary-apart : (g q x f r y : ℕ) → q < maxStates → x < maxStates → r < maxStates → y < maxStates → summary g q x ≡ summary f r y → (g ≡ f) × (q ≡ r) × (x ≡ y)
 unfolding summary
 summary-apart g q x f r y a b c d e = (omega arith, omega arith, omega arith)
 
 -- the exit of a summary, if it is that of number i
-pub exit-number : (i g r q : ℕ) → nodeOf i ≡ 1 → r < 8 → q < 8 → summary g r q ≡ summary (routineOf i) (rootOf i) (stateOf i) → number g 1 r q ≡ i
+pub exit-number : (i g r q : ℕ) → nodeOf i ≡ 1 → r < maxStates → q < maxStates → summary g r q ≡ summary (routineOf i) (rootOf i) (stateOf i) → number g 1 r q ≡ i
 exit-number i g r q is-exit hr hq e =
     let c = summary-apart g r q (routineOf i) (rootOf i) (stateOf i) hr hq (root-small i) (state-small i) e in
     rw (c .0, c .1, c .2, ← is-exit) (number-of i)
@@ -101,10 +118,33 @@ pub number-state : (f n r x : ℕ) → number f n r 0 + x ≡ number f n r x
 unfolding number
 number-state f n r x = omega arith
 
-pub number-root : (f n x q : ℕ) → number f n 0 q + 8 * x ≡ number f n x q
+pub number-root : (f n x q : ℕ) → number f n 0 q + rootSpan * x ≡ number f n x q
 unfolding number
 number-root f n x q = omega arith
 
-pub summary-state : (g q x : ℕ) → (g * 8 + q) * 8 + x ≡ summary g q x
+pub summary-state : (g q x : ℕ) → (g * maxStates + q) * maxStates + x ≡ summary g q x
 unfolding summary
 summary-state g q x = omega arith
+
+-- ---- spans: the numbers of a routine and of a node follow one another
+
+pub in-routine : (f i : ℕ) → f * routineSpan ≤ i → i < f * routineSpan + routineSpan → routineOf i ≡ f
+unfolding routineOf
+in-routine f i a b = omega arith
+
+pub routine-span : {f n r q : ℕ} → InRange f n r q → (f * routineSpan ≤ number f n r q) × (number f n r q < f * routineSpan + routineSpan)
+unfolding number
+routine-span h = (omega (arith, h .node, h .root, h .state), omega (arith, h .node, h .root, h .state))
+
+pub node-span : {f n r q : ℕ} → InRange f n r q → (number f n 0 0 ≤ number f n r q) × (number f n r q < number f n 0 0 + nodeSpan)
+unfolding number
+node-span h = (omega (arith, h .root, h .state), omega (arith, h .root, h .state))
+
+pub first-number : (f : ℕ) → number f 0 0 0 ≡ f * routineSpan
+unfolding number
+first-number f = omega arith
+
+-- a place below the summaries' size is that of an exit's summary
+pub exit-summary : (f r q : ℕ) → r < maxStates → q < maxStates → exitAt (summary f r q) ≡ number f 1 r q
+unfolding exitAt summary number
+exit-summary f r q a b = omega arith

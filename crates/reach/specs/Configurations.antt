@@ -1,36 +1,55 @@
 -- Configurations and their numbers (paper: standings). A configuration (f, n, r, q) is a routine, one of its nodes, the root
 -- and the present state of the automaton.
 use Prim.Native.Nat.{ℕ, _+_, _*_, _/_, _%_, _<_}
+use mathlib.Core.Path.{_≡_}
 use mathlib.Core.List.{List}
 use lib.ListN.{replicate}
+use Rattle.automaton.specs.Sizes.{maxStates}
+use Rattle.program.specs.Sizes.{maxRoutines, maxNodes, marksSize}
+use Rattle.reach.specs.Sizes.{rootSpan, nodeSpan, routineSpan}
 
 -- a set of configurations
 abbrev pub Set : Type 1
 Set = ℕ → ℕ → ℕ → ℕ → Type 0
 
--- the sizes: so many routines, nodes a routine and states
+-- so many routines, nodes a routine and states there are
 pub record InRange (f n r q : ℕ) : Type 0 where
-  pub routine : f < 16
-  pub node : n < 16
-  pub root : r < 8
-  pub state : q < 8
+  pub routine : f < maxRoutines
+  pub node : n < maxNodes
+  pub root : r < maxStates
+  pub state : q < maxStates
 
 unfoldable pub number : ℕ → ℕ → ℕ → ℕ → ℕ
-number f n r q = ((f * 16 + n) * 8 + r) * 8 + q
+number f n r q = ((f * maxNodes + n) * maxStates + r) * maxStates + q
 
 -- the configuration that has a number
 unfoldable pub routineOf : ℕ → ℕ
-routineOf i = i / 1024
+routineOf i = i / routineSpan
 
 unfoldable pub nodeOf : ℕ → ℕ
-nodeOf i = i / 64 % 16
+nodeOf i = i / nodeSpan % maxNodes
 
 unfoldable pub rootOf : ℕ → ℕ
-rootOf i = i / 8 % 8
+rootOf i = i / rootSpan % maxStates
 
 unfoldable pub stateOf : ℕ → ℕ
-stateOf i = i % 8
+stateOf i = i % maxStates
 
 -- a byte for each number, none of them set
 unfoldable pub none-set : List ℕ
-none-set = replicate 16384 0
+none-set = replicate marksSize 0
+
+-- ---- what the code that computes numbers promises
+
+-- these are the parts of number i
+pub record PartsOf (i f n r q : ℕ) : Type 0 where
+  pub in-range : InRange f n r q
+  pub is : number f n r q ≡ i
+
+-- a number whose parts are bytes is below this one
+abbrev pub byteNumbers : ℕ
+byteNumbers = ((256 * maxNodes + 256) * maxStates + 256) * maxStates + 256
+
+-- the number of the exit that has its summary at this place
+unfoldable pub exitAt : ℕ → ℕ
+exitAt place = place / nodeSpan * routineSpan + nodeSpan + place % nodeSpan

@@ -1,3 +1,4 @@
+pub mod Sizes
 pub mod Configurations
 pub mod Runs
 pub mod Reachable

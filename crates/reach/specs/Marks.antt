@@ -7,6 +7,7 @@ use mathlib.Core.Option.{Option, none, some}
 use mathlib.Core.List.{List, [], _∷_}
 use lib.Dec.{eqb, leb}
 use lib.ListN.{length, getD}
+use Rattle.program.specs.Sizes.{marksSize}
 use Rattle.automaton.specs.Automaton.{isRejecting}
 use Rattle.program.specs.Program.{Program}
 use Rattle.reach.specs.Configurations.{Set, InRange, number, stateOf}
@@ -21,7 +22,7 @@ Marked l f n r q = InRange f n r q × (getD l (number f n r q) 0 ≢ 0)
 
 -- l has a byte for each number, a 1 at the numbers of the configurations of S, and 0 elsewhere
 pub record Shows (S : Set) (l : List ℕ) : Type 0 where
-  pub len : length l ≡ 16384
+  pub len : length l ≡ marksSize
   pub bit : (i : ℕ) → getD l i 0 ≤ 1
   pub shown : {f n r q : ℕ} → InRange f n r q → (getD l (number f n r q) 0 ≡ 1) ↔ S f n r q
 
@@ -32,7 +33,7 @@ Between low high i = (low ≤ i) × (i < high)
 -- marks in states of the automaton, closed but for the numbers from low up to high: what follows at once from a marked
 -- configuration of any other number is marked
 pub record ClosedBut (p : Program) (low high : ℕ) (marks : List ℕ) : Type 0 where
-  pub marks-length : length marks ≡ 16384
+  pub marks-length : length marks ≡ marksSize
   pub marks-bits : (i : ℕ) → getD marks i 0 ≤ 1
   pub states : {f n r q : ℕ} → Marked marks f n r q → q < p .automaton .states
   pub closed : {f n r q : ℕ} → Marked marks f n r q → ¬ (Between low high (number f n r q)) → ClosedAt p (Marked marks) f n r q

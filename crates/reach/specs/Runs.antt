@@ -1,17 +1,16 @@
 -- Runs of a program: a stack of activations, each with its root (000, section 2).
-use Prim.Native.Nat.{ℕ, _-_}
+use Prim.Native.Nat.{ℕ}
 use mathlib.Core.Path.{_≡_}
 use mathlib.Core.Bool.{Bool, true, cond}
 use mathlib.Core.List.{List, [], _∷_, map, List·Memᴰ}
-use lib.Dec.{ltb}
 use Rattle.automaton.specs.Automaton.{moves}
 use Rattle.automaton.specs.declared.Event.{Event}
 use Rattle.automaton.specs.declared.Event.the-variants.{Action, Call, Return}
-use Rattle.program.specs.Program.{Edge, Program}
+use Rattle.program.specs.Program.{Edge, Program, isAction, calledBy}
 
--- the event of an edge: below 40 (hexadecimal) its label is an action, from there on a call
+-- the event of an edge, by its label
 abbrev pub labelOf : ℕ → Event
-labelOf a = cond (ltb a 0x40) (Action a) (Call (a - 0x40))
+labelOf a = cond (isAction a) (Action a) (Call (calledBy a))
 
 pub record Step : Type 0 where
   pub routine : ℕ

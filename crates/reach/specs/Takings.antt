@@ -4,6 +4,7 @@ use mathlib.Core.Bool.{cond}
 use mathlib.Core.Option.{Option, none, some}
 use mathlib.Core.List.{List, [], _∷_}
 use lib.Dec.{eqb}
+use Rattle.reach.specs.Sizes.{enoughIterations}
 use Rattle.program.specs.Program.{Program}
 use Rattle.reach.specs.Worklist.{Worklist, lowest, takeAt, opened, blank}
 
@@ -15,7 +16,7 @@ taken (suc k) p (some i) s = let t = takeAt p i s in i ∷ taken k p (lowest (t 
 
 -- those of the full analysis
 unfoldable pub takenIn : Program → List ℕ
-takenIn p = let s = opened (p .automaton .initial) blank in taken 2113536 p (lowest (s .pending) 0) s
+takenIn p = let s = opened (p .automaton .initial) blank in taken enoughIterations p (lowest (s .pending) 0) s
 
 -- how often j is in a list
 unfoldable pub times : ℕ → List ℕ → ℕ

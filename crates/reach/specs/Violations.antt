@@ -4,6 +4,7 @@ use mathlib.Core.Path.{_≡_}
 use mathlib.Core.Bool.{true}
 use mathlib.Core.Option.{Option, none, some}
 use mathlib.Core.List.{List, [], _∷_}
+use Rattle.program.specs.Sizes.{marksSize}
 use Rattle.automaton.specs.Automaton.{isRejecting}
 use Rattle.program.specs.Program.{Program}
 use Rattle.reach.specs.Configurations.{routineOf, nodeOf, rootOf, stateOf}
@@ -11,7 +12,7 @@ use Rattle.reach.specs.Runs.{Occurs}
 
 -- the number of a configuration that occurs, its state a rejecting one now
 pub record Violation (p : Program) (i : ℕ) : Type 0 where
-  pub inside : i < 16384
+  pub inside : i < marksSize
   pub occurs : Occurs p (routineOf i) (nodeOf i) (rootOf i) (stateOf i)
   pub rejects : isRejecting (p .automaton) (stateOf i) ≡ true
 

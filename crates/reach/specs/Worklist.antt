@@ -7,6 +7,9 @@ use mathlib.Core.Option.{Option, none, some}
 use mathlib.Core.List.{List, [], _∷_}
 use lib.ListN.{length, getD, set, replicate}
 use lib.Dec.{eqb}
+use Rattle.reach.specs.Sizes.{enoughIterations, summariesSize}
+use Rattle.program.specs.Sizes.{marksSize}
+use Rattle.automaton.specs.Sizes.{maxStates}
 use Rattle.automaton.specs.Automaton.{moves}
 use Rattle.automaton.specs.declared.Event.{Event}
 use Rattle.automaton.specs.declared.Event.the-variants.{Action, Call, Return}
@@ -22,9 +25,9 @@ pub record Worklist : Type 0 where
 
 -- a byte for each configuration and for each summary, 0 or 1
 pub record Shape (s : Worklist) : Type 0 where
-  pub marks-length : length (s .marks) ≡ 16384
-  pub pending-length : length (s .pending) ≡ 16384
-  pub known-length : length (s .known) ≡ 1024
+  pub marks-length : length (s .marks) ≡ marksSize
+  pub pending-length : length (s .pending) ≡ marksSize
+  pub known-length : length (s .known) ≡ summariesSize
   pub marks-bits : (i : ℕ) → getD (s .marks) i 0 ≤ 1
   pub pending-bits : (i : ℕ) → getD (s .pending) i 0 ≤ 1
   pub known-bits : (i : ℕ) → getD (s .known) i 0 ≤ 1
@@ -56,7 +59,7 @@ markWhen false j s = s
 
 -- the place of the summary (r, q) of routine f
 unfoldable pub summary : ℕ → ℕ → ℕ → ℕ
-summary f r q = (f * 8 + r) * 8 + q
+summary f r q = (f * maxStates + r) * maxStates + q
 
 abbrev pub isKnown : Worklist → ℕ → ℕ → ℕ → Bool
 isKnown s f r q = not (eqb (getD (s .known) (summary f r q) 0) 0)
@@ -74,8 +77,8 @@ onReturns (suc k) x f m r q g s = onReturns k (suc x) f m r q g (markWhen (isKno
 
 -- a call of g: its entry, and what its known summaries give
 unfoldable pub onLabel : Program → ℕ → ℕ → ℕ → ℕ → Event → Worklist → Worklist
-onLabel p f m r q (Action a) s = onAction 8 0 p f m r q a s
-onLabel p f m r q (Call g) s = onReturns 8 0 f m r q g (mark (number g 0 q q) s)
+onLabel p f m r q (Action a) s = onAction maxStates 0 p f m r q a s
+onLabel p f m r q (Call g) s = onReturns maxStates 0 f m r q g (mark (number g 0 q q) s)
 onLabel p f m r q (Return g) s = s
 
 unfoldable pub labelWhen : Bool → Program → ℕ → ℕ → ℕ → ℕ → Event → Worklist → Worklist
@@ -99,7 +102,7 @@ calls f (Call g) = eqb g f
 calls f (Return g) = false
 
 unfoldable pub wakeWhen : Bool → ℕ → ℕ → ℕ → Worklist → Worklist
-wakeWhen true g n r s = wakeRoots 8 0 g n r s
+wakeWhen true g n r s = wakeRoots maxStates 0 g n r s
 wakeWhen false g n r s = s
 
 -- every step that calls f
@@ -133,8 +136,8 @@ opened [] s = s
 opened (q ∷ qs) s = opened qs (mark (number 0 0 q q) s)
 
 abbrev pub blank : Worklist
-blank = record { marks = none-set; pending = none-set; known = replicate 1024 0; iterations = 0 }
+blank = record { marks = none-set; pending = none-set; known = replicate summariesSize 0; iterations = 0 }
 
 -- 129 iterations a configuration are enough
 unfoldable pub analysis : Program → Worklist
-analysis p = let s = opened (p .automaton .initial) blank in work 2113536 p (lowest (s .pending) 0) s
+analysis p = let s = opened (p .automaton .initial) blank in work enoughIterations p (lowest (s .pending) 0) s

@@ -1,1 +1,3 @@
-// The marks of a program: which configurations are reachable.
+// Configurations and their numbers. The marks themselves are definitions here; the analysis works them.
+pub mod configuration;
+pub mod spans;

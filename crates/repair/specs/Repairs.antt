@@ -5,12 +5,12 @@ use mathlib.Core.Bool.{Bool, cond}
 use mathlib.Core.List.{List, _++_}
 use lib.Dec.{ltb, eqb}
 use lib.ListN.{length, drop}
+use Rattle.program.specs.Sizes.{marksSize, outputSize}
 use Rattle.program.specs.Program.{Program}
 use Rattle.program.specs.Reading.{readFile}
 use Rattle.program.specs.Writing.{written}
 use Rattle.program.specs.declared.Verdict.{Verdict}
 use Rattle.program.specs.declared.Verdict.the-variants as verdict
-use Rattle.writer.specs.Answers.{outputSize}
 use Rattle.writer.specs.declared.WriteAnswer.{WriteAnswer}
 use Rattle.writer.specs.declared.WriteAnswer.the-variants.{Written, Refused}
 use Rattle.reach.specs.Configurations.{none-set}
@@ -35,7 +35,7 @@ pub record After : Type 0 where
 -- the file (1 to 8), then the lengths of the marks (9), of the output (10) and of the working buffer (11)
 abbrev pub measuredBy : Verdict → ℕ → ℕ → ℕ → Verdict
 measuredBy verdict.Accepted marks output work =
-    cond (eqb marks 16384) (cond (ltb output outputSize) (verdict.Refused 10 0) (cond (eqb work 16384) verdict.Accepted (verdict.Refused 11 0))) (verdict.Refused 9 0)
+    cond (eqb marks marksSize) (cond (ltb output outputSize) (verdict.Refused 10 0) (cond (eqb work marksSize) verdict.Accepted (verdict.Refused 11 0))) (verdict.Refused 9 0)
 measuredBy (verdict.Refused n line) marks output work = verdict.Refused n line
 
 -- ---- what is lent, afterwards

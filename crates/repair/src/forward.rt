@@ -11,6 +11,7 @@ use program::DecodedProgram;
 use prune::prune_program;
 ghost use mathlib.Core.Path.{_≡_};
 ghost use lib.ListN.{length};
+ghost use Rattle.program.specs.Sizes.{marksSize};
 ghost use Rattle.program.specs.WellFormed.{WellFormed};
 ghost use Rattle.program.specs.Decoded.{programOf};
 ghost use Rattle.edit.specs.Editing.{Applies};
@@ -22,7 +23,7 @@ ghost use Rattle.repair.specs.Parts.{Keeps, Repaired};
 
 pub fn add_step(p: DecodedProgram, s: Step, marks: &mut [u8], work: &mut [u8]) -> DecodedProgram
     requires { ⌜ WellFormed (programOf p) × Applies (Add s) (programOf p) ⌝ }
-    requires { ⌜ (now marks ≡ freshMarks (programOf p)) × (length (now work) ≡ 16384) ⌝ }
+    requires { ⌜ (now marks ≡ freshMarks (programOf p)) × (length (now work) ≡ marksSize) ⌝ }
     ensures { λ r. ⌜ Repaired (Add s) (programOf p) (programOf r) (now (marks .exit)) (now (work .exit)) ⌝ }
 {
     let added = with_step(p, s);
@@ -33,7 +34,7 @@ pub fn add_step(p: DecodedProgram, s: Step, marks: &mut [u8], work: &mut [u8]) -
 // The keeping by the edited program, on whatever marks are lent: a forward drop is this, and no fresh working.
 fn prune_marks(p: DecodedProgram, marks: &mut [u8], work: &mut [u8])
     requires { ⌜ WellFormed (programOf p) ⌝ }
-    requires { ⌜ (length (now marks) ≡ 16384) × (length (now work) ≡ 16384) ⌝ }
+    requires { ⌜ (length (now marks) ≡ marksSize) × (length (now work) ≡ marksSize) ⌝ }
     ensures { λ _. ⌜ Shows (Kept (programOf p) (now (marks .entry))) (now (marks .exit)) × (now (work .exit) ≡ none-set) ⌝ }
 {
     prune_program(p, marks, work);
@@ -41,7 +42,7 @@ fn prune_marks(p: DecodedProgram, marks: &mut [u8], work: &mut [u8])
 
 fn drop_step(p: DecodedProgram, s: Step, marks: &mut [u8], work: &mut [u8]) -> DecodedProgram
     requires { ⌜ WellFormed (programOf p) × Applies (Drop s) (programOf p) ⌝ }
-    requires { ⌜ (length (now marks) ≡ 16384) × (length (now work) ≡ 16384) ⌝ }
+    requires { ⌜ (length (now marks) ≡ marksSize) × (length (now work) ≡ marksSize) ⌝ }
     ensures { λ r. ⌜ Keeps s (programOf p) (programOf r) (now (marks .entry)) (now (marks .exit)) (now (work .exit)) ⌝ }
 {
     let dropped = without_step(p, s);
@@ -51,7 +52,7 @@ fn drop_step(p: DecodedProgram, s: Step, marks: &mut [u8], work: &mut [u8]) -> D
 
 pub fn repair_marks(p: DecodedProgram, e: Edit, marks: &mut [u8], work: &mut [u8]) -> DecodedProgram
     requires { ⌜ WellFormed (programOf p) × Applies e (programOf p) ⌝ }
-    requires { ⌜ (now marks ≡ freshMarks (programOf p)) × (length (now work) ≡ 16384) ⌝ }
+    requires { ⌜ (now marks ≡ freshMarks (programOf p)) × (length (now work) ≡ marksSize) ⌝ }
     ensures { λ r. ⌜ Repaired e (programOf p) (programOf r) (now (marks .exit)) (now (work .exit)) ⌝ }
 {
     match e {

@@ -12,9 +12,11 @@ use edit::Step;
 use edit::apply::relabelled;
 use edit::apply::without_step;
 use program::DecodedProgram;
+use program::sizes::MARKS_SIZE;
 ghost use mathlib.Core.Path.{_≡_};
 ghost use mathlib.Core.Bool.{true};
 ghost use lib.ListN.{length};
+ghost use Rattle.program.specs.Sizes.{marksSize};
 ghost use Rattle.program.specs.WellFormed.{WellFormed};
 ghost use Rattle.program.specs.Decoded.{programOf};
 ghost use Rattle.edit.specs.Editing.{Applies};
@@ -32,12 +34,12 @@ pub struct Reworked {
 
 // The routines that have a mark more. The callers have sheets of marks: hence the `requires`.
 fn gained(old: &[u8], new: &[u8]) -> Routines
-    requires { ⌜ (length (now old) ≡ 16384) × (length (now new) ≡ 16384) ⌝ }
+    requires { ⌜ (length (now old) ≡ marksSize) × (length (now new) ≡ marksSize) ⌝ }
     ensures { λ r. ⌜ FlagsOf (MarkedMore (now (old .entry)) (now (new .entry))) (r .flags) ⌝ }
 {
     let mut flags = [0u8; 16];
     let mut i: usize = 0;
-    while i < 16384 {
+    while i < MARKS_SIZE {
         let was = old[i] != 0;
         let is = new[i] != 0;
         if !was & is {
@@ -60,11 +62,11 @@ fn either(a: Routines, b: Routines) -> Routines
 
 fn add_step_inside_out(p: DecodedProgram, s: Step, marks: &mut [u8], work: &mut [u8]) -> Reworked
     requires { ⌜ WellFormed (programOf p) × Applies (Add s) (programOf p) ⌝ }
-    requires { ⌜ (now marks ≡ freshMarks (programOf p)) × (length (now work) ≡ 16384) ⌝ }
+    requires { ⌜ (now marks ≡ freshMarks (programOf p)) × (length (now work) ≡ marksSize) ⌝ }
     ensures { λ r. ⌜ Repaired (Add s) (programOf p) (programOf (r .program)) (now (marks .exit)) (now (work .exit))
         × FlagsOf (ReanalyzedBy (Add s) (programOf p)) (r .routines .flags) ⌝ }
 {
-    let mut old = [0u8; 16384];
+    let mut old = [0u8; MARKS_SIZE];
     let _copied = bytes::copy(marks, &mut old);
     let program = add_step(p, s, marks, work);
     let routines = gained(&old, marks);
@@ -73,7 +75,7 @@ fn add_step_inside_out(p: DecodedProgram, s: Step, marks: &mut [u8], work: &mut 
 
 fn drop_step_inside_out(p: DecodedProgram, s: Step, marks: &mut [u8], work: &mut [u8]) -> Reworked
     requires { ⌜ WellFormed (programOf p) × Applies (Drop s) (programOf p) ⌝ }
-    requires { ⌜ (now marks ≡ freshMarks (programOf p)) × (length (now work) ≡ 16384) ⌝ }
+    requires { ⌜ (now marks ≡ freshMarks (programOf p)) × (length (now work) ≡ marksSize) ⌝ }
     ensures { λ r. ⌜ Repaired (Drop s) (programOf p) (programOf (r .program)) (now (marks .exit)) (now (work .exit))
         × FlagsOf (ReanalyzedBy (Drop s) (programOf p)) (r .routines .flags) ⌝ }
 {
@@ -90,7 +92,7 @@ fn replace_step_inside_out(
     work: &mut [u8],
 ) -> Reworked
     requires { ⌜ WellFormed (programOf p) × Applies (Replace s l) (programOf p) ⌝ }
-    requires { ⌜ (now marks ≡ freshMarks (programOf p)) × (length (now work) ≡ 16384) ⌝ }
+    requires { ⌜ (now marks ≡ freshMarks (programOf p)) × (length (now work) ≡ marksSize) ⌝ }
     ensures { λ r. ⌜ Repaired (Replace s l) (programOf p) (programOf (r .program)) (now (marks .exit)) (now (work .exit))
         × FlagsOf (ReanalyzedBy (Replace s l) (programOf p)) (r .routines .flags) ⌝ }
 {
@@ -104,7 +106,7 @@ fn replace_step_inside_out(
 
 fn rework_marks(p: DecodedProgram, e: Edit, marks: &mut [u8], work: &mut [u8]) -> Reworked
     requires { ⌜ WellFormed (programOf p) × Applies e (programOf p) ⌝ }
-    requires { ⌜ (now marks ≡ freshMarks (programOf p)) × (length (now work) ≡ 16384) ⌝ }
+    requires { ⌜ (now marks ≡ freshMarks (programOf p)) × (length (now work) ≡ marksSize) ⌝ }
     ensures { λ r. ⌜ Repaired e (programOf p) (programOf (r .program)) (now (marks .exit)) (now (work .exit))
         × FlagsOf (ReanalyzedBy e (programOf p)) (r .routines .flags) ⌝ }
 {
@@ -118,7 +120,7 @@ fn rework_marks(p: DecodedProgram, e: Edit, marks: &mut [u8], work: &mut [u8]) -
 // The marks are repaired in the way that is asked for. The forward repair tells no routine.
 pub fn mend(inward: bool, p: DecodedProgram, e: Edit, marks: &mut [u8], work: &mut [u8]) -> Reworked
     requires { ⌜ WellFormed (programOf p) × Applies e (programOf p) ⌝ }
-    requires { ⌜ (now marks ≡ freshMarks (programOf p)) × (length (now work) ≡ 16384) ⌝ }
+    requires { ⌜ (now marks ≡ freshMarks (programOf p)) × (length (now work) ≡ marksSize) ⌝ }
     ensures { λ r. ⌜ Repaired e (programOf p) (programOf (r .program)) (now (marks .exit)) (now (work .exit))
         × (inward ≡ true → FlagsOf (ReanalyzedBy e (programOf p)) (r .routines .flags)) ⌝ }
 {

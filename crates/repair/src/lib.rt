@@ -10,6 +10,8 @@ use edit::wanted_edit;
 use inside_out::mend;
 use program::DecodedProgram;
 use program::Verdict;
+use program::sizes::MARKS_SIZE;
+use program::sizes::OUTPUT_SIZE;
 use writer::WriteAnswer;
 use writer::put::write_program;
 ghost use mathlib.Core.Path.{_≡_};
@@ -17,6 +19,7 @@ ghost use mathlib.Core.Bool.{true};
 ghost use lib.Dec.{eqb};
 ghost use Prim.Native.Nat.{_≤_};
 ghost use lib.ListN.{length};
+ghost use Rattle.program.specs.Sizes.{marksSize, outputSize};
 ghost use Rattle.program.specs.WellFormed.{WellFormed};
 ghost use Rattle.program.specs.Decoded.{programOf};
 ghost use Rattle.edit.specs.Editing.{wantedEdit, Applies};
@@ -40,11 +43,11 @@ fn measure(v: Verdict, marks: usize, output: usize, work: usize) -> Verdict
     match v {
         Verdict::Refused(n, line) => Verdict::Refused(n, line),
         Verdict::Accepted => {
-            if marks == 16384 {
-                if output < 5328 {
+            if marks == MARKS_SIZE {
+                if output < OUTPUT_SIZE {
                     return Verdict::Refused(10, 0);
                 }
-                if work == 16384 {
+                if work == MARKS_SIZE {
                     return Verdict::Accepted;
                 }
                 return Verdict::Refused(11, 0);
@@ -64,7 +67,7 @@ fn repair_own(
     work: &mut [u8],
 ) -> RepairAnswer
     requires { ⌜ WellFormed (programOf p) × Applies e (programOf p) ⌝ }
-    requires { ⌜ (length (now marks) ≡ 16384) × (5328 ≤ length (now output)) × (length (now work) ≡ 16384) ⌝ }
+    requires { ⌜ (length (now marks) ≡ marksSize) × (outputSize ≤ length (now output)) × (length (now work) ≡ marksSize) ⌝ }
     ensures { λ r. ⌜ _≡_ {A = After} (record { answer = plain r; marks = now (marks .exit); output = now (output .exit); work = now (work .exit) })
         (editedBy e (programOf p) (now (marks .entry)) (now (output .entry)))
         × (inward ≡ true → insideOutNumber (eqb (refusal (plain r)) 0) (Read e) (programOf p) (reanalyzed r)) ⌝ }
@@ -91,7 +94,7 @@ fn repair_wanted(
     work: &mut [u8],
 ) -> RepairAnswer
     requires { ⌜ WellFormed (programOf p) ⌝ }
-    requires { ⌜ (length (now marks) ≡ 16384) × (5328 ≤ length (now output)) × (length (now work) ≡ 16384) ⌝ }
+    requires { ⌜ (length (now marks) ≡ marksSize) × (outputSize ≤ length (now output)) × (length (now work) ≡ marksSize) ⌝ }
     ensures { λ r. ⌜ _≡_ {A = After} (record { answer = plain r; marks = now (marks .exit); output = now (output .exit); work = now (work .exit) })
         (wantedBy (wantedEdit (programOf p) (now (line .entry))) (programOf p) (now (marks .entry)) (now (output .entry)) (now (work .entry)))
         × (inward ≡ true → insideOutNumber (eqb (refusal (plain r)) 0) (wantedEdit (programOf p) (now (line .entry))) (programOf p) (reanalyzed r)) ⌝ }

@@ -5,6 +5,7 @@ use mathlib.Core.Bool.{Bool, cond, _&&_}
 use mathlib.Core.List.{List, [], _∷_, _++_, map}
 use lib.Dec.{eqb, ltb}
 use lib.ListN.{length, getD, take, drop}
+use Rattle.program.specs.Sizes.{marksSize}
 use Rattle.text.specs.Hex.{hexLine}
 use Rattle.text.specs.Lines.{lines}
 use Rattle.program.specs.Program.{Program}
@@ -17,6 +18,10 @@ use Rattle.reach.specs.Marks.{freshMarks, countSet, violationsFrom}
 use Rattle.edit.specs.Editing.{editedProgram, wantedEdit}
 use Rattle.edit.specs.declared.EditRead.{EditRead}
 use Rattle.edit.specs.declared.EditRead.the-variants.{Read, Refused}
+
+-- `bench` reads no longer input
+abbrev pub inputSize : ℕ
+inputSize = 16384
 
 -- ---- where the file ends
 
@@ -80,17 +85,21 @@ abbrev pub inputText : List ℕ → ℕ → List ℕ
 inputText input size = fileText (readFile (take size input) .verdict) (readFile (take size input) .program) (lines (drop size input))
 
 unfoldable pub benchText : List ℕ → List ℕ
-benchText input = cond (ltb 16384 (length input)) tooLong (inputText input (fileSize (lines input)))
+benchText input = cond (ltb inputSize (length input)) tooLong (inputText input (fileSize (lines input)))
 
 -- ---- the text of a block, as it is asked for: for a file and marks, into an output
 
--- no block is longer
+-- no line is longer: five numbers, two digits each, and 0A
+abbrev pub lineSize : ℕ
+lineSize = 11
+
+-- no block is longer: a line for each configuration, and the counts
 abbrev pub blockSize : ℕ
-blockSize = 11 * 16384 + 11
+blockSize = lineSize * marksSize + lineSize
 
 -- the block, or nothing where the file is refused, the marks do not have 16,384 bytes or the output is too short for every block
 abbrev pub blockBy : Verdict → Program → List ℕ → ℕ → List ℕ
-blockBy verdict.Accepted p marks room = cond (eqb (length marks) 16384 && ltb blockSize (room + 1)) (blockOf p marks) []
+blockBy verdict.Accepted p marks room = cond (eqb (length marks) marksSize && ltb blockSize (room + 1)) (blockOf p marks) []
 blockBy (verdict.Refused n line) p marks room = []
 
 unfoldable pub blockText : List ℕ → List ℕ → ℕ → List ℕ
@@ -98,9 +107,9 @@ blockText file marks room = blockBy (readFile file .verdict) (readFile file .pro
 
 -- ---- a line of a refusal, as it is asked for: into an output
 
--- the line, or nothing where the output has under 11 bytes: no line that is printed is longer
+-- the line, or nothing where the output is too short for every line
 abbrev pub lineWithin : List ℕ → ℕ → List ℕ
-lineWithin l room = cond (ltb room 11) [] l
+lineWithin l room = cond (ltb room lineSize) [] l
 
 abbrev pub editRefusal : ℕ → ℕ → List ℕ
 editRefusal n room = lineWithin (refusedEdit n) room

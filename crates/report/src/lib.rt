@@ -2,6 +2,7 @@
 mod put;
 
 use program::Verdict;
+use program::sizes::MARKS_SIZE;
 use put::put_block;
 use text::Line;
 use text::put_line;
@@ -13,6 +14,13 @@ ghost use Rattle.text.specs.Lines.{lines, lineOf};
 ghost use Rattle.text.proofs.Split.{firstLine};
 ghost use Rattle.report.specs.Report.{startsEnd, fileSize, firstSize, blockText, editRefusal, fileRefusal, Printed};
 ghost use Rattle.report.specs.Parts.{blockFits};
+
+// No input that is read is longer.
+pub const INPUT_SIZE: usize = 16384;
+
+// No line is longer: five numbers, two digits each, and 0A. No block is longer: a line for each configuration, and the counts.
+pub const LINE_SIZE: usize = 11;
+pub const BLOCK_SIZE: usize = LINE_SIZE * MARKS_SIZE + LINE_SIZE;
 
 // Whether the line that starts at a position starts with the characters 45.
 fn starts_end(input: &[u8], at: usize) -> bool
@@ -61,7 +69,7 @@ fn has_block(v: Verdict, marks: usize, room: usize) -> bool
 {
     match v {
         Verdict::Refused(_n, _line) => false,
-        Verdict::Accepted => (marks == 16384) & (180235 <= room),
+        Verdict::Accepted => (marks == MARKS_SIZE) & (BLOCK_SIZE <= room),
     }
 }
 
@@ -103,7 +111,7 @@ fn file_refusal_line(n: u8, line: usize) -> Line
 pub fn edit_refusal(n: u8, output: &mut [u8]) -> usize
     ensures { λ r. ⌜ Printed (editRefusal n (length (now (output .entry)))) (now (output .entry)) (now (output .exit)) r ⌝ }
 {
-    if output.len() < 11 {
+    if output.len() < LINE_SIZE {
         return 0;
     }
     let l = edit_refusal_line(n);
@@ -114,7 +122,7 @@ pub fn edit_refusal(n: u8, output: &mut [u8]) -> usize
 pub fn file_refusal(n: u8, line: usize, output: &mut [u8]) -> usize
     ensures { λ r. ⌜ Printed (fileRefusal n line (length (now (output .entry)))) (now (output .entry)) (now (output .exit)) r ⌝ }
 {
-    if output.len() < 11 {
+    if output.len() < LINE_SIZE {
         return 0;
     }
     let l = file_refusal_line(n, line);

@@ -7,18 +7,19 @@ use text::Line;
 use text::put_line;
 ghost use mathlib.Core.Path.{_≡_};
 ghost use mathlib.Core.List.{[], _∷_, map};
-ghost use Prim.Native.Nat.{_+_, _<_, _≤_};
+ghost use Prim.Native.Nat.{_+_, _*_, _<_, _≤_};
 ghost use lib.ListN.{length, getD};
+ghost use Rattle.program.specs.Sizes.{marksSize};
 ghost use Rattle.text.specs.Lines.{lineOf};
 ghost use Rattle.automaton.specs.Flags.{Rejects};
 ghost use Rattle.program.specs.Program.{Program};
 ghost use Rattle.program.specs.Decoded.{programOf};
 ghost use Rattle.reach.specs.Marks.{violates, frontWhen, violationsFrom};
 ghost use Rattle.writer.specs.Parts.{Put};
-ghost use Rattle.report.specs.Report.{violationFrame, countFrame, blockOf, blockSize, Printed};
+ghost use Rattle.report.specs.Report.{violationFrame, countFrame, blockOf, blockSize, lineSize, Printed};
 
 fn violation_line(i: usize) -> Line
-    requires { ⌜ i < 16384 ⌝ }
+    requires { ⌜ i < marksSize ⌝ }
     ensures { λ r. ⌜ r ≡ lineOf (violationFrame i) ⌝ }
 {
     let numbers = [
@@ -50,8 +51,8 @@ fn count_line(configurations: usize, violations: usize) -> Line
 
 // The line of configuration i where it is marked and its present state is rejecting; nothing where it is no violation.
 fn put_violation(marks: &[u8], rejecting: &[u8], i: usize, out: &mut [u8], at: usize) -> usize
-    requires { ⌜ (i < 16384) × (length (now marks) ≡ 16384) × (length (now rejecting) ≡ 8) × (at + 11 ≤ length (now out)) ⌝ }
-    ensures { λ next. ⌜ next ≤ at + 11 ⌝ }
+    requires { ⌜ (i < marksSize) × (length (now marks) ≡ marksSize) × (length (now rejecting) ≡ 8) × (at + lineSize ≤ length (now out)) ⌝ }
+    ensures { λ next. ⌜ next ≤ at + lineSize ⌝ }
     ensures { λ next. ⌜ ((p : Program) → Rejects (p .automaton) (now (rejecting .entry))
         → Put (map violationFrame (frontWhen (violates p (getD (now (marks .entry)) i 0) i) i [])) (now (out .entry)) (now (out .exit)) at next) ⌝ }
 {
@@ -65,8 +66,8 @@ fn put_violation(marks: &[u8], rejecting: &[u8], i: usize, out: &mut [u8], at: u
 
 // The lines of all violations, at the output's start: one pass over the marks.
 fn put_violations(marks: &[u8], rejecting: &[u8], out: &mut [u8]) -> usize
-    requires { ⌜ (length (now marks) ≡ 16384) × (length (now rejecting) ≡ 8) × (blockSize ≤ length (now out)) ⌝ }
-    ensures { λ next. ⌜ next ≤ 180224 ⌝ }
+    requires { ⌜ (length (now marks) ≡ marksSize) × (length (now rejecting) ≡ 8) × (blockSize ≤ length (now out)) ⌝ }
+    ensures { λ next. ⌜ next ≤ lineSize * marksSize ⌝ }
     ensures { λ next. ⌜ ((p : Program) → Rejects (p .automaton) (now (rejecting .entry))
         → Put (map violationFrame (violationsFrom p (now (marks .entry)) 0)) (now (out .entry)) (now (out .exit)) 0 next) ⌝ }
 {
@@ -81,7 +82,7 @@ fn put_violations(marks: &[u8], rejecting: &[u8], out: &mut [u8]) -> usize
 
 // A program's block for some marks. The caller has measured both: hence the `requires`.
 pub fn put_block(p: DecodedProgram, marks: &[u8], out: &mut [u8]) -> usize
-    requires { ⌜ (length (now marks) ≡ 16384) × (blockSize ≤ length (now out)) ⌝ }
+    requires { ⌜ (length (now marks) ≡ marksSize) × (blockSize ≤ length (now out)) ⌝ }
     ensures { λ r. ⌜ Printed (blockOf (programOf p) (now (marks .entry))) (now (out .entry)) (now (out .exit)) r ⌝ }
 {
     let rule = p.automaton;

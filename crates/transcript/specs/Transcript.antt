@@ -11,14 +11,14 @@ use Rattle.program.specs.Program.{Program}
 use Rattle.program.specs.Reading.{readFile}
 use Rattle.program.specs.declared.Verdict.{Verdict}
 use Rattle.program.specs.declared.Verdict.the-variants as verdict
-use Rattle.writer.specs.Answers.{outputSize}
+use Rattle.program.specs.Sizes.{outputSize}
 use Rattle.writer.specs.declared.WriteAnswer.{WriteAnswer}
 use Rattle.writer.specs.declared.WriteAnswer.the-variants.{Written, Refused}
 use Rattle.reach.specs.Configurations.{none-set}
 use Rattle.reach.specs.Marks.{freshMarks}
 use Rattle.repair.specs.Repairs.{After, repaired}
 use Rattle.repair.specs.Desk.{Desk, started, after}
-use Rattle.report.specs.Report.{fileSize, firstSize, blockOf, tooLong, refusedFile, refusedEdit, Printed}
+use Rattle.report.specs.Report.{fileSize, firstSize, blockOf, tooLong, refusedFile, refusedEdit, Printed, inputSize}
 use Rattle.transcript.specs.declared.Held.{Held}
 use Rattle.transcript.specs.declared.Turn.{Turn}
 
@@ -62,7 +62,7 @@ begunBy (verdict.Refused n line) p input = alone (refusedFile n line) input
 
 -- 18 is printed alone
 unfoldable pub begun : List ℕ → Shown
-begun input = cond (ltb 16384 (length input)) (alone tooLong input) (begunBy (readFile (fileOf input) .verdict) (readFile (fileOf input) .program) input)
+begun input = cond (ltb inputSize (length input)) (alone tooLong input) (begunBy (readFile (fileOf input) .verdict) (readFile (fileOf input) .program) input)
 
 -- ---- a turn for an edit line
 

@@ -1,22 +1,26 @@
 // What bench prints for an input, a turn after the other: one for the file, and then one for each edit line. Each turn puts its text at
 // the start of an output of 180,235 bytes, which every text fits.
 use analysis::AnalyzeAnswer;
+use program::sizes::MARKS_SIZE;
+use program::sizes::OUTPUT_SIZE;
 use repair::repair_with;
+use report::BLOCK_SIZE;
+use report::INPUT_SIZE;
 use writer::WriteAnswer;
 ghost use mathlib.Core.Path.{_≡_};
 ghost use Prim.Native.Nat.{_≤_};
 ghost use lib.ListN.{length};
 ghost use Rattle.program.specs.Reading.{readFile};
 ghost use Rattle.repair.specs.Desk.{fileBy, after};
-ghost use Rattle.report.specs.Report.{blockText, Printed};
+ghost use Rattle.report.specs.Report.{blockText, Printed, blockSize, inputSize};
 ghost use Rattle.transcript.specs.Transcript.{heldOf, nothing, TurnGives, fileOf, begunBy, begun, lineAt, editOn, turned};
 ghost use Rattle.transcript.specs.Parts.{Within, editedText};
 
 // What is held between two turns: the first `used` bytes of the file, and its marks. The bytes past `used` are free.
 pub struct Held {
-    pub file: [u8; 16384],
+    pub file: [u8; INPUT_SIZE],
     pub used: usize,
-    pub marks: [u8; 16384],
+    pub marks: [u8; MARKS_SIZE],
 }
 
 // After a turn: how many bytes of the output are printed, where the next edit line starts, and what is held for it.
@@ -43,11 +47,11 @@ fn within(n: usize, bytes: &[u8]) -> usize
 }
 
 // A copy of a file, with its marks. No file that is held is longer than an input may be: hence the `requires`.
-fn hold(file: &[u8], marks: [u8; 16384]) -> Held
-    requires { ⌜ length (now file) ≤ 16384 ⌝ }
+fn hold(file: &[u8], marks: [u8; MARKS_SIZE]) -> Held
+    requires { ⌜ length (now file) ≤ inputSize ⌝ }
     ensures { λ r. ⌜ heldOf r ≡ record { file = now (file .entry); marks = marks } ⌝ }
 {
-    let mut copy = [0u8; 16384];
+    let mut copy = [0u8; INPUT_SIZE];
     let used = bytes::copy(file, &mut copy);
     Held {
         file: copy,
@@ -60,8 +64,8 @@ fn hold(file: &[u8], marks: [u8; 16384]) -> Held
 fn nothing_more(size: usize, end: usize) -> Turn
     ensures { λ r. ⌜ (r .size ≡ size) × ((r .next ≡ end) × (heldOf (r .held) ≡ nothing)) ⌝ }
 {
-    let file = [0u8; 16384];
-    let marks = [0u8; 16384];
+    let file = [0u8; INPUT_SIZE];
+    let marks = [0u8; MARKS_SIZE];
     let held = Held {
         file,
         used: 0,
@@ -75,8 +79,8 @@ fn nothing_more(size: usize, end: usize) -> Turn
 }
 
 // The block of what is held.
-fn put_held(held: Held, out: &mut [u8; 180235]) -> usize
-    ensures { λ r. ⌜ Printed (blockText (heldOf held .file) (heldOf held .marks) 180235) (now (out .entry)) (now (out .exit)) r ⌝ }
+fn put_held(held: Held, out: &mut [u8; BLOCK_SIZE]) -> usize
+    ensures { λ r. ⌜ Printed (blockText (heldOf held .file) (heldOf held .marks) blockSize) (now (out .entry)) (now (out .exit)) r ⌝ }
 {
     let file = held.file;
     let marks = held.marks;
@@ -85,14 +89,14 @@ fn put_held(held: Held, out: &mut [u8; 180235]) -> usize
 }
 
 // The file: its refusal, or its block and the file to be held. An input that is longer is refused before: hence the `requires`.
-fn begin_file(input: &[u8], out: &mut [u8; 180235]) -> Turn
-    requires { ⌜ length (now input) ≤ 16384 ⌝ }
+fn begin_file(input: &[u8], out: &mut [u8; BLOCK_SIZE]) -> Turn
+    requires { ⌜ length (now input) ≤ inputSize ⌝ }
     ensures { λ r. ⌜ TurnGives (begunBy (readFile (fileOf (now (input .entry))) .verdict) (readFile (fileOf (now (input .entry))) .program) (now (input .entry)))
         (now (out .entry)) (now (out .exit)) r ⌝ }
 {
     let end = report::file_size(input);
-    let mut marks = [0u8; 16384];
-    let mut work = [0u8; 16384];
+    let mut marks = [0u8; MARKS_SIZE];
+    let mut work = [0u8; MARKS_SIZE];
     let answer = analysis::analyze(&input[..end], &mut marks, &mut work);
     match answer {
         AnalyzeAnswer::Refused(n, line) => {
@@ -112,10 +116,10 @@ fn begin_file(input: &[u8], out: &mut [u8; 180235]) -> Turn
 }
 
 // The first turn. More than 16,384 bytes of input are refused (18); else the file is read.
-pub fn begin(input: &[u8], out: &mut [u8; 180235]) -> Turn
+pub fn begin(input: &[u8], out: &mut [u8; BLOCK_SIZE]) -> Turn
     ensures { λ r. ⌜ TurnGives (begun (now (input .entry))) (now (out .entry)) (now (out .exit)) r ⌝ }
 {
-    if 16384 < input.len() {
+    if INPUT_SIZE < input.len() {
         let size = report::edit_refusal(18, out);
         return nothing_more(size, input.len());
     }
@@ -132,7 +136,7 @@ fn line_at(input: &[u8], at: usize) -> &[u8]
 }
 
 // The next file is a copy of what an accepted repair wrote; after a refused one it stays.
-fn hold_next(answer: WriteAnswer, output: [u8; 5328], held: Held) -> Held
+fn hold_next(answer: WriteAnswer, output: [u8; OUTPUT_SIZE], held: Held) -> Held
     ensures { λ r. ⌜ heldOf r ≡ record { file = fileBy answer output (heldOf held .file); marks = held .marks } ⌝ }
 {
     match answer {
@@ -150,8 +154,8 @@ fn edit_held(inside_out: bool, line: &[u8], held: Held) -> Edited
     ensures { λ r. ⌜ (r .answer ≡ editOn (now (line .entry)) (heldOf held) .answer)
         × (heldOf (r .held) ≡ after (editOn (now (line .entry)) (heldOf held)) (heldOf held .file)) ⌝ }
 {
-    let mut output = [0u8; 5328];
-    let mut work = [0u8; 16384];
+    let mut output = [0u8; OUTPUT_SIZE];
+    let mut work = [0u8; MARKS_SIZE];
     let file = held.file;
     let mut marks = held.marks;
     let used = within(held.used, &file);
@@ -168,7 +172,7 @@ fn edit_held(inside_out: bool, line: &[u8], held: Held) -> Edited
 }
 
 // The block of what is held after an accepted edit, or the number of a refused one.
-fn put_edited(edited: Edited, out: &mut [u8; 180235]) -> usize
+fn put_edited(edited: Edited, out: &mut [u8; BLOCK_SIZE]) -> usize
     ensures { λ r. ⌜ Printed (editedText (edited .answer) (heldOf (edited .held))) (now (out .entry)) (now (out .exit)) r ⌝ }
 {
     let answer = edited.answer;
@@ -187,7 +191,7 @@ pub fn edit_line(
     input: &[u8],
     at: usize,
     held: Held,
-    out: &mut [u8; 180235],
+    out: &mut [u8; BLOCK_SIZE],
 ) -> Turn
     ensures { λ r. ⌜ TurnGives (turned (now (input .entry)) at (heldOf held)) (now (out .entry)) (now (out .exit)) r ⌝ }
 {

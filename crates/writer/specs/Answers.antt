@@ -4,6 +4,7 @@ use mathlib.Core.Bool.{cond}
 use mathlib.Core.List.{List, _++_}
 use lib.Dec.{ltb}
 use lib.ListN.{length, drop}
+use Rattle.program.specs.Sizes.{outputSize}
 use Rattle.program.specs.Program.{Program}
 use Rattle.program.specs.Writing.{written}
 use Rattle.program.specs.Reading.{readFile}
@@ -11,10 +12,6 @@ use Rattle.program.specs.declared.Verdict.{Verdict}
 use Rattle.program.specs.declared.Verdict.the-variants as verdict
 use Rattle.writer.specs.declared.WriteAnswer.{WriteAnswer}
 use Rattle.writer.specs.declared.WriteAnswer.the-variants.{Written, Refused}
-
--- the least length of an output: no program is written as more bytes
-abbrev pub outputSize : ℕ
-outputSize = 5328
 
 -- the file's refusal (1 to 8), then 10 for a short output, then how many bytes are written
 abbrev pub answerBy : Verdict → Program → ℕ → WriteAnswer

@@ -2,6 +2,7 @@
 pub mod put;
 
 use program::Verdict;
+use program::sizes::OUTPUT_SIZE;
 use put::write_program;
 ghost use mathlib.Core.Path.{_≡_};
 ghost use Rattle.writer.specs.Answers.{writeAnswer, outputAfter};
@@ -22,7 +23,7 @@ pub fn write(file: &[u8], output: &mut [u8]) -> WriteAnswer
     match v {
         Verdict::Refused(n, line) => WriteAnswer::Refused(n, line),
         Verdict::Accepted => {
-            if output.len() < 5328 {
+            if output.len() < OUTPUT_SIZE {
                 return WriteAnswer::Refused(10, 0);
             }
             let p = r.program;

@@ -1,0 +1,24 @@
+-- The sizes of a program and of what is lent for it.
+use Prim.Native.Nat.{ℕ}
+
+abbrev pub maxRoutines : ℕ
+maxRoutines = 16
+
+-- nodes of one routine (paper: places)
+abbrev pub maxNodes : ℕ
+maxNodes = 16
+
+abbrev pub maxEdges : ℕ
+maxEdges = 256
+
+-- the label of a call of routine 0; below it are the actions
+abbrev pub firstCall : ℕ
+firstCall = 0x40
+
+-- a byte for each configuration (paper: the sheet): 16 routines, 16 nodes, 8 roots and 8 states
+abbrev pub marksSize : ℕ
+marksSize = 16384
+
+-- the least length of an output: no program is written as more bytes
+abbrev pub outputSize : ℕ
+outputSize = 5328

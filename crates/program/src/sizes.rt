@@ -1,0 +1,15 @@
+// How many routines, nodes a routine and edges a program has at most.
+use automaton::sizes::MAX_STATES;
+
+pub const MAX_ROUTINES: usize = 16;
+pub const MAX_NODES: usize = 16;
+pub const MAX_EDGES: usize = 256;
+
+// The label of a call of routine 0; below it are the actions.
+pub const FIRST_CALL: u8 = 0x40;
+
+// A byte for each configuration: its routine, its node, its root and its state.
+pub const MARKS_SIZE: usize = MAX_ROUTINES * MAX_NODES * MAX_STATES * MAX_STATES;
+
+// The least length of an output: no program is written as more bytes.
+pub const OUTPUT_SIZE: usize = 5328;

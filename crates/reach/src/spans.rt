@@ -1,0 +1,12 @@
+// The sizes of what is kept of configurations, beside the marks.
+use automaton::sizes::MAX_STATES;
+use program::sizes::MAX_NODES;
+use program::sizes::MAX_ROUTINES;
+
+// So many numbers follow one another: those of a root, of a node, and of a routine.
+pub const ROOT_SPAN: usize = MAX_STATES;
+pub const NODE_SPAN: usize = MAX_STATES * ROOT_SPAN;
+pub const ROUTINE_SPAN: usize = MAX_NODES * NODE_SPAN;
+
+// A byte for each summary: its routine, its root and its state.
+pub const SUMMARIES_SIZE: usize = MAX_ROUTINES * MAX_STATES * MAX_STATES;
