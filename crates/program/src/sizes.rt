@@ -2,7 +2,9 @@
 use automaton::sizes::MAX_STATES;
 
 pub const MAX_ROUTINES: usize = 16;
+
 pub const MAX_NODES: usize = 16;
+
 pub const MAX_EDGES: usize = 256;
 
 // The label of a call of routine 0; below it are the actions.

@@ -2,17 +2,18 @@
 use mathlib.Core.Path.{_≡_, refl}
 use mathlib.Core.Bool.{true, false}
 use mathlib.Core.List.{List}
-use Prim.Native.Nat.{ℕ, _/_, _%_}
+use Prim.Native.Nat.{ℕ}
 use lib.ListN.{take}
+use Rattle.program.specs.Program.{Edge}
 use Rattle.reach.specs.Configurations.{number}
 use Rattle.prune.specs.Parts.{anyKey, callSupports, lineSupports, linesToTry, actionSupports, edgeSupports}
 
-module _ (kept lines : List ℕ) (k f n r q key : ℕ) where
-  pub edge-calls : callSupports kept key f n r q ≡ true → edgeSupports kept lines k f n r q key ≡ true
+module _ (kept lines : List ℕ) (k f n r q : ℕ) (e : Edge) where
+  pub edge-calls : callSupports kept e f n r q ≡ true → edgeSupports kept lines k f n r q e ≡ true
   unfolding edgeSupports
-  edge-calls e = rw e refl
+  edge-calls h = rw h refl
 
-  pub edge-is : {end base : ℕ} → callSupports kept key f n r q ≡ false → end ≡ linesToTry key f n k → base ≡ number f (key / 0x10000 % 256) r 0
-      → anyKey (lineSupports kept base (key / 0x100 % 256) q) (take end lines) ≡ edgeSupports kept lines k f n r q key
+  pub edge-is : {end base : ℕ} → callSupports kept e f n r q ≡ false → end ≡ linesToTry e f n k → base ≡ number f (e .source) r 0
+      → anyKey (lineSupports kept base (e .label) q) (take end lines) ≡ edgeSupports kept lines k f n r q e
   unfolding edgeSupports actionSupports
-  edge-is e z b = rw (e, z, b) refl
+  edge-is h z b = rw (h, z, b) refl

@@ -4,7 +4,7 @@ use mathlib.Core.Path.{_≡_, refl, ap, subst}
 use mathlib.Core.Logic.{_≢_}
 use mathlib.Core.Bool.{Bool, false, _||_, _&&_}
 use mathlib.Core.List.{List, [], _∷_, map}
-use Prim.Native.Nat.{ℕ, zero, suc, _+_, _-_, _/_, _≤_, _<_}
+use Prim.Native.Nat.{ℕ, zero, suc, _+_, _-_, _≤_, _<_}
 use native.Mathlib.Omega.{arith}
 use native.Mathlib.Nat.{sub-zero}
 use lib.Dec.{eqb}
@@ -57,12 +57,12 @@ its-part {keys} {m} {f} {a} {b} x y fits up =
 -- ---- what an edge of another routine supports
 
 module _ (kept lines : List ℕ) (k f n r q : ℕ) (no-entry : eqb n 0 && eqb r q ≡ false) where
-  other-supports : (key : ℕ) → key / 0x1000000 ≢ f → edgeSupports kept lines k f n r q key ≡ false
+  other-supports : (key : ℕ) → edgeOf key .routine ≢ f → edgeSupports kept lines k f n r q (edgeOf key) ≡ false
   unfolding edgeSupports callSupports entrySupports returnSupports actionSupports linesToTry anyKey
-  other-supports key h = rw (no-entry, ne-eqb (key / 0x1000000) f h) refl
+  other-supports key h = rw (no-entry, ne-eqb (edgeOf key .routine) f h) refl
 
   -- the search over the part and the one over the table find the same
   pub part-supports : {keys : List ℕ} {m : ℕ} {part : List ℕ} → PartOf keys m f part
       → supports part (length part) lines k kept f n r q ≡ supports keys m lines k kept f n r q
   unfolding supports
-  part-supports {part = part} z = rw (take-length part) (z .decides (edgeSupports kept lines k f n r q) other-supports)
+  part-supports {part = part} z = rw (take-length part) (z .decides (λ key. edgeSupports kept lines k f n r q (edgeOf key)) other-supports)

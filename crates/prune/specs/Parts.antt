@@ -1,17 +1,19 @@
 -- What the private functions of the keeping promise of each other; nothing here has to be believed.
-use Prim.Native.Nat.{ℕ, zero, suc, _≤_, _<_, _+_, _-_, _*_, _/_, _%_}
+use Prim.Native.Nat.{ℕ, zero, suc, _≤_, _<_, _+_, _*_}
 use mathlib.Core.Path.{_≡_}
 use mathlib.Core.Logic.{_≢_}
 use mathlib.Core.Bool.{Bool, true, false, cond, _&&_, _||_}
 use mathlib.Core.List.{List, [], _∷_, map, List·Memᴰ}
-use lib.Dec.{eqb, ltb}
+use lib.Dec.{eqb}
 use lib.ListN.{length, getD, set, take}
 use Rattle.program.specs.Sizes.{marksSize}
+use Rattle.automaton.specs.Sizes.{maxStates}
 use Rattle.automaton.specs.Decoded.{transitionOf}
 use Rattle.automaton.specs.Flags.{isSet}
-use Rattle.program.specs.Program.{Program}
+use Rattle.program.specs.Program.{Edge, Program, isCall, calledBy, callOf}
 use Rattle.program.specs.WellFormed.{WellFormed}
 use Rattle.program.specs.Decoded.{edgeOf}
+use Rattle.reach.specs.Sizes.{rootSpan}
 use Rattle.reach.specs.Configurations.{number, routineOf, nodeOf, rootOf, stateOf}
 use Rattle.reach.specs.Marks.{Marked, countSet}
 use Rattle.reach.proofs.Numbers.{At}
@@ -34,51 +36,51 @@ anyKey t (k ∷ ks) = t k || anyKey t ks
 
 -- some root of the configurations from this number on is kept
 unfoldable pub rootKept : List ℕ → ℕ → Bool
-rootKept kept base = anyFrom (λ x. isSet kept (base + 8 * x)) 8 0
+rootKept kept base = anyFrom (λ x. isSet kept (base + rootSpan * x)) maxStates 0
 
 -- for some state the caller is kept with it, and the called exit with it as its root
 unfoldable pub returnKept : List ℕ → ℕ → ℕ → Bool
-returnKept kept caller exit = anyFrom (λ y. isSet kept (caller + y) && isSet kept (exit + 8 * y)) 8 0
+returnKept kept caller exit = anyFrom (λ y. isSet kept (caller + y) && isSet kept (exit + rootSpan * y)) maxStates 0
 
 -- it is an entry, and the edge calls its routine in its state
-unfoldable pub entrySupports : List ℕ → ℕ → ℕ → ℕ → ℕ → ℕ → Bool
-entrySupports kept key f n r q =
-    cond (eqb n 0 && eqb r q && eqb (key / 0x100 % 256) (64 + f)) (rootKept kept (number (key / 0x1000000) (key / 0x10000 % 256) 0 q)) false
+unfoldable pub entrySupports : List ℕ → Edge → ℕ → ℕ → ℕ → ℕ → Bool
+entrySupports kept e f n r q =
+    cond (eqb n 0 && eqb r q && eqb (e .label) (callOf f)) (rootKept kept (number (e .routine) (e .source) 0 q)) false
 
 -- the edge leads to it by a call that returns
-unfoldable pub returnSupports : List ℕ → ℕ → ℕ → ℕ → ℕ → ℕ → Bool
-returnSupports kept key f n r q =
-    cond (eqb (key / 0x1000000) f && eqb (key % 256) n)
-    (cond (ltb (key / 0x100 % 256) 64) false (returnKept kept (number f (key / 0x10000 % 256) r 0) (number (key / 0x100 % 256 - 64) 1 0 q)))
-    false
+unfoldable pub returnSupports : List ℕ → Edge → ℕ → ℕ → ℕ → ℕ → Bool
+returnSupports kept e f n r q =
+    cond (eqb (e .routine) f && eqb (e .target) n)
+    (cond (isCall (e .label)) (returnKept kept (number f (e .source) r 0) (number (calledBy (e .label)) 1 0 q)) false) false
 
-unfoldable pub callSupports : List ℕ → ℕ → ℕ → ℕ → ℕ → ℕ → Bool
-callSupports kept key f n r q = entrySupports kept key f n r q || returnSupports kept key f n r q
+unfoldable pub callSupports : List ℕ → Edge → ℕ → ℕ → ℕ → ℕ → Bool
+callSupports kept e f n r q = entrySupports kept e f n r q || returnSupports kept e f n r q
 
 -- the transition has this action and this state after it, and the configuration before it is kept
 unfoldable pub lineSupports : List ℕ → ℕ → ℕ → ℕ → ℕ → Bool
 lineSupports kept base a q line =
-    cond (eqb (transitionOf line .action) a && eqb (transitionOf line .after) q) (isSet kept (base + transitionOf line .before)) false
+    cond (eqb (transitionOf line .action) a && eqb (transitionOf line .after) q)
+    (isSet kept (base + transitionOf line .before)) false
 
 -- how many transitions are to be tried for an edge: all for an action that leads to node n of routine f, else none
-unfoldable pub linesToTry : ℕ → ℕ → ℕ → ℕ → ℕ
-linesToTry key f n count = cond (eqb (key / 0x1000000) f && eqb (key % 256) n) (cond (ltb (key / 0x100 % 256) 64) count 0) 0
+unfoldable pub linesToTry : Edge → ℕ → ℕ → ℕ → ℕ
+linesToTry e f n count = cond (eqb (e .routine) f && eqb (e .target) n) (cond (isCall (e .label)) 0 count) 0
 
-unfoldable pub actionSupports : List ℕ → List ℕ → ℕ → ℕ → ℕ → ℕ → ℕ → ℕ → Bool
-actionSupports kept lines count f n r q key =
-    anyKey (lineSupports kept (number f (key / 0x10000 % 256) r 0) (key / 0x100 % 256) q) (take (linesToTry key f n count) lines)
+unfoldable pub actionSupports : List ℕ → List ℕ → ℕ → ℕ → ℕ → ℕ → ℕ → Edge → Bool
+actionSupports kept lines count f n r q e =
+    anyKey (lineSupports kept (number f (e .source) r 0) (e .label) q) (take (linesToTry e f n count) lines)
 
-unfoldable pub edgeSupports : List ℕ → List ℕ → ℕ → ℕ → ℕ → ℕ → ℕ → ℕ → Bool
-edgeSupports kept lines count f n r q key = callSupports kept key f n r q || actionSupports kept lines count f n r q key
+unfoldable pub edgeSupports : List ℕ → List ℕ → ℕ → ℕ → ℕ → ℕ → ℕ → Edge → Bool
+edgeSupports kept lines count f n r q e = callSupports kept e f n r q || actionSupports kept lines count f n r q e
 
 -- some edge, with some transition, supports it
 unfoldable pub supports : List ℕ → ℕ → List ℕ → ℕ → List ℕ → ℕ → ℕ → ℕ → ℕ → Bool
-supports keys m lines k kept f n r q = anyKey (edgeSupports kept lines k f n r q) (take m keys)
+supports keys m lines k kept f n r q = anyKey (λ key. edgeSupports kept lines k f n r q (edgeOf key)) (take m keys)
 
 -- this part of the keys in use has the edges of routine f: a test that fails for every edge of another routine is met by one
 -- of all just where it is met by one of these
 pub record PartOf (keys : List ℕ) (m f : ℕ) (part : List ℕ) : Type 0 where
-  pub decides : (t : ℕ → Bool) → ((key : ℕ) → key / 0x1000000 ≢ f → t key ≡ false) → anyKey t part ≡ anyKey t (take m keys)
+  pub decides : (t : ℕ → Bool) → ((key : ℕ) → edgeOf key .routine ≢ f → t key ≡ false) → anyKey t part ≡ anyKey t (take m keys)
 
 -- the configuration of number i is marked, not yet kept, and supported
 unfoldable pub keepsAt : List ℕ → ℕ → List ℕ → ℕ → List ℕ → List ℕ → ℕ → Bool

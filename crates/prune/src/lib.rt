@@ -3,21 +3,28 @@ mod support;
 
 use analysis::check_buffers;
 use analysis::count::clear;
-use analysis::number::number_of;
 use analysis::part::first_of;
 use automaton::Table;
 use automaton::flags::initial_flags;
 use automaton::in_use;
+use automaton::sizes::MAX_STATES;
+use automaton::sizes::MAX_TRANSITIONS;
 use program::DecodedProgram;
 use program::Verdict;
 use program::sizes::MARKS_SIZE;
+use program::sizes::MAX_EDGES;
+use program::sizes::MAX_ROUTINES;
+use reach::configuration::entry_of;
+use reach::configuration::parts_of;
+use reach::spans::ROUTINE_SPAN;
 use support::has_support;
 ghost use mathlib.Core.Path.{_≡_};
 ghost use mathlib.Core.Bool.{cond, _&&_};
 ghost use mathlib.Core.List.{map};
 ghost use Prim.Native.Nat.{_+_, _*_, _/_, _<_, _≤_};
 ghost use lib.ListN.{length, set, take};
-ghost use Rattle.program.specs.Sizes.{marksSize};
+ghost use Rattle.automaton.specs.Sizes.{maxStates};
+ghost use Rattle.program.specs.Sizes.{maxRoutines, marksSize};
 ghost use Rattle.automaton.specs.Decoded.{keysOf, transitionOf};
 ghost use Rattle.automaton.specs.Flags.{isSet, Starts};
 ghost use Rattle.program.specs.Program.{Program};
@@ -25,7 +32,8 @@ ghost use Rattle.program.specs.Frames.{edgeKey};
 ghost use Rattle.program.specs.WellFormed.{Ascending, WellFormed};
 ghost use Rattle.program.specs.Decoded.{edgeOf, programOf};
 ghost use Rattle.program.specs.Reading.{readFile};
-ghost use Rattle.reach.specs.Configurations.{none-set};
+ghost use Rattle.reach.specs.Sizes.{routineSpan};
+ghost use Rattle.reach.specs.Configurations.{routineOf, none-set};
 ghost use Rattle.reach.specs.Marks.{Shows};
 ghost use Rattle.analysis.specs.Answers.{checked, workAfter};
 ghost use Rattle.prune.specs.Keeping.{Kept, Pruned};
@@ -46,14 +54,14 @@ fn keep_when(yes: bool, marks: &[u8], kept: &mut [u8], at: usize)
 }
 
 // The starts: main's entry in each initial state, with that state as its root.
-fn keep_starts(initial: &[u8; 8], marks: &[u8], kept: &mut [u8])
+fn keep_starts(initial: &[u8; MAX_STATES], marks: &[u8], kept: &mut [u8])
     requires { ⌜ (length (now marks) ≡ marksSize) × (length (now kept) ≡ marksSize) ⌝ }
     ensures { λ _. ⌜ ((p : Program) → Starts (p .automaton) (now (initial .entry)) → Sound p (now (marks .entry)) (now (kept .entry))
-        → Started p (now (marks .entry)) (now (kept .exit)) 8) ⌝ }
+        → Started p (now (marks .entry)) (now (kept .exit)) maxStates) ⌝ }
 {
     let mut q: u8 = 0;
-    while q < 8 {
-        let at = number_of(0, 0, q, q);
+    while q < MAX_STATES as u8 {
+        let at = entry_of(0, q);
         keep_when(initial[q as usize] != 0, marks, kept, at);
         q = q + 1;
     }
@@ -72,7 +80,7 @@ fn keep_at(
     i: usize,
 ) -> bool
     requires { ⌜ (m ≤ length (now keys)) × (k ≤ length (now lines)) × (i < marksSize) ⌝ }
-    requires { ⌜ PartOf (now keys) m (i / 1024) (now part) ⌝ }
+    requires { ⌜ PartOf (now keys) m (routineOf i) (now part) ⌝ }
     requires { ⌜ (length (now marks) ≡ marksSize) × (length (now kept) ≡ marksSize) ⌝ }
     ensures { λ y. ⌜ (y ≡ keepsAt (now (keys .entry)) m (now (lines .entry)) k (now (marks .entry)) (now (kept .entry)) i)
         × (now (kept .exit) ≡ cond y (set (now (kept .entry)) i 1) (now (kept .entry))) ⌝ }
@@ -83,11 +91,7 @@ fn keep_at(
     if kept[i] != 0 {
         return false;
     }
-    let f = (i / 1024) as u8;
-    let n = (i / 64 % 16) as u8;
-    let r = (i / 8 % 8) as u8;
-    let q = (i % 8) as u8;
-    if has_support(keys, m, part, lines, k, kept, f, n, r, q) {
+    if has_support(keys, m, part, lines, k, kept, parts_of(i)) {
         kept[i] = 1;
         return true;
     }
@@ -105,16 +109,16 @@ fn keep_numbers(
     kept: &mut [u8],
     f: u32,
 ) -> bool
-    requires { ⌜ (m ≤ length (now keys)) × (k ≤ length (now lines)) × (f < 16) ⌝ }
+    requires { ⌜ (m ≤ length (now keys)) × (k ≤ length (now lines)) × (f < maxRoutines) ⌝ }
     requires { ⌜ PartOf (now keys) m f (now part) ⌝ }
     requires { ⌜ (length (now marks) ≡ marksSize) × (length (now kept) ≡ marksSize) ⌝ }
     ensures { λ y. ⌜ Passed (keepsAt (now (keys .entry)) m (now (lines .entry)) k (now (marks .entry))) (now (kept .entry)) (now (kept .exit)) y
-        (f * 1024) (f * 1024 + 1024) ⌝ }
+        (f * routineSpan) (f * routineSpan + routineSpan) ⌝ }
 {
-    let first = f as usize * 1024;
+    let first = f as usize * ROUTINE_SPAN;
     let mut more = false;
     let mut i = first;
-    while i < first + 1024 {
+    while i < first + ROUTINE_SPAN {
         let one = keep_at(keys, m, part, lines, k, marks, kept, i);
         more = more | one;
         i = i + 1;
@@ -133,11 +137,11 @@ fn keep_routine(
     kept: &mut [u8],
     f: u32,
 ) -> bool
-    requires { ⌜ (m ≤ length (now keys)) × (k ≤ length (now lines)) × (f < 16) ⌝ }
+    requires { ⌜ (m ≤ length (now keys)) × (k ≤ length (now lines)) × (f < maxRoutines) ⌝ }
     requires { ⌜ Ascending 0 (map edgeKey (map edgeOf (take m (now keys)))) ⌝ }
     requires { ⌜ (length (now marks) ≡ marksSize) × (length (now kept) ≡ marksSize) ⌝ }
     ensures { λ y. ⌜ Passed (keepsAt (now (keys .entry)) m (now (lines .entry)) k (now (marks .entry))) (now (kept .entry)) (now (kept .exit)) y
-        (f * 1024) (f * 1024 + 1024) ⌝ }
+        (f * routineSpan) (f * routineSpan + routineSpan) ⌝ }
 {
     let from = first_of(keys, m, f);
     let to = first_of(keys, m, f + 1);
@@ -154,7 +158,7 @@ fn keep_pass(keys: &[u32], m: usize, lines: &[u32], k: usize, marks: &[u8], kept
 {
     let mut more = false;
     let mut f: u32 = 0;
-    while f < 16 {
+    while f < MAX_ROUTINES as u32 {
         let another = keep_routine(keys, m, lines, k, marks, kept, f);
         more = more | another;
         f = f + 1;
@@ -181,12 +185,12 @@ fn keep_supported(edges: Table, transitions: Table, marks: &[u8], kept: &mut [u8
     requires { ⌜ Ascending 0 (map edgeKey (map edgeOf (keysOf edges))) ⌝ }
     requires { ⌜ (length (now marks) ≡ marksSize) × (length (now kept) ≡ marksSize) ⌝ }
     ensures { λ _. ⌜ ((p : Program) → WellFormed p → p .edges ≡ map edgeOf (keysOf edges) → p .automaton .transitions ≡ map transitionOf (keysOf transitions)
-        → Started p (now (marks .entry)) (now (kept .entry)) 8 → Shows (Kept p (now (marks .entry))) (now (kept .exit))) ⌝ }
+        → Started p (now (marks .entry)) (now (kept .entry)) maxStates → Shows (Kept p (now (marks .entry))) (now (kept .exit))) ⌝ }
 {
     let keys = edges.keys;
     let lines = transitions.keys;
-    let m = in_use(edges.count, 256);
-    let k = in_use(transitions.count, 256);
+    let m = in_use(edges.count, MAX_EDGES);
+    let k = in_use(transitions.count, MAX_TRANSITIONS);
     keep_all(&keys, m, &lines, k, marks, kept);
 }
 

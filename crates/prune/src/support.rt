@@ -1,10 +1,21 @@
 // Whether a configuration (f, n, r, q) has support through kept ones: the search over edges and transitions.
-use analysis::number::number_of;
+use automaton::sizes::MAX_STATES;
 use automaton::transition;
+use program::edges::DecodedEdge;
+use program::edges::called_by;
+use program::edges::edge;
+use program::edges::is_call;
+use program::sizes::FIRST_CALL;
+use reach::configuration::Configuration;
+use reach::configuration::number_of;
+use reach::spans::ROOT_SPAN;
 ghost use mathlib.Core.Path.{_≡_};
 ghost use Prim.Native.Nat.{_<_, _≤_};
 ghost use lib.ListN.{length};
 ghost use Rattle.automaton.specs.Flags.{isSet};
+ghost use Rattle.program.specs.Sizes.{maxRoutines};
+ghost use Rattle.program.specs.Decoded.{edgeView};
+ghost use Rattle.reach.specs.Configurations.{byteNumbers};
 ghost use Rattle.prune.specs.Parts.{rootKept, returnKept, entrySupports, returnSupports, callSupports, lineSupports, linesToTry, supports, PartOf};
 
 // A number past the end has no byte, so that its configuration is not kept.
@@ -17,14 +28,14 @@ fn is_kept(kept: &[u8], at: usize) -> bool
     false
 }
 
-// Whether base + 8 x is kept for some root x.
+// Whether some root of the configurations from a number on is kept.
 fn root_kept(kept: &[u8], base: usize) -> bool
-    requires { ⌜ base < 1000000 ⌝ }
+    requires { ⌜ base < byteNumbers ⌝ }
     ensures { λ y. ⌜ y ≡ rootKept (now (kept .entry)) base ⌝ }
 {
     let mut x: usize = 0;
-    while x < 8 {
-        if is_kept(kept, base + 8 * x) {
+    while x < MAX_STATES {
+        if is_kept(kept, base + ROOT_SPAN * x) {
             return true;
         }
         x = x + 1;
@@ -32,14 +43,14 @@ fn root_kept(kept: &[u8], base: usize) -> bool
     false
 }
 
-// Whether for some state y both caller + y and exit + 8 y are kept.
+// Whether for some state the caller is kept with it, and the exit with it as its root.
 fn return_kept(kept: &[u8], caller: usize, exit: usize) -> bool
-    requires { ⌜ (caller < 1000000) × (exit < 1000000) ⌝ }
+    requires { ⌜ (caller < byteNumbers) × (exit < byteNumbers) ⌝ }
     ensures { λ y. ⌜ y ≡ returnKept (now (kept .entry)) caller exit ⌝ }
 {
     let mut y: usize = 0;
-    while y < 8 {
-        if is_kept(kept, caller + y) & is_kept(kept, exit + 8 * y) {
+    while y < MAX_STATES {
+        if is_kept(kept, caller + y) & is_kept(kept, exit + ROOT_SPAN * y) {
             return true;
         }
         y = y + 1;
@@ -48,49 +59,45 @@ fn return_kept(kept: &[u8], caller: usize, exit: usize) -> bool
 }
 
 // A called entry has support where the call is made, whether it returns or not.
-fn entry_supports(kept: &[u8], key: u32, f: u8, n: u8, r: u8, q: u8) -> bool
-    requires { ⌜ f < 16 ⌝ }
-    ensures { λ y. ⌜ y ≡ entrySupports (now (kept .entry)) key f n r q ⌝ }
+fn entry_supports(kept: &[u8], e: DecodedEdge, c: Configuration) -> bool
+    requires { ⌜ c .routine < maxRoutines ⌝ }
+    ensures { λ y. ⌜ y ≡ entrySupports (now (kept .entry)) (edgeView e) (c .routine) (c .node) (c .root) (c .state) ⌝ }
 {
-    let label = (key / 0x100 % 256) as u8;
-    if (n == 0) & (r == q) & (label == 64 + f) {
-        let base = number_of((key / 0x1000000) as u8, (key / 0x10000 % 256) as u8, 0, q);
+    if (c.node == 0) & (c.root == c.state) & (e.label == FIRST_CALL + c.routine) {
+        let base = number_of(e.routine, e.source, 0, c.state);
         return root_kept(kept, base);
     }
     false
 }
 
 // After a call there is support where the caller and the exit of the called routine are kept.
-fn return_supports(kept: &[u8], key: u32, f: u8, n: u8, r: u8, q: u8) -> bool
-    ensures { λ y. ⌜ y ≡ returnSupports (now (kept .entry)) key f n r q ⌝ }
+fn return_supports(kept: &[u8], e: DecodedEdge, c: Configuration) -> bool
+    ensures { λ y. ⌜ y ≡ returnSupports (now (kept .entry)) (edgeView e) (c .routine) (c .node) (c .root) (c .state) ⌝ }
 {
-    let routine = (key / 0x1000000) as u8;
-    let target = (key % 256) as u8;
-    if (routine == f) & (target == n) {
-        let label = (key / 0x100 % 256) as u8;
-        if label < 64 {
-            return false;
+    if (e.routine == c.routine) & (e.target == c.node) {
+        if is_call(e.label) {
+            let caller = number_of(c.routine, e.source, c.root, 0);
+            let exit = number_of(called_by(e.label), 1, 0, c.state);
+            return return_kept(kept, caller, exit);
         }
-        let caller = number_of(f, (key / 0x10000 % 256) as u8, r, 0);
-        let exit = number_of(label - 64, 1, 0, q);
-        return return_kept(kept, caller, exit);
+        return false;
     }
     false
 }
 
-fn call_supports(kept: &[u8], key: u32, f: u8, n: u8, r: u8, q: u8) -> bool
-    requires { ⌜ f < 16 ⌝ }
-    ensures { λ y. ⌜ y ≡ callSupports (now (kept .entry)) key f n r q ⌝ }
+fn call_supports(kept: &[u8], e: DecodedEdge, c: Configuration) -> bool
+    requires { ⌜ c .routine < maxRoutines ⌝ }
+    ensures { λ y. ⌜ y ≡ callSupports (now (kept .entry)) (edgeView e) (c .routine) (c .node) (c .root) (c .state) ⌝ }
 {
-    if entry_supports(kept, key, f, n, r, q) {
+    if entry_supports(kept, e, c) {
         return true;
     }
-    return_supports(kept, key, f, n, r, q)
+    return_supports(kept, e, c)
 }
 
 // A transition on the action to state q gives support where the configuration in the state before it is kept.
 fn line_supports(kept: &[u8], base: usize, action: u8, q: u8, line: u32) -> bool
-    requires { ⌜ base < 1000000 ⌝ }
+    requires { ⌜ base < byteNumbers ⌝ }
     ensures { λ y. ⌜ y ≡ lineSupports (now (kept .entry)) base action q line ⌝ }
 {
     let t = transition(line);
@@ -101,50 +108,37 @@ fn line_supports(kept: &[u8], base: usize, action: u8, q: u8, line: u32) -> bool
 }
 
 // How many transitions are to be tried: none for an edge that is no action or leads elsewhere.
-fn lines_to_try(key: u32, f: u8, n: u8, count: usize) -> usize
-    ensures { λ r. ⌜ (r ≡ linesToTry key f n count) × (r ≤ count) ⌝ }
+fn lines_to_try(e: DecodedEdge, f: u8, n: u8, count: usize) -> usize
+    ensures { λ r. ⌜ (r ≡ linesToTry (edgeView e) f n count) × (r ≤ count) ⌝ }
 {
-    let routine = (key / 0x1000000) as u8;
-    let target = (key % 256) as u8;
-    if (routine == f) & (target == n) {
-        let label = (key / 0x100 % 256) as u8;
-        if label < 64 {
-            return count;
+    if (e.routine == f) & (e.target == n) {
+        if is_call(e.label) {
+            return 0;
         }
+        return count;
     }
     0
 }
 
-// The search ends at the first support found. The counts are those of the two tables, and routines are below 16: hence the
-// `requires`.
-fn supported(
-    keys: &[u32],
-    m: usize,
-    lines: &[u32],
-    k: usize,
-    kept: &[u8],
-    f: u8,
-    n: u8,
-    r: u8,
-    q: u8,
-) -> bool
-    requires { ⌜ (m ≤ length (now keys)) × (k ≤ length (now lines)) × (f < 16) ⌝ }
-    ensures { λ y. ⌜ y ≡ supports (now (keys .entry)) m (now (lines .entry)) k (now (kept .entry)) f n r q ⌝ }
+// The search ends at the first support found. The counts are those of the two tables, and the configuration is in range:
+// hence the `requires`.
+fn supported(keys: &[u32], m: usize, lines: &[u32], k: usize, kept: &[u8], c: Configuration) -> bool
+    requires { ⌜ (m ≤ length (now keys)) × (k ≤ length (now lines)) × (c .routine < maxRoutines) ⌝ }
+    ensures { λ y. ⌜ y ≡ supports (now (keys .entry)) m (now (lines .entry)) k (now (kept .entry)) (c .routine) (c .node) (c .root) (c .state) ⌝ }
 {
     let mut found = false;
     let mut i: usize = 0;
     'scan: while i < m {
-        let key = keys[i];
-        if call_supports(kept, key, f, n, r, q) {
+        let e = edge(keys[i]);
+        if call_supports(kept, e, c) {
             found = true;
             break 'scan;
         }
-        let end = lines_to_try(key, f, n, k);
-        let base = number_of(f, (key / 0x10000 % 256) as u8, r, 0);
-        let action = (key / 0x100 % 256) as u8;
+        let end = lines_to_try(e, c.routine, c.node, k);
+        let base = number_of(c.routine, e.source, c.root, 0);
         let mut j: usize = 0;
         while j < end {
-            if line_supports(kept, base, action, q, lines[j]) {
+            if line_supports(kept, base, e.label, c.state, lines[j]) {
                 found = true;
                 break 'scan;
             }
@@ -157,7 +151,7 @@ fn supported(
 
 // A called entry may have its support in any routine: the whole table is searched. Every other configuration has it by the
 // edges of its own routine alone, and `part` has these: a shorter search gives the same answer. The caller has cut the part
-// out of the table, and routines are below 16: hence the `requires`.
+// out of the table, and the configuration is in range: hence the `requires`.
 pub fn has_support(
     keys: &[u32],
     m: usize,
@@ -165,17 +159,14 @@ pub fn has_support(
     lines: &[u32],
     k: usize,
     kept: &[u8],
-    f: u8,
-    n: u8,
-    r: u8,
-    q: u8,
+    c: Configuration,
 ) -> bool
-    requires { ⌜ (m ≤ length (now keys)) × (k ≤ length (now lines)) × (f < 16) ⌝ }
-    requires { ⌜ PartOf (now keys) m f (now part) ⌝ }
-    ensures { λ y. ⌜ y ≡ supports (now (keys .entry)) m (now (lines .entry)) k (now (kept .entry)) f n r q ⌝ }
+    requires { ⌜ (m ≤ length (now keys)) × (k ≤ length (now lines)) × (c .routine < maxRoutines) ⌝ }
+    requires { ⌜ PartOf (now keys) m (c .routine) (now part) ⌝ }
+    ensures { λ y. ⌜ y ≡ supports (now (keys .entry)) m (now (lines .entry)) k (now (kept .entry)) (c .routine) (c .node) (c .root) (c .state) ⌝ }
 {
-    if (n == 0) & (r == q) {
-        return supported(keys, m, lines, k, kept, f, n, r, q);
+    if (c.node == 0) & (c.root == c.state) {
+        return supported(keys, m, lines, k, kept, c);
     }
-    supported(part, part.len(), lines, k, kept, f, n, r, q)
+    supported(part, part.len(), lines, k, kept, c)
 }

@@ -5,7 +5,9 @@ use program::sizes::MAX_ROUTINES;
 
 // So many numbers follow one another: those of a root, of a node, and of a routine.
 pub const ROOT_SPAN: usize = MAX_STATES;
+
 pub const NODE_SPAN: usize = MAX_STATES * ROOT_SPAN;
+
 pub const ROUTINE_SPAN: usize = MAX_NODES * NODE_SPAN;
 
 // A byte for each summary: its routine, its root and its state.

@@ -20,6 +20,7 @@ pub const INPUT_SIZE: usize = 16384;
 
 // No line is longer: five numbers, two digits each, and 0A. No block is longer: a line for each configuration, and the counts.
 pub const LINE_SIZE: usize = 11;
+
 pub const BLOCK_SIZE: usize = LINE_SIZE * MARKS_SIZE + LINE_SIZE;
 
 // Whether the line that starts at a position starts with the characters 45.

@@ -5,16 +5,18 @@ use native.Mathlib.Omega.{arith}
 use Rattle.prune.specs.Parts.{keepsAt, Passed}
 use Rattle.prune.proofs.Passes.{pass-none, pass-turn}
 use Rattle.prune.proofs.Closed.{keeps-free}
+use Rattle.reach.specs.Sizes.{routineSpan}
+use Rattle.reach.proofs.Numbers.{in-routine}
 use borrow.Author.Needs.{needs}
 use Rattle.prune.proofs.keep_numbers.Statement.{statement}
 use Rattle.prune.proofs.keep_numbers.Tie as tie
 
 abbrev Inv-loop : tie.InvT-loop
 Inv-loop keys m part lines k marks kept₀ f first more₀ i₀ kept more i =
-    (first ≤ i) × (i ≤ first + 1024) × Passed (keepsAt keys m lines k marks) kept₀ kept more first i
+    (first ≤ i) × (i ≤ first + routineSpan) × Passed (keepsAt keys m lines k marks) kept₀ kept more first i
 
 abbrev μ-loop : tie.MeasureT-loop
-μ-loop keys m part lines k marks kept₀ f first more₀ i₀ kept more i = first + 1024 - i
+μ-loop keys m part lines k marks kept₀ f first more₀ i₀ kept more i = first + routineSpan - i
 
 loop-holds : tie.Need-loop-holds Inv-loop μ-loop
 loop-holds c = (omega arith, omega arith, pass-none _ _ _)
@@ -24,7 +26,7 @@ keep-at-requires c κs =
     let p = c .before .before in
     let s = p .before .before .before .before .before .before in
     let z = s .pre in
-    let e : p .loop .i / 1024 ≡ s .args .f = omega arith in
+    let e = in-routine (s .args .f) (p .loop .i) (omega arith) (omega arith) in
     ((z .0 .0, z .0 .1, omega arith), (rw e (z .1 .0), (z .1 .1 .0, p .loop .inv .2 .len ∙ z .1 .1 .1)))
 
 loop-again : tie.Need-loop-again Inv-loop μ-loop
@@ -42,7 +44,7 @@ returns : tie.Need-returns Inv-loop μ-loop
 returns c =
     let p = c .before .loop in
     let s = c .before .before .before .before .before .before .before in
-    let e : s .args .f * 1024 + 1024 ≡ p .i = omega arith in
+    let e : s .args .f * routineSpan + routineSpan ≡ p .i = omega arith in
     rw e (p .inv .2)
 
 pub keep-numbers-spec : {M : Type 1} → statement M

@@ -4,16 +4,18 @@ use Prim.Native.Nat.{_≤_, _+_, _-_, _*_}
 use native.Mathlib.Omega.{arith}
 use Rattle.prune.specs.Parts.{keepsAt, Passed}
 use Rattle.prune.proofs.Passes.{pass-none, pass-on}
+use Rattle.program.specs.Sizes.{maxRoutines, marksSize}
+use Rattle.reach.specs.Sizes.{routineSpan}
 use borrow.Author.Needs.{needs}
 use Rattle.prune.proofs.keep_pass.Statement.{statement}
 use Rattle.prune.proofs.keep_pass.Tie as tie
 
 abbrev Inv-loop : tie.InvT-loop
 Inv-loop keys m lines k marks kept₀ more₀ f₀ kept more f =
-    (f ≤ 16) × Passed (keepsAt keys m lines k marks) kept₀ kept more 0 (f * 1024)
+    (f ≤ maxRoutines) × Passed (keepsAt keys m lines k marks) kept₀ kept more 0 (f * routineSpan)
 
 abbrev μ-loop : tie.MeasureT-loop
-μ-loop keys m lines k marks kept₀ more₀ f₀ kept more f = 16 - f
+μ-loop keys m lines k marks kept₀ more₀ f₀ kept more f = maxRoutines - f
 
 loop-holds : tie.Need-loop-holds Inv-loop μ-loop
 loop-holds c = (omega arith, pass-none _ _ 0)
@@ -27,7 +29,7 @@ keep-routine-requires c κs =
 loop-again : tie.Need-loop-again Inv-loop μ-loop
 loop-again c =
     let p = c .before .before .before .before .before in
-    let e : (p .loop .f + 1) * 1024 ≡ p .loop .f * 1024 + 1024 = omega arith in
+    let e : (p .loop .f + 1) * routineSpan ≡ p .loop .f * routineSpan + routineSpan = omega arith in
     (omega arith, rw e (pass-on _ _ (p .loop .inv .1) (c .before .before .keep-routine .ensures)))
 
 same-length : tie.Need-same-length Inv-loop μ-loop
@@ -36,11 +38,11 @@ same-length c = c .before .loop .inv .1 .len
 returns : tie.Need-returns Inv-loop μ-loop
 returns c =
     let p = c .before .loop in
-    let e : 16384 ≡ p .f * 1024 = omega arith in
+    let e : marksSize ≡ p .f * routineSpan = omega arith in
     rw e (p .inv .1)
 
 pub keep-pass-spec : {M : Type 1} → statement M
 keep-pass-spec =
     tie.close
-    (tie.spec Inv-loop μ-loop loop-holds keep-routine-requires (λ c. search needs) (λ c. search needs) loop-again
+    (tie.spec Inv-loop μ-loop loop-holds (λ c. search needs) keep-routine-requires (λ c. search needs) (λ c. search needs) loop-again
     same-length returns)

@@ -7,16 +7,18 @@ use Rattle.automaton.specs.Flags.{Starts}
 use Rattle.program.specs.Program.{Program}
 use Rattle.prune.specs.Parts.{Sound, Started}
 use Rattle.prune.proofs.Closed.{start-none, start-turn}
+use Rattle.automaton.specs.Sizes.{maxStates}
+use Rattle.program.specs.Sizes.{marksSize}
 use borrow.Author.Needs.{needs}
 use Rattle.prune.proofs.keep_starts.Statement.{statement}
 use Rattle.prune.proofs.keep_starts.Tie as tie
 
 abbrev Inv-loop : tie.InvT-loop
 Inv-loop initial marks kept₀ q₀ kept q =
-    (q ≤ 8) × (length kept ≡ 16384) × ((p : Program) → Starts (p .automaton) initial → Sound p marks kept₀ → Started p marks kept q)
+    (q ≤ maxStates) × (length kept ≡ marksSize) × ((p : Program) → Starts (p .automaton) initial → Sound p marks kept₀ → Started p marks kept q)
 
 abbrev μ-loop : tie.MeasureT-loop
-μ-loop initial marks kept₀ q₀ kept q = 8 - q
+μ-loop initial marks kept₀ q₀ kept q = maxStates - q
 
 loop-holds : tie.Need-loop-holds Inv-loop μ-loop
 loop-holds c = (omega arith, c .before .before .pre .1, λ p e s. start-none s)
@@ -33,7 +35,7 @@ loop-again c =
     let p = a .before .before .before in (
       omega arith,
       w .kept .1 .1 .0 ∙ p .loop .inv .1,
-      λ q e s. start-turn _ (p .loop .inv .2 q e s) (omega arith) (e .starts (p .loop .q) (omega arith)) (a .before .number-of .ensures .0) (w .ensures),
+      λ q e s. start-turn _ (p .loop .inv .2 q e s) (omega arith) (e .starts (p .loop .q) (omega arith)) (a .before .entry-of .ensures .0) (w .ensures),
     )
 
 same-length : tie.Need-same-length Inv-loop μ-loop
@@ -42,11 +44,11 @@ same-length c = c .before .loop .inv .1 ∙ sym (c .before .before .before .befo
 returns : tie.Need-returns Inv-loop μ-loop
 returns c p e s =
     let l = c .before .loop in
-    let z : 8 ≡ l .q = omega arith in
+    let z : maxStates ≡ l .q = omega arith in
     rw z (l .inv .2 p e s)
 
 pub keep-starts-spec : {M : Type 1} → statement M
 keep-starts-spec =
     tie.close
-    (tie.spec Inv-loop μ-loop loop-holds (λ c κs. search needs) (λ c. search needs) (λ c. search needs)
+    (tie.spec Inv-loop μ-loop loop-holds (λ c. search needs) (λ c κs. search needs) (λ c. search needs) (λ c. search needs)
     keep-when-requires (λ c. search needs) (λ c. search needs) loop-again same-length returns)

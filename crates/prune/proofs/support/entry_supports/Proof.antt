@@ -15,6 +15,4 @@ returns-2 c = rw (c .if1 .left) refl
 
 pub entry-supports-spec : {M : Type 1} → statement M
 entry-supports-spec =
-    tie.close
-    (tie.spec (λ c. search needs) (λ c. search needs) (λ c. search needs) (λ c. search needs) (λ c κs. search needs)
-    (λ c κs. search needs) returns returns-2)
+    tie.close (tie.spec (λ c. search needs) (λ c κs. search needs) (λ c κs. search needs) returns returns-2)

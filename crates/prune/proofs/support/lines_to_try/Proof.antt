@@ -1,7 +1,6 @@
 -- `prune::support::lines_to_try` meets its contract.
 use mathlib.Core.Path.{refl}
 use native.Mathlib.Omega.{arith}
-use borrow.Author.Tests.{lt-ltb, le-ltb}
 use Rattle.prune.specs.Parts.{linesToTry}
 use borrow.Author.Needs.{needs}
 use Rattle.prune.proofs.support.lines_to_try.Statement.{statement}
@@ -9,16 +8,15 @@ use Rattle.prune.proofs.support.lines_to_try.Tie as tie
 
 returns : tie.Need-returns
 unfolding linesToTry
-returns c = (rw (c .before .if1 .taken, lt-ltb _ _ (c .if2 .taken)) refl, omega arith)
+returns c = let asked = c .before in (rw (asked .before .if1 .taken, ← (asked .is-call .ensures), c .if2 .taken) refl, omega arith)
 
 returns-2 : tie.Need-returns-2
 unfolding linesToTry
-returns-2 c = (rw (c .before .if1 .taken, le-ltb _ _ (c .if2 .left)) refl, omega arith)
+returns-2 c = let asked = c .before in (rw (asked .before .if1 .taken, ← (asked .is-call .ensures), c .if2 .left) refl, omega arith)
 
 returns-3 : tie.Need-returns-3
 unfolding linesToTry
 returns-3 c = (rw (c .if1 .left) refl, omega arith)
 
 pub lines-to-try-spec : {M : Type 1} → statement M
-lines-to-try-spec =
-    tie.close (tie.spec (λ c. search needs) (λ c. search needs) (λ c. search needs) returns returns-2 returns-3)
+lines-to-try-spec = tie.close (tie.spec (λ c κs. search needs) returns returns-2 returns-3)

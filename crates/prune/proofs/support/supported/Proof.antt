@@ -1,10 +1,13 @@
 -- `prune::support::supported` meets its contract. The outer loop's invariant: the edges from `i` on decide; the inner loop's: the
 -- transitions from `j` on decide for the edge.
-use mathlib.Core.Path.{_≡_, refl, sym, _∙_}
+use mathlib.Core.Path.{_≡_, refl, sym, ap, _∙_}
 use mathlib.Core.Bool.{false}
-use Prim.Native.Nat.{_≤_, _-_}
+use Prim.Native.Nat.{ℕ, _<_, _≤_, _-_}
 use native.Mathlib.Omega.{arith}
+use lib.ListN.{length}
 use Rattle.automaton.proofs.Entries.{Left, found, passed, none-left}
+use Rattle.program.specs.Program.{Edge}
+use Rattle.program.specs.Decoded.{edgeOf}
 use Rattle.prune.specs.Parts.{anyKey, lineSupports, edgeSupports, supports}
 use Rattle.prune.proofs.Asked.{asks-key}
 use Rattle.prune.proofs.Scanned.{edge-calls, edge-is}
@@ -13,18 +16,18 @@ use Rattle.prune.proofs.support.supported.Statement.{statement}
 use Rattle.prune.proofs.support.supported.Tie as tie
 
 abbrev Inv-loop : tie.InvT-loop
-Inv-loop keys m lines k kept f n r q found₀ i key end base action j₀ found j =
-    (j ≤ end) × (found ≡ false) × Left (anyKey (lineSupports kept base action q)) lines end j
+Inv-loop keys m lines k kept c found₀ i e end base j₀ found j =
+    (j ≤ end) × (found ≡ false) × Left (anyKey (lineSupports kept base (e .label) (c .state))) lines end j
 
 abbrev μ-loop : tie.MeasureT-loop
-μ-loop keys m lines k kept f n r q found₀ i key end base action j₀ found j = end - j
+μ-loop keys m lines k kept c found₀ i e end base j₀ found j = end - j
 
 abbrev Inv-scan : tie.InvT-scan
-Inv-scan keys m lines k kept f n r q found₀ i₀ found i =
-    (i ≤ m) × (found ≡ false) × Left (anyKey (edgeSupports kept lines k f n r q)) keys m i
+Inv-scan keys m lines k kept c found₀ i₀ found i =
+    (i ≤ m) × (found ≡ false) × Left (anyKey (λ key. edgeSupports kept lines k (c .routine) (c .node) (c .root) (c .state) (edgeOf key))) keys m i
 
 abbrev μ-scan : tie.MeasureT-scan
-μ-scan keys m lines k kept f n r q found₀ i₀ found i = m - i
+μ-scan keys m lines k kept c found₀ i₀ found i = m - i
 
 scan-holds : tie.Need-scan-holds Inv-loop μ-loop Inv-scan μ-scan
 scan-holds c = (search needs, refl, record { decide = refl })
@@ -36,21 +39,45 @@ shared-slice-read-line-supports :
     tie.Need-shared-slice-read-line-supports Inv-loop μ-loop Inv-scan μ-scan
 shared-slice-read-line-supports c = search needs
 
+-- the start, at a head of the inner loop
+abbrev start-of : tie.At-loop Inv-loop μ-loop Inv-scan μ-scan → tie.Start Inv-loop μ-loop Inv-scan μ-scan
+start-of p =
+    let scan = p .before .before .before .before .before .before .before .before in
+    scan .before .before .before .before
+
+-- an edge that is to be tried is in the table, and so is a transition
+edge-room : (start : tie.Start Inv-loop μ-loop Inv-scan μ-scan) {i : ℕ} → i < start .args .m → i < length (start .args .keys .now)
+edge-room start h = omega (arith, h, start .pre)
+
+line-room : (start : tie.Start Inv-loop μ-loop Inv-scan μ-scan) {j end : ℕ} → end ≤ start .args .k → j < end → j < length (start .args .lines .now)
+line-room start few h = omega (arith, few, h, start .pre)
+
 loop-again : tie.Need-loop-again Inv-loop μ-loop Inv-scan μ-scan
 loop-again c =
     let p = c .before .before .before .before in
-    (omega arith, p .loop .inv .1, passed (asks-key _) (p .loop .inv .2) (omega arith) (omega arith) (sym (c .before .line-supports .ensures) ∙ c .if2 .left))
+    let few = p .before .before .lines-to-try .ensures .1 in
+    let start = start-of p in
+    let more = c .before .before .before .loop-test .taken in
+    (omega (arith, more), p .loop .inv .1, passed (asks-key _) (p .loop .inv .2) more (line-room start few more) (sym (c .before .line-supports .ensures) ∙ c .if2 .left))
+
+-- what the edge supports, said of its key
+by-key : {A : Type 0} (P : Edge → A) {e d : Edge} {x : A} → e ≡ d → P e ≡ x → P d ≡ x
+by-key P e h = sym (ap P e) ∙ h
 
 scan-again : tie.Need-scan-again Inv-loop μ-loop Inv-scan μ-scan
 scan-again c =
     let p = c .before in
-    let e = p .before .before .before in
-    let z = e .before .before .before .before .scan .inv in (
-      omega arith,
+    let no-call = p .before .before .before in
+    let asked = no-call .before in
+    let key = asked .before in
+    let more = key .before .before .scan-test .taken in
+    let scan = key .before .before .before .scan .inv in (
+      omega (arith, more),
       p .loop .inv .1,
-      passed (asks-key _) (z .2) (omega arith) (omega arith)
-          (sym (edge-is _ _ _ _ _ _ _ _ (sym (e .before .call-supports .ensures) ∙ e .if1 .left) (p .before .before .lines-to-try .ensures .0) (p .before .number-of .ensures .0))
-          ∙ sym (none-left (asks-key _) (p .loop .inv .2) (omega arith))),
+      passed (asks-key _) (scan .2) more (edge-room (start-of p) more)
+          (by-key (edgeSupports _ _ _ _ _ _ _) (key .edge .ensures)
+          (sym (edge-is _ _ _ _ _ _ _ _ (sym (asked .call-supports .ensures) ∙ no-call .if1 .left) (p .before .before .lines-to-try .ensures .0) (p .before .number-of .ensures .0))
+          ∙ sym (none-left (asks-key _) (p .loop .inv .2) (omega arith)))),
     )
 
 returns : tie.Need-returns Inv-loop μ-loop Inv-scan μ-scan
@@ -60,23 +87,28 @@ returns c = c .before .scan .inv .1 ∙ none-left (asks-key _) (c .before .scan 
 returns-2 : tie.Need-returns-2 Inv-loop μ-loop Inv-scan μ-scan
 unfolding supports
 returns-2 c =
-    let z = c .before .before .before .before in
-    found (asks-key _) (z .scan .inv .2) (omega arith) (omega arith) (edge-calls _ _ _ _ _ _ _ _ (sym (c .before .call-supports .ensures) ∙ c .if1 .taken))
+    let key = c .before .before in
+    found (asks-key _) (key .before .before .before .scan .inv .2) (omega arith) (omega arith)
+    (by-key (edgeSupports _ _ _ _ _ _ _) (key .edge .ensures) (edge-calls _ _ _ _ _ _ _ _ (sym (c .before .call-supports .ensures) ∙ c .if1 .taken)))
 
 returns-3 : tie.Need-returns-3 Inv-loop μ-loop Inv-scan μ-scan
 unfolding supports
 returns-3 c =
     let p = c .before .before .before .before in
-    let e = p .before .before .before in
-    let z = e .before .before .before .before in
-    found (asks-key _) (z .scan .inv .2) (omega arith) (omega arith)
-    (sym (edge-is _ _ _ _ _ _ _ _ (sym (e .before .call-supports .ensures) ∙ e .if1 .left) (p .before .before .lines-to-try .ensures .0) (p .before .number-of .ensures .0))
-    ∙ sym (found (asks-key _) (p .loop .inv .2) (omega arith) (omega arith) (sym (c .before .line-supports .ensures) ∙ c .if2 .taken)))
+    let no-call = p .before .before .before in
+    let asked = no-call .before in
+    let key = asked .before in
+    let more = key .before .before .scan-test .taken in
+    let line = c .before .before .before .loop-test .taken in
+    found (asks-key _) (key .before .before .before .scan .inv .2) more (edge-room (start-of p) more)
+    (by-key (edgeSupports _ _ _ _ _ _ _) (key .edge .ensures)
+    (sym (edge-is _ _ _ _ _ _ _ _ (sym (asked .call-supports .ensures) ∙ no-call .if1 .left) (p .before .before .lines-to-try .ensures .0) (p .before .number-of .ensures .0))
+    ∙ sym (found (asks-key _) (p .loop .inv .2) line (line-room (start-of p) (p .before .before .lines-to-try .ensures .1) line) (sym (c .before .line-supports .ensures) ∙ c .if2 .taken))))
 
 pub supported-spec : {M : Type 1} → statement M
 supported-spec =
     tie.close
     (tie.spec Inv-loop μ-loop Inv-scan μ-scan scan-holds (λ c. search needs) (λ c. search needs)
-    (λ c κs. search needs) (λ c κs. search needs) (λ c. search needs) (λ c κs. search needs) (λ c. search needs)
-    loop-holds (λ c. search needs) shared-slice-read-line-supports (λ c κs. search needs) (λ c. search needs)
+    (λ c κs. search needs) (λ c κs. search needs) (λ c κs. search needs) (λ c κs. search needs) loop-holds
+    (λ c. search needs) shared-slice-read-line-supports (λ c κs. search needs) (λ c. search needs)
     (λ c. search needs) loop-again (λ c. search needs) (λ c. search needs) scan-again returns returns-2 returns-3)
