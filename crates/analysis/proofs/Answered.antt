@@ -12,7 +12,7 @@ use Rattle.program.specs.WellFormed.{WellFormed}
 use Rattle.program.specs.Reading.{Outcome, readFile}
 use Rattle.program.specs.declared.Verdict.{Verdict}
 use Rattle.program.specs.declared.Verdict.the-variants.{Accepted, Refused}
-use Rattle.program.proofs.Judged.{both}
+use Rattle.base.proofs.Bools.{both}
 use Rattle.program.proofs.Theorems.{accepted-well-formed}
 use Rattle.reach.specs.Configurations.{none-set}
 use Rattle.reach.specs.Marks.{freshMarks, violations, violationsFrom, firstFrom}

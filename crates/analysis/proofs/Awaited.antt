@@ -19,7 +19,7 @@ use Rattle.reach.specs.Configurations.{nodeOf, none-set}
 use Rattle.reach.specs.Reachable.{Derivable, Any}
 use Rattle.reach.specs.Worklist.{Worklist}
 use Rattle.reach.specs.Marks.{Marked, Shows, Between, ClosedBut}
-use Rattle.reach.proofs.Flags.{on-lt, zeros}
+use Rattle.base.proofs.SetFlags.{on-lt, zeros}
 use Rattle.reach.proofs.Awaiting.{Awaits, awaits-ends, awaits-shows, awaits-clear}
 use Rattle.analysis.specs.Parts.{worklist, NoneBelow, Filled, firstPending, Learnt, followed, Ends}
 use Rattle.analysis.specs.Slice.{Followable}

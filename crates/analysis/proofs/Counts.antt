@@ -10,7 +10,8 @@ use lib.ListN.{length, drop, getD, drop-of-length-le}
 use lib.Seq.{drop-cons}
 use borrow.Author.Tests.{le-leb, lt-leb, lt-ltb, le-ltb}
 use Rattle.program.specs.Program.{Program}
-use Rattle.reach.specs.Marks.{countSet, violates, frontWhen, violationsFrom, firstFrom}
+use Rattle.reach.specs.Marks.{violates, frontWhen, violationsFrom, firstFrom}
+use Rattle.base.specs.Flags.{countSet}
 use Rattle.analysis.specs.Parts.{within}
 
 -- f counts the bytes that meet a test, of a list whose first byte has number i

@@ -7,7 +7,7 @@ use lib.ListN.{getD}
 use Rattle.reach.specs.Configurations.{number}
 use Rattle.reach.specs.Worklist.{summary}
 use Rattle.reach.proofs.Numbers.{summary-fits}
-use Rattle.reach.proofs.Flags.{On}
+use Rattle.base.specs.Flags.{On}
 use Rattle.analysis.specs.Parts.{exitAt, Learnt}
 use Rattle.analysis.proofs.Filling.{filled-bits}
 

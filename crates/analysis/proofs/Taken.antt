@@ -12,7 +12,7 @@ use borrow.Author.Tests.{ltb-true, leb-true, eq-eqb, ne-eqb}
 use Rattle.program.specs.Program.{Program, Edge, edgeFits, labelFits, placed, countsFit}
 use Rattle.program.specs.WellFormed.{All, WellFormed}
 use Rattle.program.specs.Decoded.{edgeOf}
-use Rattle.program.proofs.Judged.{both}
+use Rattle.base.proofs.Bools.{both}
 use Rattle.program.proofs.Sections.{all-at}
 use Rattle.program.proofs.Limit.{Limits, well-formed-limits}
 use Rattle.reach.specs.Configurations.{routineOf, nodeOf, rootOf, stateOf}

@@ -12,7 +12,8 @@ use Rattle.program.specs.declared.Verdict.{Verdict}
 use Rattle.program.specs.declared.Verdict.the-variants as verdict
 use Rattle.reach.specs.Configurations.{none-set}
 use Rattle.reach.specs.Worklist.{analysis}
-use Rattle.reach.specs.Marks.{freshMarks, countSet, violations, firstFrom}
+use Rattle.reach.specs.Marks.{freshMarks, violations, firstFrom}
+use Rattle.base.specs.Flags.{countSet}
 use Rattle.analysis.specs.declared.AnalyzeAnswer.{AnalyzeAnswer}
 use Rattle.analysis.specs.declared.AnalyzeAnswer.the-variants as analyzed
 use Rattle.analysis.specs.declared.NextAnswer.{NextAnswer}

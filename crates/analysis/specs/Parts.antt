@@ -7,7 +7,8 @@ use mathlib.Core.List.{List, map}
 use lib.Dec.{eqb, ltb, leb}
 use lib.ListN.{length, getD, take}
 use Rattle.reach.specs.Sizes.{enoughIterations, summariesSize}
-use Rattle.automaton.specs.Flags.{isSet, Answers}
+use Rattle.automaton.specs.Flags.{Answers}
+use Rattle.base.specs.Flags.{isSet}
 use Rattle.program.specs.Program.{Program}
 use Rattle.program.specs.WellFormed.{WellFormed}
 use Rattle.program.specs.Decoded.{edgeOf}

@@ -1,11 +1,14 @@
 // Passes over bytes, each of which is a flag: clearing, counting, and the search for a violation.
+use reach::configuration::state_of;
 ghost use mathlib.Core.Path.{_≡_};
 ghost use Prim.Native.Nat.{ℕ, _<_};
 ghost use lib.ListN.{length, getD, replicate};
+ghost use Rattle.automaton.specs.Sizes.{maxStates};
 ghost use Rattle.program.specs.Sizes.{marksSize};
 ghost use Rattle.automaton.specs.Flags.{Rejects};
 ghost use Rattle.program.specs.Program.{Program};
-ghost use Rattle.reach.specs.Marks.{countSet, violates, violationsFrom, firstFrom};
+ghost use Rattle.reach.specs.Marks.{violates, violationsFrom, firstFrom};
+ghost use Rattle.base.specs.Flags.{countSet};
 ghost use Rattle.analysis.specs.Parts.{within};
 
 pub fn clear(bytes: &mut [u8])
@@ -34,15 +37,15 @@ pub fn count_marks(marks: &[u8]) -> usize
 
 // Whether the configuration of number i is marked and its present state is rejecting.
 fn is_violation(marks: &[u8], rejecting: &[u8], i: usize) -> bool
-    requires { ⌜ (i < length (now marks)) × (length (now rejecting) ≡ 8) ⌝ }
+    requires { ⌜ (i < length (now marks)) × (length (now rejecting) ≡ maxStates) ⌝ }
     ensures { λ y. ⌜ ((p : Program) → Rejects (p .automaton) (now (rejecting .entry)) → y ≡ violates p (getD (now (marks .entry)) i 0) i) ⌝ }
 {
-    (marks[i] != 0) & (rejecting[i % 8] != 0)
+    (marks[i] != 0) & (rejecting[state_of(i)] != 0)
 }
 
 // The flags have the size of `StateFlags`: hence the `requires`.
 pub fn count_violations(marks: &[u8], rejecting: &[u8]) -> usize
-    requires { ⌜ length (now rejecting) ≡ 8 ⌝ }
+    requires { ⌜ length (now rejecting) ≡ maxStates ⌝ }
     ensures { λ r. ⌜ ((p : Program) → Rejects (p .automaton) (now (rejecting .entry)) → r ≡ length (violationsFrom p (now (marks .entry)) 0)) ⌝ }
 {
     let mut n: usize = 0;
@@ -59,7 +62,7 @@ pub fn count_violations(marks: &[u8], rejecting: &[u8]) -> usize
 // The first violation that is not below `from`; a number past the marks where there is none. The caller has measured the
 // marks (refusal 9), and the flags have the size of `StateFlags`: hence the `requires`.
 pub fn first_violation(marks: &[u8], rejecting: &[u8], from: usize) -> usize
-    requires { ⌜ (length (now marks) ≡ marksSize) × (length (now rejecting) ≡ 8) ⌝ }
+    requires { ⌜ (length (now marks) ≡ marksSize) × (length (now rejecting) ≡ maxStates) ⌝ }
     ensures { λ r. ⌜ ((p : Program) → Rejects (p .automaton) (now (rejecting .entry)) → firstFrom from (violationsFrom p (now (marks .entry)) 0) ≡ within marksSize r) ⌝ }
 {
     let mut i = from;

@@ -1,17 +1,12 @@
 -- What is asked of the automaton, as tables of flags: the answers are looked up instead of sought.
 use Prim.Native.Nat.{ℕ, _+_, _*_, _<_}
 use mathlib.Core.Path.{_≡_}
-use mathlib.Core.Bool.{Bool, not}
 use mathlib.Core.List.{List}
 use lib.Dec.{eqb}
-use lib.ListN.{getD}
+use Rattle.base.specs.Flags.{isSet}
 use Rattle.automaton.specs.Automaton.{Automaton, goes, moves, member, isInitial, isRejecting}
 use Rattle.automaton.specs.Decoded.{transitionOf}
 use Rattle.automaton.specs.declared.Event.the-variants.{Action}
-
--- a byte other than 0 says yes; past the end there is no flag
-abbrev pub isSet : List ℕ → ℕ → Bool
-isSet flags at = not (eqb (getD flags at 0) 0)
 
 -- the place of the answer to: may the automaton go from q to s on a?
 abbrev pub nextPlace : ℕ → ℕ → ℕ → ℕ

@@ -2,23 +2,14 @@
 // question.
 use crate::DecodedAutomaton;
 use crate::States;
+use base::flags::set_flag;
 ghost use mathlib.Core.Path.{_≡_};
-ghost use lib.ListN.{set};
 ghost use Rattle.automaton.specs.Decoded.{statesOf, automatonOf};
 ghost use Rattle.automaton.specs.Flags.{Lists, Starts, Rejects};
 
 // A flag for each of the 8 states.
 pub struct StateFlags {
     pub flags: [u8; 8],
-}
-
-// A place past the end is no flag's, and sets none.
-pub fn set_flag(flags: &mut [u8], at: usize)
-    ensures { λ r. ⌜ now (flags .exit) ≡ set (now (flags .entry)) at 1 ⌝ }
-{
-    if at < flags.len() {
-        flags[at] = 1;
-    }
 }
 
 fn flags_of(states: States) -> StateFlags

@@ -1,8 +1,8 @@
 // The automaton's transitions as a table: may it go from one state to another on an action?
 use crate::DecodedAutomaton;
-use crate::flags::set_flag;
 use crate::sizes::NEXT_STATES_SIZE;
 use crate::transition;
+use base::flags::set_flag;
 ghost use Rattle.automaton.specs.Decoded.{automatonOf};
 ghost use Rattle.automaton.specs.Flags.{Answers, Placed};
 

@@ -10,11 +10,11 @@ use native.Mathlib.Decide.{ℕ-discrete}
 use lib.Dec.{eqb}
 use lib.ListN.{getD}
 use borrow.Author.Tests.{eqb-true, eqb-false, eq-eqb, ne-eqb, not-true}
-use Rattle.automaton.specs.Flags.{isSet}
+use Rattle.base.specs.Flags.{isSet}
 use Rattle.program.specs.Program.{Program}
 use Rattle.program.specs.WellFormed.{WellFormed}
-use Rattle.program.proofs.Judged.{both}
-use Rattle.reach.proofs.Flags.{dec-on}
+use Rattle.base.proofs.Bools.{both}
+use Rattle.base.proofs.SetFlags.{dec-on}
 use Rattle.reach.proofs.Sizes.{sizes}
 use Rattle.analysis.specs.Parts.{Filled}
 use Rattle.components.specs.Components.{CallEdge, Leads, directly, through, Together}

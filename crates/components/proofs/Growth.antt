@@ -11,10 +11,9 @@ use native.Mathlib.Numerals.{add-one}
 use lib.Dec.{eqb, ltb}
 use lib.ListN.{length, getD, set, length-set}
 use borrow.Author.Tests.{ltb-true, ltb-false, not-true}
-use Rattle.automaton.specs.Flags.{isSet}
-use Rattle.program.proofs.Judged.{both}
-use Rattle.reach.specs.Marks.{countSet}
-use Rattle.reach.proofs.Flags.{On, eqb-on, on-eqb, set-on, on-set, set-inv}
+use Rattle.base.specs.Flags.{isSet, countSet, On}
+use Rattle.base.proofs.Bools.{both}
+use Rattle.base.proofs.SetFlags.{eqb-on, on-eqb, set-on, on-set, set-inv}
 use Rattle.reach.proofs.Shown.{count-small}
 use Rattle.components.specs.Graphs.{inTurn, copyWhen}
 

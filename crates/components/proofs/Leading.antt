@@ -7,7 +7,7 @@ use mathlib.Core.List.{List}
 use native.Mathlib.Omega.{arith}
 use lib.ListN.{getD, set}
 use Rattle.program.specs.Program.{Program}
-use Rattle.reach.proofs.Flags.{On}
+use Rattle.base.specs.Flags.{On}
 use Rattle.reach.proofs.Sizes.{sizes}
 use Rattle.components.specs.Components.{CallEdge, Leads, directly, through}
 use Rattle.components.specs.Parts.{Flagged}

@@ -11,15 +11,15 @@ use lib.Seq.{getD-take, length-take-le}
 use borrow.Author.Tests.{eqb-false, ne-eqb, ltb-true, lt-ltb, not-true}
 use Rattle.automaton.specs.Automaton.{moves}
 use Rattle.automaton.specs.declared.Event.the-variants.{Call}
-use Rattle.automaton.specs.Flags.{isSet}
+use Rattle.base.specs.Flags.{isSet, On}
 use Rattle.program.specs.Program.{Program}
 use Rattle.program.specs.Decoded.{programOf}
 use Rattle.program.specs.declared.DecodedProgram.{DecodedProgram}
-use Rattle.program.proofs.Judged.{both}
+use Rattle.base.proofs.Bools.{both}
 use Rattle.reach.specs.Configurations.{InRange, number}
 use Rattle.reach.specs.Runs.{Moves}
 use Rattle.reach.specs.Marks.{Marked, Shows}
-use Rattle.reach.proofs.Flags.{On, none-on}
+use Rattle.base.proofs.SetFlags.{none-on}
 use Rattle.reach.proofs.Numbers.{number-fits, summary-state}
 use Rattle.reach.proofs.Sizes.{sizes, call-stays, may-call}
 use Rattle.analysis.specs.Parts.{Filled, Learnt}

@@ -16,11 +16,12 @@ use Rattle.program.specs.WellFormed.{WellFormed}
 use Rattle.program.specs.Decoded.{edgeOf}
 use Rattle.reach.specs.Configurations.{Set, InRange, number}
 use Rattle.reach.specs.Reachable.{Derivable, seeded, by-action, by-call, by-return, Any}
-use Rattle.reach.specs.Marks.{Marked, Shows, Between, countSet}
+use Rattle.reach.specs.Marks.{Marked, Shows, Between}
+use Rattle.base.specs.Flags.{countSet}
 use Rattle.reach.proofs.Laws.{Sub, Within, grows, flat}
 use Rattle.reach.proofs.Numbers.{number-of, parts-in-range}
 use Rattle.reach.proofs.Sizes.{sizes, Proper, derivable-state, derivable-in-range}
-use Rattle.reach.proofs.Flags.{on-lt}
+use Rattle.base.proofs.SetFlags.{on-lt}
 use Rattle.reach.proofs.Shown.{one-of, shows-marked, count-small}
 use Rattle.analysis.specs.Slice.{Followable}
 use Rattle.components.specs.Passes.{onlyOf, edgesOf}

@@ -13,7 +13,7 @@ use Rattle.reach.specs.Configurations.{InRange, number}
 use Rattle.reach.specs.Reachable.{Initial, initial, Reachable}
 use Rattle.reach.specs.Marks.{Marked}
 use Rattle.reach.proofs.Sizes.{reachable-in-range}
-use Rattle.reach.proofs.Flags.{on-lt}
+use Rattle.base.proofs.SetFlags.{on-lt}
 use Rattle.components.specs.Components.{CallEdge, Together, Anew, Reopened}
 use Rattle.components.specs.Parts.{Member}
 use Rattle.components.specs.Turns.{DropOf, Ranks, turnOf, Working, Joined}

@@ -10,7 +10,7 @@ use Rattle.program.specs.Program.{Program}
 use Rattle.reach.specs.Configurations.{none-set}
 use Rattle.reach.specs.Reachable.{Reachable}
 use Rattle.reach.specs.Marks.{Marked, Shows, freshMarks}
-use Rattle.reach.proofs.Flags.{zeros}
+use Rattle.base.proofs.SetFlags.{zeros}
 use Rattle.reach.proofs.Kept.{marks-length}
 use Rattle.reach.proofs.Exact.{analysis-exact}
 use Rattle.analysis.specs.Parts.{Learnt}

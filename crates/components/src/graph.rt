@@ -1,17 +1,17 @@
 // The call graph: which routine leads to which by calls, its components, and their order.
 use crate::routines::Routines;
 use analysis::count::count_marks;
-use automaton::flags::set_flag;
 use automaton::in_use;
+use base::flags::is_set;
+use base::flags::set_flag;
 use program::DecodedProgram;
 ghost use mathlib.Core.Path.{_≡_};
 ghost use Prim.Native.Nat.{_<_, _≤_};
 ghost use lib.Dec.{ltb};
 ghost use lib.ListN.{length};
-ghost use Rattle.automaton.specs.Flags.{isSet};
+ghost use Rattle.base.specs.Flags.{isSet, countSet};
 ghost use Rattle.program.specs.WellFormed.{WellFormed};
 ghost use Rattle.program.specs.Decoded.{programOf};
-ghost use Rattle.reach.specs.Marks.{countSet};
 ghost use Rattle.analysis.specs.Parts.{Filled};
 ghost use Rattle.components.specs.Components.{Leads};
 ghost use Rattle.components.specs.Parts.{Flagged};
@@ -20,16 +20,6 @@ ghost use Rattle.components.specs.Graphs.{inTurn, copyWhen, copyLead, le
 // leads[f * 16 + g]: f leads to g by one call or more.
 pub struct Graph {
     pub leads: [u8; 256],
-}
-
-// A place past the end is no flag's.
-pub fn is_set(flags: &[u8], at: usize) -> bool
-    ensures { λ r. ⌜ r ≡ isSet (now (flags .entry)) at ⌝ }
-{
-    if at < flags.len() {
-        return flags[at] != 0;
-    }
-    false
 }
 
 // Where a test is passed and one flag is set, the other is set too.

@@ -1,10 +1,10 @@
 // The roots that are on a sheet of marks, and the roots that occur.
 use crate::graph::copy_when;
-use crate::graph::is_set;
 use analysis::count::count_marks;
 use automaton::States;
-use automaton::flags::set_flag;
 use automaton::in_use;
+use base::flags::is_set;
+use base::flags::set_flag;
 use program::DecodedProgram;
 use program::sizes::MARKS_SIZE;
 ghost use mathlib.Core.Path.{_≡_};
@@ -15,7 +15,8 @@ ghost use lib.ListN.{length, getD};
 ghost use Rattle.program.specs.Sizes.{marksSize};
 ghost use Rattle.program.specs.WellFormed.{WellFormed};
 ghost use Rattle.program.specs.Decoded.{programOf};
-ghost use Rattle.reach.specs.Marks.{Marked, Shows, countSet};
+ghost use Rattle.reach.specs.Marks.{Marked, Shows};
+ghost use Rattle.base.specs.Flags.{countSet};
 ghost use Rattle.components.specs.Passes.{Live};
 ghost use Rattle.components.specs.Parts.{Flagged};
 ghost use Rattle.components.specs.Graphs.{inTurn, copyRoot, rootsByEdge, rootsByEdges, rootsOfMain, keptByte};

@@ -17,7 +17,8 @@ use Rattle.program.proofs.Theorems.{accepted-well-formed}
 use Rattle.reach.specs.Configurations.{InRange, number, stateOf}
 use Rattle.reach.specs.Runs.{Activation, Run, Occurs}
 use Rattle.reach.specs.Worklist.{analysis}
-use Rattle.reach.specs.Marks.{Shows, freshMarks, countSet, violations, firstFrom}
+use Rattle.reach.specs.Marks.{Shows, freshMarks, violations, firstFrom}
+use Rattle.base.specs.Flags.{countSet}
 use Rattle.reach.specs.Violations.{Violation, First, nowhere, at}
 use Rattle.reach.proofs.Numbers.{routine-of, node-of, root-of, state-of, number-fits}
 use Rattle.reach.proofs.Bound.{iterations-taken, most-times}

@@ -15,7 +15,8 @@ use Rattle.program.specs.Reading.{readFile}
 use Rattle.program.specs.Writing.{text}
 use Rattle.program.specs.declared.Verdict.{Verdict}
 use Rattle.program.specs.declared.Verdict.the-variants.{Accepted, Refused}
-use Rattle.reach.specs.Marks.{freshMarks, countSet, violationsFrom}
+use Rattle.reach.specs.Marks.{freshMarks, violationsFrom}
+use Rattle.base.specs.Flags.{countSet}
 use Rattle.report.specs.Report.{violationFrame, countFrame, blockOf, refusedFile, tooLong, editsText, fileText, fileSize, inputText, benchText}
 
 -- the digit 5 begins every block

@@ -15,7 +15,8 @@ use Rattle.reach.specs.Configurations.{InRange, number, routineOf, nodeOf, root
 use Rattle.reach.specs.Runs.{Activation, Run, Occurs}
 use Rattle.reach.specs.Worklist.{analysis}
 use Rattle.reach.specs.Takings.{takenIn, times}
-use Rattle.reach.specs.Marks.{countSet, violations}
+use Rattle.reach.specs.Marks.{violations}
+use Rattle.base.specs.Flags.{countSet}
 use Rattle.reach.specs.Violations.{Violation, Ascends}
 use Rattle.desk.specs.Entries.{Entry, Lent, Back, hasWork, noValues, programIn}
 use Rattle.demands.specs.Refusals.{Returned}

@@ -11,7 +11,7 @@ use Rattle.text.specs.Lines.{Bytes}
 use Rattle.program.specs.Program.{Edge, Program, edgeFits}
 use Rattle.program.specs.Frames.{edgeKey, edgeFrame}
 use Rattle.program.specs.WellFormed.{All, Ascending, WellFormed}
-use Rattle.program.proofs.Judged.{both}
+use Rattle.base.proofs.Bools.{both, and-false, neither, or-swap}
 use Rattle.program.proofs.Bytes.{edge-bytes}
 use Rattle.edit.specs.Edits.{oldEdge, newEdge}
 use Rattle.edit.specs.Editing.{sameEdge, hasEdge, without, inserted, withEdges, editRefusal, editedProgram}
@@ -51,14 +51,6 @@ same-key e d b c h =
 
 -- ---- members and lengths
 
-pub and-false : (a : Bool) → a && false ≡ false
-and-false true = refl
-and-false false = refl
-
-pub neither : (a b : Bool) → a || b ≡ false → (a ≡ false) × (b ≡ false)
-neither true b h = (h, absurd (let z : _≡_ {A = ℕ} 0 1 = cc in omega arith))
-neither false b h = (refl, h)
-
 -- two different edges are not both the same as a third
 apart : (d e x : Edge) → sameEdge e x ≡ false → sameEdge d x && sameEdge d e ≡ false
 apart d e x s = go (sameEdge d x) (sameEdge d e) refl refl
@@ -67,11 +59,6 @@ apart d e x s = go (sameEdge d x) (sameEdge d e) refl refl
     go true true h i = absurd (let y : e ≡ x = sym (same-equal d e i) ∙ same-equal d x h in let z : _≡_ {A = ℕ} 0 1 = cc (same-self x) in omega arith)
     go true false h i = refl
     go false b h i = refl
-
-or-swap : (a b c : Bool) → a || (b || c) ≡ b || (a || c)
-or-swap true true c = refl
-or-swap true false c = refl
-or-swap false b c = refl
 
 pub has-inserted : (d e : Edge) (es : List Edge) → hasEdge d (inserted e es) ≡ sameEdge d e || hasEdge d es
 unfolding hasEdge inserted

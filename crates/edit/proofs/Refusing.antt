@@ -25,7 +25,8 @@ use Rattle.edit.specs.declared.Edit.{Edit}
 use Rattle.edit.specs.declared.Edit.the-variants.{Add, Drop, Replace}
 use Rattle.edit.specs.declared.EditRead.{EditRead}
 use Rattle.edit.specs.declared.EditRead.the-variants.{Read, Refused}
-use Rattle.edit.proofs.Kept.{neither, and-false, has-without, length-dropped, added, replaced}
+use Rattle.edit.proofs.Kept.{has-without, length-dropped, added, replaced}
+use Rattle.base.proofs.Bools.{neither, and-false}
 
 -- ---- what was read is in range
 

@@ -14,7 +14,8 @@ use Rattle.program.specs.Frames.{edgeFrame, transitionFrame, initialFram
 use Rattle.program.specs.WellFormed.{All, WellFormed}
 use Rattle.program.specs.Writing.{nodesFrames, framesOf}
 use Rattle.program.proofs.Sections.{all-at}
-use Rattle.program.proofs.Judged.{both, at-most}
+use Rattle.program.proofs.Judged.{at-most}
+use Rattle.base.proofs.Bools.{both}
 use Rattle.program.proofs.Limit.{Limits, length-frames, well-formed-limits}
 use Rattle.program.proofs.Lines.{Frames}
 

@@ -8,6 +8,7 @@ use native.Mathlib.Omega.{arith}
 use lib.Dec.{ltb, leb, eqb}
 use lib.ListN.{length, getD}
 use borrow.Author.Tests.{ltb-true, leb-true, leb-false, eqb-true, eqb-false, not-false, lt-ltb, ne-eqb}
+use Rattle.base.proofs.Bools.{both}
 use Rattle.text.specs.Lines.{pad, lineFrom}
 use Rattle.text.specs.declared.Line.{Line}
 use Rattle.program.specs.Program.{within, countsFit, edgeFits, transitionFits}
@@ -32,10 +33,6 @@ padded none = pad-past 6 []
 padded (some xs) = pad-past 6 xs
 
 -- ---- tests
-
-pub both : (a b : Bool) → a && b ≡ true → (a ≡ true) × (b ≡ true)
-both true b h = (refl, h)
-both false b h = (h, absurd (let z : _≡_ {A = ℕ} 0 1 = cc in omega arith))
 
 pub at-most : (lo hi x : ℕ) → within lo hi x ≡ true → x ≤ hi
 at-most lo hi x h = leb-true x hi (both (leb lo x) (leb x hi) h .1)

@@ -14,7 +14,8 @@ use Rattle.program.specs.Frames.{packed, keyOf, nodesFrame, edgeFrame, t
 use Rattle.program.specs.WellFormed.{All, Ascending, WellFormed}
 use Rattle.program.specs.Writing.{nodesFrames, framesOf, text, written}
 use Rattle.program.proofs.Sections.{few}
-use Rattle.program.proofs.Judged.{both, at-most}
+use Rattle.program.proofs.Judged.{at-most}
+use Rattle.base.proofs.Bools.{both}
 
 -- ---- the limits
 

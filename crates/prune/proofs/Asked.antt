@@ -6,17 +6,10 @@ use Prim.Native.Nat.{ℕ, zero, suc, _+_, _-_, _≤_, _<_}
 use native.Mathlib.Omega.{arith}
 use native.Mathlib.Decide.{ℕ-discrete}
 use lib.ListN.{length, List·getD-eq-default}
-use Rattle.automaton.specs.Flags.{isSet}
-use Rattle.automaton.proofs.Entries.{Asks}
-use Rattle.reach.proofs.Sizes.{either}
+use Rattle.base.specs.Flags.{isSet}
+use Rattle.base.proofs.Entries.{Asks}
+use Rattle.base.proofs.Bools.{either, never}
 use Rattle.prune.specs.Parts.{anyFrom, anyKey}
-
-pub never : {A : Type 0} {b : Bool} → b ≡ true → b ≡ false → A
-never h k = absurd (let z : _≡_ {A = ℕ} 0 1 = cc in omega arith)
-
--- past the end nothing is set
-pub past-end : (l : List ℕ) (at : ℕ) → length l ≤ at → false ≡ isSet l at
-past-end l at h = rw (List·getD-eq-default l 0 h) refl
 
 -- ---- numbers
 

@@ -13,25 +13,24 @@ use lib.Seq.{take-length, drop-length}
 use borrow.Author.Tests.{eqb-true, eq-eqb, not-false}
 use Rattle.automaton.specs.Automaton.{member, isInitial}
 use Rattle.automaton.specs.Decoded.{keysOf, transitionOf}
-use Rattle.automaton.specs.Flags.{isSet}
+use Rattle.base.specs.Flags.{isSet, On}
 use Rattle.automaton.specs.declared.Table.{Table}
 use Rattle.program.specs.Program.{Program}
 use Rattle.program.specs.WellFormed.{WellFormed}
 use Rattle.program.specs.Decoded.{edgeOf}
-use Rattle.program.proofs.Judged.{both}
-use Rattle.reach.specs.Configurations.{Set, InRange, number, routineOf, nodeOf, rootOf, stateOf, none-set}
+use Rattle.base.proofs.Bools.{both, either, never}
+use Rattle.reach.specs.Configurations.{Set, InRange, number, routineOf, nodeOf, rootOf, stateOf, none-set, At}
 use Rattle.reach.specs.Reachable.{seeded, by-action, by-call, by-return, initial}
 use Rattle.reach.specs.Marks.{Marked, Shows}
-use Rattle.reach.proofs.Numbers.{At, number-of, number-fits, routine-of, node-of, root-of, state-of, parts-in-range, to-number, from-number}
-use Rattle.reach.proofs.Sizes.{Sizes, sizes, initial-proper, derivable-state, call-stays, return-stays, may-call, may-return, either}
-use Rattle.reach.proofs.Flags.{On, set-on, on-set, set-inv, set-bits, zeros}
+use Rattle.reach.proofs.Numbers.{number-of, number-fits, routine-of, node-of, root-of, state-of, parts-in-range, to-number, from-number}
+use Rattle.reach.proofs.Sizes.{Sizes, sizes, initial-proper, derivable-state, call-stays, return-stays, may-call, may-return}
+use Rattle.base.proofs.SetFlags.{set-on, on-set, set-inv, set-bits, zeros, set-byte, byte-set}
 use Rattle.reach.proofs.Shown.{shows-marked}
 use Rattle.analysis.proofs.Begun.{take-min}
 use Rattle.prune.specs.Keeping.{Kept}
 use Rattle.prune.specs.Parts.{supports, keepsAt, Keeps, same, more, Settled, Tables, Sound, Started}
-use Rattle.prune.proofs.Asked.{never}
 use Rattle.prune.proofs.Passes.{keeps-on}
-use Rattle.prune.proofs.Supporting.{Supported, by-edge, as-called, as-returned, set-byte, byte-set, supports-sound, supports-found}
+use Rattle.prune.proofs.Supporting.{Supported, by-edge, as-called, as-returned, supports-sound, supports-found}
 
 -- ---- what is kept next
 

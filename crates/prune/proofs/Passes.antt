@@ -9,11 +9,11 @@ use native.Mathlib.Decide.{ℕ-discrete}
 use native.Mathlib.Nat.{eq-or-lt-of-le}
 use lib.ListN.{length, getD, set, length-set}
 use borrow.Author.Tests.{eq-eqb}
-use Rattle.reach.specs.Marks.{countSet}
-use Rattle.reach.proofs.Flags.{On, on-set}
+use Rattle.base.specs.Flags.{countSet, On}
+use Rattle.base.proofs.SetFlags.{on-set}
 use Rattle.reach.proofs.Shown.{count-small}
 use Rattle.prune.specs.Parts.{Keeps, same, more, Passed, Settled}
-use Rattle.prune.proofs.Asked.{never}
+use Rattle.base.proofs.Bools.{never}
 
 -- one byte more is set
 pub count-more : (l : List ℕ) (i : ℕ) → i < length l → getD l i 0 ≡ 0 → countSet l < countSet (set l i 1)

@@ -8,24 +8,25 @@ use native.Mathlib.Omega.{arith}
 use lib.Dec.{eqb, ltb}
 use lib.ListN.{getD, take}
 use borrow.Author.Tests.{eqb-true, eqb-false, ltb-true, ltb-false, leb-true, leb-false, not-true, eq-eqb, ne-eqb, lt-ltb, le-ltb, lt-leb, le-leb}
+use Rattle.base.proofs.SetFlags.{set-byte, byte-set}
 use Rattle.automaton.specs.Automaton.{Transition, goes, listed, moves}
 use Rattle.automaton.specs.Decoded.{transitionOf}
-use Rattle.automaton.specs.Flags.{isSet}
+use Rattle.base.specs.Flags.{isSet}
 use Rattle.automaton.specs.declared.Event.{Event}
 use Rattle.automaton.specs.declared.Event.the-variants.{Action, Call}
 use Rattle.automaton.specs.Sizes.{maxStates}
 use Rattle.program.specs.Sizes.{firstCall}
 use Rattle.program.specs.Program.{Edge, Program, isAction, isCall, calledBy, callOf, transitionFits}
 use Rattle.program.specs.Decoded.{edgeOf}
-use Rattle.program.proofs.Judged.{both}
+use Rattle.base.proofs.Bools.{both, either, never, cond-true}
 use Rattle.reach.specs.Sizes.{rootSpan}
 use Rattle.reach.specs.Configurations.{Set, InRange, number}
 use Rattle.reach.specs.Runs.{Step, labelOf, stepOf, HasStep, Moves}
 use Rattle.reach.specs.Marks.{Marked}
 use Rattle.reach.proofs.Numbers.{number-state, number-root}
-use Rattle.reach.proofs.Sizes.{Sizes, sizes, all-in, either, listed-in, map-in, label-call}
+use Rattle.reach.proofs.Sizes.{Sizes, sizes, all-in, listed-in, map-in, label-call}
 use Rattle.prune.specs.Parts.{anyFrom, anyKey, rootKept, returnKept, entrySupports, returnSupports, callSupports, lineSupports, linesToTry, actionSupports, edgeSupports, supports, Tables}
-use Rattle.prune.proofs.Asked.{never, found-from, any-from, found-key, any-key, in-map}
+use Rattle.prune.proofs.Asked.{found-from, any-from, found-key, any-key, in-map}
 
 -- a configuration has support in K by an action, by being called, or after a call
 pub data Supported (p : Program) (K : Set) : ℕ → ℕ → ℕ → ℕ → Type 0 where
@@ -34,16 +35,6 @@ pub data Supported (p : Program) (K : Set) : ℕ → ℕ → ℕ → ℕ → Typ
   as-returned : {f n r q k g y : ℕ} → HasStep p f k (Call g) n → K f k r y → K g 1 y q → Supported p K f n r q
 
 -- ---- tests
-
-cond-true : (b x : Bool) → cond b x false ≡ true → (b ≡ true) × (x ≡ true)
-cond-true true x e = (refl, e)
-cond-true false x e = never e refl
-
-pub set-byte : (l : List ℕ) (j : ℕ) → isSet l j ≡ true → getD l j 0 ≢ 0
-set-byte l j e = eqb-false (getD l j 0) 0 (not-true (eqb (getD l j 0) 0) e)
-
-pub byte-set : (l : List ℕ) (j : ℕ) → getD l j 0 ≢ 0 → isSet l j ≡ true
-byte-set l j h = ap not (ne-eqb (getD l j 0) 0 h)
 
 -- the transitions are tried for an action that leads there
 tried-lines : (t : ℕ → Bool) (lines : List ℕ) (k : ℕ) (b c : Bool) → anyKey t (take (cond b (cond c 0 k) 0) lines) ≡ true

@@ -9,15 +9,13 @@ use lib.ListN.{length, getD, set, take}
 use Rattle.program.specs.Sizes.{marksSize}
 use Rattle.automaton.specs.Sizes.{maxStates}
 use Rattle.automaton.specs.Decoded.{transitionOf}
-use Rattle.automaton.specs.Flags.{isSet}
+use Rattle.base.specs.Flags.{isSet, countSet, On}
 use Rattle.program.specs.Program.{Edge, Program, isCall, calledBy, callOf}
 use Rattle.program.specs.WellFormed.{WellFormed}
 use Rattle.program.specs.Decoded.{edgeOf}
 use Rattle.reach.specs.Sizes.{rootSpan}
-use Rattle.reach.specs.Configurations.{number, routineOf, nodeOf, rootOf, stateOf}
-use Rattle.reach.specs.Marks.{Marked, countSet}
-use Rattle.reach.proofs.Numbers.{At}
-use Rattle.reach.proofs.Flags.{On}
+use Rattle.reach.specs.Configurations.{number, routineOf, nodeOf, rootOf, stateOf, At}
+use Rattle.reach.specs.Marks.{Marked}
 use Rattle.prune.specs.Keeping.{Kept}
 
 -- ---- whether one of several meets a test

@@ -1,6 +1,7 @@
 // Whether a configuration (f, n, r, q) has support through kept ones: the search over edges and transitions.
 use automaton::sizes::MAX_STATES;
 use automaton::transition;
+use base::flags::is_set;
 use program::edges::DecodedEdge;
 use program::edges::called_by;
 use program::edges::edge;
@@ -12,21 +13,11 @@ use reach::spans::ROOT_SPAN;
 ghost use mathlib.Core.Path.{_≡_};
 ghost use Prim.Native.Nat.{_<_, _≤_};
 ghost use lib.ListN.{length};
-ghost use Rattle.automaton.specs.Flags.{isSet};
+ghost use Rattle.base.specs.Flags.{isSet};
 ghost use Rattle.program.specs.Sizes.{maxRoutines};
 ghost use Rattle.program.specs.Decoded.{edgeView};
 ghost use Rattle.reach.specs.Configurations.{byteNumbers};
 ghost use Rattle.prune.specs.Parts.{rootKept, returnKept, entrySupports, returnSupports, callSupports, lineSupports, linesToTry, supports, PartOf};
-
-// A number past the end has no byte, so that its configuration is not kept.
-fn is_kept(kept: &[u8], at: usize) -> bool
-    ensures { λ y. ⌜ y ≡ isSet (now (kept .entry)) at ⌝ }
-{
-    if at < kept.len() {
-        return kept[at] != 0;
-    }
-    false
-}
 
 // Whether some root of the configurations from a number on is kept.
 fn root_kept(kept: &[u8], base: usize) -> bool
@@ -35,7 +26,7 @@ fn root_kept(kept: &[u8], base: usize) -> bool
 {
     let mut x: usize = 0;
     while x < MAX_STATES {
-        if is_kept(kept, base + ROOT_SPAN * x) {
+        if is_set(kept, base + ROOT_SPAN * x) {
             return true;
         }
         x = x + 1;
@@ -50,7 +41,7 @@ fn return_kept(kept: &[u8], caller: usize, exit: usize) -> bool
 {
     let mut y: usize = 0;
     while y < MAX_STATES {
-        if is_kept(kept, caller + y) & is_kept(kept, exit + ROOT_SPAN * y) {
+        if is_set(kept, caller + y) & is_set(kept, exit + ROOT_SPAN * y) {
             return true;
         }
         y = y + 1;
@@ -102,7 +93,7 @@ fn line_supports(kept: &[u8], base: usize, action: u8, q: u8, line: u32) -> bool
 {
     let t = transition(line);
     if (t.action == action as u32) & (t.after == q as u32) {
-        return is_kept(kept, base + t.before as usize);
+        return is_set(kept, base + t.before as usize);
     }
     false
 }

@@ -8,13 +8,14 @@ use native.Mathlib.Omega.{arith}
 use native.Mathlib.Decide.{ℕ-discrete}
 use Rattle.program.specs.Program.{Program}
 use Rattle.program.specs.WellFormed.{WellFormed}
-use Rattle.reach.specs.Configurations.{number, routineOf, nodeOf, rootOf, stateOf, none-set}
+use Rattle.reach.specs.Configurations.{number, routineOf, nodeOf, rootOf, stateOf, none-set, At}
 use Rattle.reach.specs.Reachable.{Derivable, seeded, Any}
 use Rattle.reach.specs.Worklist.{Worklist, Shape, lowest, summary, work}
 use Rattle.reach.specs.Marks.{Marked, Shows, Between, ClosedBut}
-use Rattle.reach.proofs.Numbers.{number-of, node-of, parts-in-range, At}
+use Rattle.reach.proofs.Numbers.{number-of, node-of, parts-in-range}
 use Rattle.reach.proofs.Sizes.{sizes, Proper, may-call, may-return}
-use Rattle.reach.proofs.Flags.{On, on-lt}
+use Rattle.base.specs.Flags.{On}
+use Rattle.base.proofs.SetFlags.{on-lt}
 use Rattle.reach.proofs.Kept.{work-shape}
 use Rattle.reach.proofs.Follows.{Closed, Follows}
 use Rattle.reach.proofs.Settled.{Settled}

@@ -18,7 +18,9 @@ use Rattle.reach.specs.Worklist.{Worklist, lowest, summary, learn, takeA
 use Rattle.reach.specs.Takings.{taken, takenIn, times}
 use Rattle.reach.proofs.Numbers.{number-of, routine-of, node-of, state-of, root-small, state-small, routine-small, summary-fits}
 use Rattle.reach.proofs.Sizes.{Sizes, sizes, Proper, initial-proper}
-use Rattle.reach.proofs.Flags.{On, dec-on, on-lt, set-on, on-set, clear-off, clear-inv, lowest-on}
+use Rattle.base.specs.Flags.{On}
+use Rattle.base.proofs.SetFlags.{dec-on, on-lt, set-on, on-set, clear-off, clear-inv}
+use Rattle.reach.proofs.Lowest.{lowest-on}
 use Rattle.reach.proofs.Kept.{take-iterations, opened-iterations, work-iterations}
 use Rattle.reach.proofs.Waking.{Caller, caller-in-range}
 use Rattle.reach.proofs.Taking.{Marking, Waking, take-elsewhere, take-exit}

@@ -14,7 +14,8 @@ use Rattle.program.specs.Program.{Program}
 use Rattle.reach.specs.Configurations.{routineOf, nodeOf, stateOf}
 use Rattle.reach.specs.Runs.{Step, stepsOf, HasStep}
 use Rattle.reach.specs.Worklist.{summary, calls}
-use Rattle.reach.proofs.Flags.{On, dec-on, on-eqb}
+use Rattle.base.specs.Flags.{On}
+use Rattle.base.proofs.SetFlags.{dec-on, on-eqb}
 use Rattle.reach.proofs.Marking.{step, fromHere, step-is}
 use Rattle.reach.proofs.Waking.{calls-it}
 

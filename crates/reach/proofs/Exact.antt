@@ -13,7 +13,8 @@ use Rattle.reach.specs.Reachable.{Derivable, Initial, Any, Reachable}
 use Rattle.reach.specs.Worklist.{Worklist, lowest, work, opened, blank, analysis}
 use Rattle.reach.specs.Marks.{Marked}
 use Rattle.reach.proofs.Sizes.{sizes, Proper, initial-proper}
-use Rattle.reach.proofs.Flags.{lowest-none, zeros}
+use Rattle.reach.proofs.Lowest.{lowest-none}
+use Rattle.base.proofs.SetFlags.{zeros}
 use Rattle.reach.proofs.Kept.{work-shape}
 use Rattle.reach.proofs.Follows.{Follows, work-follows, follows-exact, opened-follows}
 use Rattle.reach.proofs.Settled.{Settled, opened-settled}

@@ -10,13 +10,15 @@ use native.Mathlib.Decide.{ℕ-discrete}
 use Rattle.automaton.specs.declared.Event.{Event}
 use Rattle.automaton.specs.declared.Event.the-variants.{Action, Call, Return}
 use Rattle.program.specs.Program.{Program}
-use Rattle.reach.specs.Configurations.{Set, InRange, number, routineOf, nodeOf, rootOf, stateOf, none-set}
+use Rattle.reach.specs.Configurations.{Set, InRange, number, routineOf, nodeOf, rootOf, stateOf, none-set, At}
 use Rattle.reach.specs.Runs.{HasStep, Moves}
 use Rattle.reach.specs.Reachable.{Derivable, seeded, by-action, by-call, by-return, Initial, initial, Any, Reachable}
 use Rattle.reach.specs.Worklist.{Worklist, Shape, lowest, summary, learn, takeAt, work, opened, blank}
-use Rattle.reach.proofs.Numbers.{number-of, root-small, state-small, routine-small, At, to-number, from-number, summary-fits, summary-apart, exit-number}
+use Rattle.reach.proofs.Numbers.{number-of, root-small, state-small, routine-small, to-number, from-number, summary-fits, summary-apart, exit-number}
 use Rattle.reach.proofs.Sizes.{Sizes, call-stays, return-stays, may-call, may-return, Proper, initial-proper, derivable-state, derivable-in-range}
-use Rattle.reach.proofs.Flags.{On, dec-on, on-lt, set-on, on-set, set-inv, clear-keep, clear-inv, none-on, lowest-on, lowest-none}
+use Rattle.base.specs.Flags.{On}
+use Rattle.base.proofs.SetFlags.{dec-on, on-lt, set-on, on-set, set-inv, clear-keep, clear-inv, none-on}
+use Rattle.reach.proofs.Lowest.{lowest-on, lowest-none}
 use Rattle.reach.proofs.Kept.{take-shape, work-kept, blank-shape, opened-shape}
 use Rattle.reach.proofs.Marking.{Marks, ByLabel, by-move, by-entry, by-summary, Opening, on-opened}
 use Rattle.reach.proofs.Taking.{Marking, Waking, take-elsewhere, take-exit}

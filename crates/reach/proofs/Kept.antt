@@ -14,7 +14,7 @@ use Rattle.program.specs.Program.{Program}
 use Rattle.reach.specs.Configurations.{number, routineOf, nodeOf, rootOf, stateOf, none-set}
 use Rattle.reach.specs.Runs.{Step, stepsOf}
 use Rattle.reach.specs.Worklist.{Worklist, Shape, lowest, mark, wake, markWhen, isKnown, onAction, onReturns, onLabel, labelWhen, onSteps, wakeRoots, calls, wakeWhen, wakeCallers, learn, takeFrom, takeAt, work, opened, blank, analysis}
-use Rattle.reach.proofs.Flags.{set-bits, zeros}
+use Rattle.base.proofs.SetFlags.{set-bits, zeros}
 
 -- number i is pending no more
 abbrev pub taking : ℕ → Worklist → Worklist

@@ -1,6 +1,6 @@
 pub mod Numbers
 pub mod Sizes
-pub mod Flags
+pub mod Lowest
 pub mod Kept
 pub mod Marking
 pub mod Waking

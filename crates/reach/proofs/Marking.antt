@@ -12,13 +12,14 @@ use Rattle.automaton.specs.Automaton.{moves}
 use Rattle.automaton.specs.declared.Event.{Event}
 use Rattle.automaton.specs.declared.Event.the-variants.{Action, Call, Return}
 use Rattle.program.specs.Program.{Program}
-use Rattle.program.proofs.Judged.{both}
+use Rattle.base.proofs.Bools.{both}
 use Rattle.reach.specs.Configurations.{number}
 use Rattle.reach.specs.Runs.{Step, stepsOf, HasStep, Moves}
 use Rattle.reach.specs.Worklist.{Worklist, Shape, mark, markWhen, summary, isKnown, onAction, onReturns, onLabel, labelWhen, onSteps, opened}
 use Rattle.reach.proofs.Numbers.{number-fits}
 use Rattle.reach.proofs.Sizes.{Sizes}
-use Rattle.reach.proofs.Flags.{On, eqb-on, eqb-off, on-eqb, set-on, on-set, set-inv}
+use Rattle.base.specs.Flags.{On}
+use Rattle.base.proofs.SetFlags.{eqb-on, eqb-off, on-eqb, set-on, on-set, set-inv}
 use Rattle.reach.proofs.Kept.{mark-by, when-kept, label-when-kept, shape-kept}
 
 -- t is s with the numbers A marked; those that are new are pending

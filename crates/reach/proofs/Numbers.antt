@@ -5,7 +5,7 @@ use native.Mathlib.Omega.{arith}
 use Rattle.automaton.specs.Sizes.{maxStates}
 use Rattle.program.specs.Sizes.{maxRoutines, maxNodes, marksSize}
 use Rattle.reach.specs.Sizes.{rootSpan, nodeSpan, routineSpan, summariesSize}
-use Rattle.reach.specs.Configurations.{Set, InRange, PartsOf, exitAt, number, routineOf, nodeOf, rootOf, stateOf}
+use Rattle.reach.specs.Configurations.{Set, At, InRange, PartsOf, exitAt, number, routineOf, nodeOf, rootOf, stateOf}
 use Rattle.reach.specs.Worklist.{summary}
 
 -- every number is that of a configuration
@@ -69,10 +69,6 @@ module _ {i f n r q : ℕ} (c : PartsOf i f n r q) where
   parts-state = sym (state-of (c .in-range)) ∙ ap stateOf (c .is)
 
 -- ---- sets by number
-
--- the configuration of number j is in S
-abbrev pub At : Set → ℕ → Type 0
-At S j = S (routineOf j) (nodeOf j) (rootOf j) (stateOf j)
 
 pub to-number : (S : Set) {f n r q : ℕ} → InRange f n r q → S f n r q → At S (number f n r q)
 to-number S h x = rw (routine-of h, node-of h, root-of h, state-of h) x

@@ -10,7 +10,8 @@ use Rattle.reach.specs.Configurations.{Set, number, nodeOf, rootOf, stat
 use Rattle.reach.specs.Worklist.{Worklist, summary, learn, takeAt, opened, blank}
 use Rattle.reach.proofs.Numbers.{node-of, root-small, exit-number}
 use Rattle.reach.proofs.Sizes.{Sizes}
-use Rattle.reach.proofs.Flags.{On, set-inv, clear-off, clear-inv, none-on}
+use Rattle.base.specs.Flags.{On}
+use Rattle.base.proofs.SetFlags.{set-inv, clear-off, clear-inv, none-on}
 use Rattle.reach.proofs.Kept.{blank-shape}
 use Rattle.reach.proofs.Marking.{on-opened}
 use Rattle.reach.proofs.Waking.{caller-in-range}

@@ -14,7 +14,8 @@ use Rattle.automaton.specs.declared.Event.the-variants.{Action, Call, Return}
 use Rattle.program.specs.Program.{Edge, Program, within, labelFits, placed, edgeFits, transitionFits}
 use Rattle.program.specs.WellFormed.{All, WellFormed}
 use Rattle.program.proofs.Sections.{all-at}
-use Rattle.program.proofs.Judged.{both, at-most}
+use Rattle.program.proofs.Judged.{at-most}
+use Rattle.base.proofs.Bools.{both, either}
 use Rattle.program.proofs.Limit.{well-formed-limits}
 use Rattle.reach.specs.Configurations.{Set, InRange}
 use Rattle.reach.specs.Runs.{Step, labelOf, stepOf, HasStep, Moves}
@@ -27,10 +28,6 @@ unfolding All
 all-in t [] h m = elim m [ ]
 all-in t (y ∷ ys) h (List·Memᴰ·head e) = ap t e ∙ h .0
 all-in t (y ∷ ys) h (List·Memᴰ·tail m) = all-in t ys (h .1) m
-
-pub either : (a b : Bool) {X : Type 0} → a || b ≡ true → (a ≡ true → X) → (b ≡ true → X) → X
-either true b h f g = f refl
-either false b h f g = g h
 
 -- a listed move is one of a transition
 pub listed-in : (q a s : ℕ) (ts : List Transition) → listed q a s ts ≡ true → List·Memᴰ (record { before = q; action = a; after = s }) ts

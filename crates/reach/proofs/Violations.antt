@@ -12,10 +12,11 @@ use lib.Dec.{eqb, leb}
 use borrow.Author.Tests.{eqb-false, ne-eqb, leb-true, leb-false, not-true}
 use Rattle.automaton.specs.Automaton.{isRejecting}
 use Rattle.program.specs.Program.{Program}
-use Rattle.program.proofs.Judged.{both}
+use Rattle.base.proofs.Bools.{both}
 use Rattle.reach.specs.Configurations.{stateOf}
 use Rattle.reach.specs.Runs.{Occurs}
-use Rattle.reach.specs.Marks.{Shows, freshMarks, countSet, violates, frontWhen, violationsFrom, violations, firstFrom}
+use Rattle.reach.specs.Marks.{Shows, freshMarks, violates, frontWhen, violationsFrom, violations, firstFrom}
+use Rattle.base.specs.Flags.{countSet}
 use Rattle.reach.specs.Violations.{Violation, Ascends, all-passed, rises, First, nowhere, at}
 use Rattle.reach.proofs.Shown.{shown-at, one-of}
 

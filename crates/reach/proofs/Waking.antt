@@ -14,7 +14,8 @@ use Rattle.reach.specs.Runs.{Step, stepsOf, HasStep}
 use Rattle.reach.specs.Worklist.{Worklist, Shape, wake, wakeRoots, calls, wakeWhen, wakeCallers}
 use Rattle.reach.proofs.Numbers.{number-fits}
 use Rattle.reach.proofs.Sizes.{Sizes}
-use Rattle.reach.proofs.Flags.{On, eqb-on, eqb-off, set-on, on-set, set-inv}
+use Rattle.base.specs.Flags.{On}
+use Rattle.base.proofs.SetFlags.{eqb-on, eqb-off, set-on, on-set, set-inv}
 use Rattle.reach.proofs.Kept.{wake-by, wake-when-kept, shape-kept}
 use Rattle.reach.proofs.Marking.{Within, within-none, within-split, within-here, within-there, step}
 

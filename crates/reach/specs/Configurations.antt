@@ -35,6 +35,10 @@ rootOf i = i / rootSpan % maxStates
 unfoldable pub stateOf : ℕ → ℕ
 stateOf i = i % maxStates
 
+-- the configuration of number j is in S
+abbrev pub At : Set → ℕ → Type 0
+At S j = S (routineOf j) (nodeOf j) (rootOf j) (stateOf j)
+
 -- a byte for each number, none of them set
 unfoldable pub none-set : List ℕ
 none-set = replicate marksSize 0

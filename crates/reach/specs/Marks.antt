@@ -43,11 +43,6 @@ pub record ClosedBut (p : Program) (low high : ℕ) (marks : List ℕ) : Type 0 
 abbrev pub freshMarks : Program → List ℕ
 freshMarks p = analysis p .marks
 
--- how many bytes are set
-unfoldable pub countSet : List ℕ → ℕ
-countSet [] = 0
-countSet (b ∷ bs) = cond (eqb b 0) 0 1 + countSet bs
-
 -- a marked configuration whose present state is rejecting
 abbrev pub violates : Program → ℕ → ℕ → Bool
 violates p b i = not (eqb b 0) && isRejecting (p .automaton) (stateOf i)

@@ -6,9 +6,10 @@ use automaton::sizes::MAX_STATES;
 use program::sizes::MAX_NODES;
 ghost use mathlib.Core.Path.{_≡_};
 ghost use Prim.Native.Nat.{_<_, _≤_, _+_, _*_};
+ghost use Rattle.automaton.specs.Sizes.{maxStates};
 ghost use Rattle.program.specs.Sizes.{marksSize};
 ghost use Rattle.reach.specs.Sizes.{summariesSize};
-ghost use Rattle.reach.specs.Configurations.{number, byteNumbers, exitAt, PartsOf};
+ghost use Rattle.reach.specs.Configurations.{number, routineOf, stateOf, byteNumbers, exitAt, PartsOf};
 ghost use Rattle.reach.specs.Worklist.{summary};
 
 // A configuration, its parts one by one.
@@ -51,6 +52,20 @@ pub fn parts_of(i: usize) -> Configuration
         root: (i / ROOT_SPAN % MAX_STATES) as u8,
         state: (i % MAX_STATES) as u8,
     }
+}
+
+// The routine of a number, where nothing else of it is asked.
+pub fn routine_of(i: usize) -> usize
+    ensures { λ f. ⌜ f ≡ routineOf i ⌝ }
+{
+    i / ROUTINE_SPAN
+}
+
+// The state of a number, where nothing else of it is asked.
+pub fn state_of(i: usize) -> usize
+    ensures { λ q. ⌜ (q ≡ stateOf i) × (q < maxStates) ⌝ }
+{
+    i % MAX_STATES
 }
 
 // The place of a summary.

@@ -12,12 +12,12 @@ use lib.Seq.{getD-set-same, getD-set-other, take-length, drop-length}
 use borrow.Author.Tests.{eqb-true, eqb-false, ltb-true}
 use Rattle.program.specs.Program.{Program, placed, labelFits}
 use Rattle.program.specs.WellFormed.{WellFormed}
-use Rattle.program.proofs.Judged.{both}
+use Rattle.base.proofs.Bools.{both}
 use Rattle.program.proofs.Limit.{well-formed-limits}
-use Rattle.reach.specs.Configurations.{InRange, number, nodeOf, rootOf, stateOf, none-set}
+use Rattle.reach.specs.Configurations.{InRange, number, routineOf, nodeOf, rootOf, stateOf, none-set}
 use Rattle.reach.specs.Marks.{freshMarks}
-use Rattle.reach.proofs.Numbers.{number-fits, node-small, root-small, state-small}
-use Rattle.reach.proofs.Flags.{zeros}
+use Rattle.reach.proofs.Numbers.{number-of, routine-of, routine-small, number-fits, node-small, root-small, state-small}
+use Rattle.base.proofs.SetFlags.{zeros}
 use Rattle.reach.proofs.Kept.{marks-length}
 use Rattle.reach.proofs.Exact.{analysis-exact}
 use Rattle.components.specs.Components.{Reopened, Gained}
@@ -38,7 +38,7 @@ use Rattle.repair.proofs.Steps.{other-steps, drop-within}
 pub record NewBelow (old new : List ℕ) (f i : ℕ) : Type 0 where
   pub place : ℕ
   pub below : place < i
-  pub routine : place / 1024 ≡ f
+  pub routine : routineOf place ≡ f
   pub is : getD new place 0 ≢ 0
   pub was : getD old place 0 ≡ 0
 
@@ -76,13 +76,8 @@ gaining-start old new =
       flag = λ f h. (λ n. absurd (n (zeros 16 f)), λ x. absurd (omega (arith, x .below)));
     }
 
-place-of : (f j : ℕ) → j / 1024 ≡ f → number f (nodeOf j) (rootOf j) (stateOf j) ≡ j
-unfolding number nodeOf rootOf stateOf
-place-of f j e = omega arith
-
-routine-is : {f n r q : ℕ} → InRange f n r q → number f n r q / 1024 ≡ f
-unfolding number
-routine-is h = omega arith
+place-of : (f j : ℕ) → routineOf j ≡ f → number f (nodeOf j) (rootOf j) (stateOf j) ≡ j
+place-of f j e = rw (← e) (number-of j)
 
 module _ {old new flags : List ℕ} {i : ℕ} (g : Gaining old new i flags) where
   widened : {f : ℕ} → NewBelow old new f i → NewBelow old new f (i + 1)
@@ -100,25 +95,25 @@ module _ {old new flags : List ℕ} {i : ℕ} (g : Gaining old new i flags) wher
             (λ o. widened (g .flag f h .0 o), λ x. g .flag f h .1 (narrowed x (λ e. n (rw e at (x .was)) (rw e at (x .is)))));
       }
 
-  pub gaining-on : i < 16384 → getD old i 0 ≡ 0 → getD new i 0 ≢ 0 → Gaining old new (i + 1) (set flags (i / 1024) 1)
+  pub gaining-on : i < 16384 → getD old i 0 ≡ 0 → getD new i 0 ≢ 0 → Gaining old new (i + 1) (set flags (routineOf i) 1)
   gaining-on b a n =
       record {
-        len = length-set flags (i / 1024) 1 ∙ g .len;
+        len = length-set flags (routineOf i) 1 ∙ g .len;
         bound = omega arith;
         flag = λ f h.
-            elim (ℕ-discrete f (i / 1024)) [
+            elim (ℕ-discrete f (routineOf i)) [
               | yes e ↦ (λ o. record { place = i; below = omega arith; routine = sym e; is = n; was = a }, λ x. set-there f e)
               | no e ↦ (λ o. widened (g .flag f h .0 (rw (other f e) at o)), λ x. rw (other f e) (g .flag f h .1 (narrowed x (λ z. e (sym (x .routine) ∙ ap (λ (j : ℕ). j / 1024) z)))))
             ];
       }
     where
-      other : (f : ℕ) → f ≢ i / 1024 → getD (set flags (i / 1024) 1) f 0 ≡ getD flags f 0
-      other f e = getD-set-other flags (i / 1024) f 1 0 e
+      other : (f : ℕ) → f ≢ routineOf i → getD (set flags (routineOf i) 1) f 0 ≡ getD flags f 0
+      other f e = getD-set-other flags (routineOf i) f 1 0 e
 
-      set-there : (f : ℕ) → f ≡ i / 1024 → getD (set flags (i / 1024) 1) f 0 ≢ 0
+      set-there : (f : ℕ) → f ≡ routineOf i → getD (set flags (routineOf i) 1) f 0 ≢ 0
       set-there f e z =
-          let s : getD (set flags (i / 1024) 1) (i / 1024) 0 ≡ 1 = getD-set-same flags (i / 1024) 1 0 (omega (arith, g .len)) in
-          let y : getD (set flags (i / 1024) 1) (i / 1024) 0 ≡ 0 = rw e at z in
+          let s : getD (set flags (routineOf i) 1) (routineOf i) 0 ≡ 1 = getD-set-same flags (routineOf i) 1 0 (omega (arith, g .len)) in
+          let y : getD (set flags (routineOf i) 1) (routineOf i) 0 ≡ 0 = rw e at z in
           omega (arith, s, y)
 
   pub gaining-end : 16384 ≤ i → FlagsOf (MarkedMore old new) flags
@@ -143,7 +138,7 @@ module _ {old new flags : List ℕ} {i : ℕ} (g : Gaining old new i flags) wher
           record {
             place = j;
             below = omega (arith, number-fits r, g .bound, b);
-            routine = routine-is r;
+            routine = routine-of r;
             is = x .now-there .1;
             was = elim (ℕ-discrete (getD old j 0) 0) [ yes e ↦ e | no e ↦ absurd (x .not-before (r, e)) ];
           }

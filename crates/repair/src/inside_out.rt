@@ -13,6 +13,8 @@ use edit::apply::relabelled;
 use edit::apply::without_step;
 use program::DecodedProgram;
 use program::sizes::MARKS_SIZE;
+use program::sizes::MAX_ROUTINES;
+use reach::configuration::routine_of;
 ghost use mathlib.Core.Path.{_≡_};
 ghost use mathlib.Core.Bool.{true};
 ghost use lib.ListN.{length};
@@ -37,13 +39,14 @@ fn gained(old: &[u8], new: &[u8]) -> Routines
     requires { ⌜ (length (now old) ≡ marksSize) × (length (now new) ≡ marksSize) ⌝ }
     ensures { λ r. ⌜ FlagsOf (MarkedMore (now (old .entry)) (now (new .entry))) (r .flags) ⌝ }
 {
-    let mut flags = [0u8; 16];
+    let mut flags = [0u8; MAX_ROUTINES];
     let mut i: usize = 0;
     while i < MARKS_SIZE {
         let was = old[i] != 0;
         let is = new[i] != 0;
         if !was & is {
-            flags[i / 1024] = 1;
+            let f = routine_of(i);
+            flags[f] = 1;
         }
         i = i + 1;
     }
@@ -128,6 +131,8 @@ pub fn mend(inward: bool, p: DecodedProgram, e: Edit, marks: &mut [u8], work: &m
         return rework_marks(p, e, marks, work);
     }
     let program = repair_marks(p, e, marks, work);
-    let routines = Routines { flags: [0u8; 16] };
+    let routines = Routines {
+        flags: [0u8; MAX_ROUTINES],
+    };
     Reworked { program, routines }
 }

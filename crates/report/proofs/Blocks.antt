@@ -18,9 +18,11 @@ use Rattle.program.specs.Program.{Program}
 use Rattle.program.specs.Reading.{Outcome, readFile}
 use Rattle.program.specs.declared.Verdict.{Verdict}
 use Rattle.program.specs.declared.Verdict.the-variants as verdict
-use Rattle.program.proofs.Judged.{both}
+use Rattle.base.proofs.Bools.{both}
 use Rattle.reach.specs.Configurations.{stateOf}
-use Rattle.reach.specs.Marks.{countSet, violates, frontWhen, violationsFrom}
+use Rattle.reach.proofs.Numbers.{state-small}
+use Rattle.reach.specs.Marks.{violates, frontWhen, violationsFrom}
+use Rattle.base.specs.Flags.{countSet}
 use Rattle.writer.specs.Parts.{Put}
 use Rattle.writer.proofs.Written.{put-none, put-both}
 use Rattle.report.specs.Report.{violationFrame, countFrame, blockOf, blockSize, blockBy, blockText, lineWithin, Printed}
@@ -44,16 +46,15 @@ line-printed {out} {r} o l f n w short room p =
 -- ---- the violations, a line each
 
 module _ (p : Program) (marks rejecting : List ℕ) (i : ℕ) (r : Rejects (p .automaton) rejecting) where
-  tested : not (eqb (getD marks i 0) 0) && not (eqb (getD rejecting (i % 8) 0) 0) ≡ violates p (getD marks i 0) i
-  unfolding stateOf
-  tested = rw (r .rejects (i % 8) (omega arith))
+  tested : not (eqb (getD marks i 0) 0) && not (eqb (getD rejecting (stateOf i) 0) 0) ≡ violates p (getD marks i 0) i
+  tested = rw (r .rejects (stateOf i) (state-small i))
 
   module _ {o out : List ℕ} {at next : ℕ} where
-    pub put-violation : not (eqb (getD marks i 0) 0) && not (eqb (getD rejecting (i % 8) 0) 0) ≡ true → Put (violationFrame i ∷ []) o out at next
+    pub put-violation : not (eqb (getD marks i 0) 0) && not (eqb (getD rejecting (stateOf i) 0) 0) ≡ true → Put (violationFrame i ∷ []) o out at next
         → Put (map violationFrame (frontWhen (violates p (getD marks i 0) i) i [])) o out at next
     put-violation e w = rw (sym tested ∙ e) w
 
-  pub put-nothing : {o : List ℕ} {at : ℕ} → not (eqb (getD marks i 0) 0) && not (eqb (getD rejecting (i % 8) 0) 0) ≡ false
+  pub put-nothing : {o : List ℕ} {at : ℕ} → not (eqb (getD marks i 0) 0) && not (eqb (getD rejecting (stateOf i) 0) 0) ≡ false
       → Put (map violationFrame (frontWhen (violates p (getD marks i 0) i) i [])) o o at at
   put-nothing e = rw (sym tested ∙ e) put-none
 

@@ -11,8 +11,8 @@ use lib.Dec.{eqb}
 use lib.ListN.{length, getD, take, drop, length-drop, drop-of-length-le}
 use lib.Seq.{drop-cons, drop-drop, getD-drop}
 use borrow.Author.Tests.{eqb-true, eq-eqb, ne-eqb}
-use Rattle.text.specs.Lines.{glue, lines}
-use Rattle.text.proofs.Split.{firstLine, lines-first, afterLine}
+use Rattle.text.specs.Lines.{glue, lines, firstLine}
+use Rattle.text.proofs.Split.{lines-first, afterLine}
 use Rattle.report.specs.Report.{startsEnd, fileSize, firstSize}
 
 -- ---- the first line

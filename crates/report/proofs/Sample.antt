@@ -11,7 +11,8 @@ use Rattle.program.specs.Writing.{text}
 use Rattle.program.specs.Sample.{bytes, header, edges, transitions}
 use Rattle.reach.specs.Configurations.{number, routineOf, nodeOf, rootOf, stateOf, none-set}
 use Rattle.reach.specs.Worklist.{lowest, mark, wake, markWhen, summary, onAction, onReturns, onLabel, labelWhen, onSteps, wakeRoots, calls, wakeWhen, wakeCallers, learn, takeFrom, takeAt, work, opened, analysis}
-use Rattle.reach.specs.Marks.{countSet, violationsFrom}
+use Rattle.reach.specs.Marks.{violationsFrom}
+use Rattle.base.specs.Flags.{countSet}
 use Rattle.edit.specs.EditLines.{editFrom, readEdit}
 use Rattle.edit.specs.Editing.{hasEdge, without, inserted, editedProgram, wantedEdit}
 use Rattle.report.specs.Report.{fileSize, blockOf, editsText, benchText}

@@ -6,7 +6,8 @@ use native.Mathlib.Omega.{arith}
 use lib.ListN.{length}
 use Rattle.program.specs.Program.{Program}
 use Rattle.program.specs.Writing.{text}
-use Rattle.reach.specs.Marks.{countSet, violationsFrom}
+use Rattle.reach.specs.Marks.{violationsFrom}
+use Rattle.base.specs.Flags.{countSet}
 use Rattle.reach.proofs.Shown.{count-small}
 use Rattle.reach.proofs.Violations.{violations-fewer}
 use Rattle.writer.proofs.Written.{long-append, long-one}

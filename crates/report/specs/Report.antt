@@ -14,7 +14,8 @@ use Rattle.program.specs.Writing.{text}
 use Rattle.program.specs.declared.Verdict.{Verdict}
 use Rattle.program.specs.declared.Verdict.the-variants as verdict
 use Rattle.reach.specs.Configurations.{routineOf, nodeOf, rootOf, stateOf}
-use Rattle.reach.specs.Marks.{freshMarks, countSet, violationsFrom}
+use Rattle.reach.specs.Marks.{freshMarks, violationsFrom}
+use Rattle.base.specs.Flags.{countSet}
 use Rattle.edit.specs.Editing.{editedProgram, wantedEdit}
 use Rattle.edit.specs.declared.EditRead.{EditRead}
 use Rattle.edit.specs.declared.EditRead.the-variants.{Read, Refused}

@@ -10,8 +10,7 @@ ghost use mathlib.Core.Path.{_≡_};
 ghost use mathlib.Core.List.{[], _∷_};
 ghost use Prim.Native.Nat.{_<_, _/_, _%_};
 ghost use lib.ListN.{length, drop};
-ghost use Rattle.text.specs.Lines.{lines, lineOf};
-ghost use Rattle.text.proofs.Split.{firstLine};
+ghost use Rattle.text.specs.Lines.{lines, lineOf, firstLine};
 ghost use Rattle.report.specs.Report.{startsEnd, fileSize, firstSize, blockText, editRefusal, fileRefusal, Printed};
 ghost use Rattle.report.specs.Parts.{blockFits};
 

@@ -3,12 +3,15 @@ use analysis::count::count_marks;
 use analysis::count::count_violations;
 use automaton::flags::rejecting_flags;
 use program::DecodedProgram;
+use reach::configuration::parts_of;
+use reach::configuration::state_of;
 use text::Line;
 use text::put_line;
 ghost use mathlib.Core.Path.{_≡_};
 ghost use mathlib.Core.List.{[], _∷_, map};
 ghost use Prim.Native.Nat.{_+_, _*_, _<_, _≤_};
 ghost use lib.ListN.{length, getD};
+ghost use Rattle.automaton.specs.Sizes.{maxStates};
 ghost use Rattle.program.specs.Sizes.{marksSize};
 ghost use Rattle.text.specs.Lines.{lineOf};
 ghost use Rattle.automaton.specs.Flags.{Rejects};
@@ -22,14 +25,8 @@ fn violation_line(i: usize) -> Line
     requires { ⌜ i < marksSize ⌝ }
     ensures { λ r. ⌜ r ≡ lineOf (violationFrame i) ⌝ }
 {
-    let numbers = [
-        0x58,
-        (i / 1024) as u8,
-        (i / 64 % 16) as u8,
-        (i / 8 % 8) as u8,
-        (i % 8) as u8,
-        0,
-    ];
+    let c = parts_of(i);
+    let numbers = [0x58, c.routine, c.node, c.root, c.state, 0];
     Line { count: 5, numbers }
 }
 
@@ -51,12 +48,12 @@ fn count_line(configurations: usize, violations: usize) -> Line
 
 // The line of configuration i where it is marked and its present state is rejecting; nothing where it is no violation.
 fn put_violation(marks: &[u8], rejecting: &[u8], i: usize, out: &mut [u8], at: usize) -> usize
-    requires { ⌜ (i < marksSize) × (length (now marks) ≡ marksSize) × (length (now rejecting) ≡ 8) × (at + lineSize ≤ length (now out)) ⌝ }
+    requires { ⌜ (i < marksSize) × (length (now marks) ≡ marksSize) × (length (now rejecting) ≡ maxStates) × (at + lineSize ≤ length (now out)) ⌝ }
     ensures { λ next. ⌜ next ≤ at + lineSize ⌝ }
     ensures { λ next. ⌜ ((p : Program) → Rejects (p .automaton) (now (rejecting .entry))
         → Put (map violationFrame (frontWhen (violates p (getD (now (marks .entry)) i 0) i) i [])) (now (out .entry)) (now (out .exit)) at next) ⌝ }
 {
-    let is_violation = (marks[i] != 0) & (rejecting[i % 8] != 0);
+    let is_violation = (marks[i] != 0) & (rejecting[state_of(i)] != 0);
     if is_violation {
         let l = violation_line(i);
         return put_line(out, at, l);
@@ -66,7 +63,7 @@ fn put_violation(marks: &[u8], rejecting: &[u8], i: usize, out: &mut [u8], at: u
 
 // The lines of all violations, at the output's start: one pass over the marks.
 fn put_violations(marks: &[u8], rejecting: &[u8], out: &mut [u8]) -> usize
-    requires { ⌜ (length (now marks) ≡ marksSize) × (length (now rejecting) ≡ 8) × (blockSize ≤ length (now out)) ⌝ }
+    requires { ⌜ (length (now marks) ≡ marksSize) × (length (now rejecting) ≡ maxStates) × (blockSize ≤ length (now out)) ⌝ }
     ensures { λ next. ⌜ next ≤ lineSize * marksSize ⌝ }
     ensures { λ next. ⌜ ((p : Program) → Rejects (p .automaton) (now (rejecting .entry))
         → Put (map violationFrame (violationsFrom p (now (marks .entry)) 0)) (now (out .entry)) (now (out .exit)) 0 next) ⌝ }

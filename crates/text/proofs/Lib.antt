@@ -1,4 +1,3 @@
-pub mod Ways
 pub mod Digits
 pub mod RoundTrip
 pub mod Split

@@ -8,15 +8,10 @@ use lib.Dec.{eqb}
 use lib.ListN.{length, drop, length-append}
 use lib.Seq.{drop-at}
 use Rattle.text.specs.Hex.{hex, hexLine}
-use Rattle.text.specs.Lines.{glue, lines, numbers}
+use Rattle.text.specs.Lines.{firstLine, glue, lines, numbers}
 use Rattle.text.proofs.Digits.{no-digit, no-end}
 use Rattle.text.proofs.RoundTrip.{length-hex, text-of}
 unfoldable pub use Rattle.text.proofs.RoundTrip.{afterLine}
-
--- the first line with its 0A
-unfoldable pub firstLine : List ℕ → List ℕ
-firstLine [] = []
-firstLine (b ∷ s) = b ∷ cond (eqb b 10) [] (firstLine s)
 
 pub lines-first : (b : ℕ) (s : List ℕ) → lines (b ∷ s) ≡ firstLine (b ∷ s) ∷ lines (afterLine (b ∷ s))
 unfolding lines firstLine afterLine

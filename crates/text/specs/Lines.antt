@@ -19,6 +19,11 @@ unfoldable pub lines : List ℕ → List (List ℕ)
 lines [] = []
 lines (b ∷ s) = cond (eqb b 10) ((b ∷ []) ∷ lines s) (glue b (lines s))
 
+-- the first line of a text, with its 0A
+unfoldable pub firstLine : List ℕ → List ℕ
+firstLine [] = []
+firstLine (b ∷ s) = b ∷ cond (eqb b 10) [] (firstLine s)
+
 -- x before the numbers, if there are any
 abbrev pub before : ℕ → Option (List ℕ) → Option (List ℕ)
 before x none = none

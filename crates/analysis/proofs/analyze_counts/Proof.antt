@@ -1,5 +1,6 @@
 use Rattle.analysis.specs.declared.AnalyzeAnswer.the-variants.{Counts}
-use Rattle.reach.specs.Marks.{countSet, violationsFrom}
+use Rattle.reach.specs.Marks.{violationsFrom}
+use Rattle.base.specs.Flags.{countSet}
 use Rattle.program.specs.Decoded.{programOf}
 use lib.ListN.{length}
 use mathlib.Core.List.{List}

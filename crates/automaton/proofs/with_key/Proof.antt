@@ -3,7 +3,7 @@ use mathlib.Core.Path.{_≡_, refl}
 use native.Mathlib.Omega.{arith}
 use lib.ListN.{length}
 use borrow.Author.Needs.{needs}
-use Rattle.automaton.proofs.Entries.{one-more}
+use Rattle.base.proofs.Entries.{one-more}
 use Rattle.automaton.proofs.with_key.Statement.{statement}
 use Rattle.automaton.proofs.with_key.Tie as tie
 

@@ -2,7 +2,7 @@
 use mathlib.Core.Path.{refl}
 use native.Mathlib.Omega.{arith}
 use borrow.Author.Tests.{eq-eqb, ne-eqb}
-use Rattle.prune.proofs.Asked.{past-end}
+use Rattle.base.proofs.SetFlags.{past-end}
 use borrow.Author.Needs.{needs}
 use Rattle.prune.proofs.keep_when.Statement.{statement}
 use Rattle.prune.proofs.keep_when.Tie as tie

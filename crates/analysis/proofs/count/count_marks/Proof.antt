@@ -7,7 +7,7 @@ use native.Mathlib.Omega.{arith}
 use lib.ListN.{length}
 use borrow.Author.Tests.{eq-eqb, ne-eqb}
 use borrow.Author.Needs.{needs}
-use Rattle.reach.specs.Marks.{countSet}
+use Rattle.base.specs.Flags.{countSet}
 use Rattle.analysis.proofs.Counts.{Counted, counts-set, counted-one, counted-none, counted-all}
 use Rattle.analysis.proofs.count.count_marks.Statement.{statement}
 use Rattle.analysis.proofs.count.count_marks.Tie as tie

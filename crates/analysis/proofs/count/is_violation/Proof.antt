@@ -1,14 +1,16 @@
--- `analysis::count::is_violation` meets its contract. The code's `i % 8` is the state of number `i`.
-use Prim.Native.Nat.{_%_}
-use native.Mathlib.Omega.{arith}
+-- `analysis::count::is_violation` meets its contract.
 use borrow.Author.Needs.{needs}
 use Rattle.reach.specs.Configurations.{stateOf}
+use Rattle.reach.proofs.Numbers.{state-small}
 use Rattle.analysis.proofs.count.is_violation.Statement.{statement}
 use Rattle.analysis.proofs.count.is_violation.Tie as tie
 
 returns : tie.Need-returns
-unfolding stateOf
-returns c p r = rw (r .rejects (c .before .before .args .i % 8) (omega arith))
+returns c p r =
+    let state = c .before in
+    let at = state .state-of .ensures .0 in
+    let i = state .before .before .before .before .args .i in
+    rw (at, r .rejects (stateOf i) (state-small i))
 
 pub is-violation-spec : {M : Type 1} → statement M
-is-violation-spec = tie.close (tie.spec (λ c. search needs) (λ c. search needs) returns)
+is-violation-spec = tie.close (tie.spec (λ c. search needs) (λ c κs. search needs) (λ c. search needs) returns)

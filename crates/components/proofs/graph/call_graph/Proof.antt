@@ -2,7 +2,7 @@
 -- a pass has set no more, the flags are closed. The measure: the flags that are not set.
 use Rattle.program.specs.Program.{Program}
 use Rattle.program.specs.Decoded.{programOf}
-use Rattle.reach.proofs.Flags.{none-on}
+use Rattle.base.proofs.SetFlags.{none-on}
 use Rattle.components.proofs.Growth.{Growing, growing-start, growing-turn, growing-less, left}
 use Rattle.components.proofs.Keyed.{KeysOf, keys-of}
 use Rattle.components.proofs.Leading.{LeadAt, LeadsRules, edges-obey, graph-flagged}

@@ -3,7 +3,7 @@ use Prim.Native.Nat.{_+_, _*_}
 use mathlib.Core.Path.{_≡_}
 use mathlib.Core.Bool.{true, false, _||_}
 use lib.Dec.{eqb}
-use Rattle.automaton.specs.Flags.{isSet}
+use Rattle.base.specs.Flags.{isSet}
 use native.Mathlib.Omega.{arith}
 use borrow.Author.Needs.{needs}
 use Rattle.components.proofs.graph.is_counted.Statement.{statement}

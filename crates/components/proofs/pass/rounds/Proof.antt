@@ -1,6 +1,6 @@
 -- `components::pass::rounds` meets its contract. The loop's invariant: the marks have grown by the edges of the component; each round but the last marks more.
 use Rattle.program.specs.Decoded.{programOf}
-use Rattle.reach.specs.Marks.{countSet}
+use Rattle.base.specs.Flags.{countSet}
 use Rattle.components.specs.PassParts.{Grows}
 use Rattle.components.proofs.Rounds.{grows-none, grown-ready, grows-then, rounds-less, rounds-end}
 use Prim.Native.Nat.{_-_}

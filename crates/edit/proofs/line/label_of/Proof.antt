@@ -1,4 +1,4 @@
-use Rattle.text.proofs.Ways.{tests}
+use Rattle.base.proofs.Ways.{tests}
 use Rattle.edit.proofs.line.label_of.Statement.{statement}
 use Rattle.edit.proofs.line.label_of.Tie as tie
 

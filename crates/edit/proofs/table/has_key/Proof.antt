@@ -6,7 +6,8 @@ use lib.ListN.{length}
 use borrow.Author.Needs.{needs}
 use borrow.Author.Tests.{eq-eqb, ne-eqb}
 use Rattle.automaton.specs.Automaton.{member}
-use Rattle.automaton.proofs.Entries.{Left, asks-member, found, passed, none-left}
+use Rattle.base.proofs.Entries.{Left, found, passed, none-left}
+use Rattle.automaton.proofs.Entries.{asks-member}
 use Rattle.edit.proofs.table.has_key.Statement.{statement}
 use Rattle.edit.proofs.table.has_key.Tie as tie
 

@@ -3,7 +3,7 @@ use mathlib.Core.Path.{_≡_}
 use native.Mathlib.Omega.{arith}
 use borrow.Author.Needs.{needs}
 use borrow.Author.Tests.{eqb-true}
-use Rattle.program.proofs.Judged.{both}
+use Rattle.base.proofs.Bools.{both}
 use Rattle.edit.proofs.Making.{next-two, next-one}
 use Rattle.edit.proofs.table.put_next.Statement.{statement}
 use Rattle.edit.proofs.table.put_next.Tie as tie

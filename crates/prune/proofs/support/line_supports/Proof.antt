@@ -10,7 +10,7 @@ unfolding lineSupports
 returns c =
     let z = c .before .before in
     let t = z .before .before .before .transition .ensures in
-    let e = rw (t .1, t .2) at (z .if1 .taken) in rw e (rw (t .0) at (c .is-kept .ensures))
+    let e = rw (t .1, t .2) at (z .if1 .taken) in rw e (rw (t .0) at (c .is-set .ensures))
 
 returns-2 : tie.Need-returns-2
 unfolding lineSupports

@@ -1,7 +1,7 @@
 -- `prune::support::return_kept` meets its contract. The loop's invariant: the states from `y` on decide.
 use mathlib.Core.Bool.{_&&_}
 use Prim.Native.Nat.{_+_, _-_, _*_}
-use Rattle.automaton.specs.Flags.{isSet}
+use Rattle.base.specs.Flags.{isSet}
 use Rattle.prune.specs.Parts.{returnKept}
 use Rattle.prune.proofs.Asked.{Trying, try-all, try-found, try-next, try-none}
 use borrow.Author.Needs.{needs}
@@ -22,13 +22,13 @@ unfolding returnKept
 returns c =
     let p = c .before .before .before .before in
     try-found (p .loop .inv) (c .before .before .before .loop-test .taken)
-    (rw (← (c .before .before .is-kept .ensures), ← (c .before .is-kept2 .ensures)) (c .if1 .taken))
+    (rw (← (c .before .before .is-set .ensures), ← (c .before .is-set2 .ensures)) (c .if1 .taken))
 
 loop-again : tie.Need-loop-again Inv-loop μ-loop
 loop-again c =
     let p = c .before .before .before .before in
     try-next (p .loop .inv) (c .before .before .before .loop-test .taken)
-    (rw (← (c .before .before .is-kept .ensures), ← (c .before .is-kept2 .ensures)) (c .if1 .left))
+    (rw (← (c .before .before .is-set .ensures), ← (c .before .is-set2 .ensures)) (c .if1 .left))
 
 returns-2 : tie.Need-returns-2 Inv-loop μ-loop
 unfolding returnKept

@@ -1,7 +1,7 @@
 -- `prune::support::root_kept` meets its contract. The loop's invariant: the roots from `x` on decide.
 use mathlib.Core.Path.{sym, _∙_}
 use Prim.Native.Nat.{_+_, _-_, _*_}
-use Rattle.automaton.specs.Flags.{isSet}
+use Rattle.base.specs.Flags.{isSet}
 use Rattle.prune.specs.Parts.{rootKept}
 use Rattle.prune.proofs.Asked.{Trying, try-all, try-found, try-next, try-none}
 use borrow.Author.Needs.{needs}
@@ -19,10 +19,10 @@ loop-holds c = try-all _ _
 
 returns : tie.Need-returns Inv-loop μ-loop
 unfolding rootKept
-returns c = try-found (c .before .before .before .loop .inv) (c .before .before .loop-test .taken) (sym (c .before .is-kept .ensures) ∙ c .if1 .taken)
+returns c = try-found (c .before .before .before .loop .inv) (c .before .before .loop-test .taken) (sym (c .before .is-set .ensures) ∙ c .if1 .taken)
 
 loop-again : tie.Need-loop-again Inv-loop μ-loop
-loop-again c = try-next (c .before .before .before .loop .inv) (c .before .before .loop-test .taken) (sym (c .before .is-kept .ensures) ∙ c .if1 .left)
+loop-again c = try-next (c .before .before .before .loop .inv) (c .before .before .loop-test .taken) (sym (c .before .is-set .ensures) ∙ c .if1 .left)
 
 returns-2 : tie.Need-returns-2 Inv-loop μ-loop
 unfolding rootKept

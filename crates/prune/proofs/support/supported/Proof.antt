@@ -5,7 +5,7 @@ use mathlib.Core.Bool.{false}
 use Prim.Native.Nat.{ℕ, _<_, _≤_, _-_}
 use native.Mathlib.Omega.{arith}
 use lib.ListN.{length}
-use Rattle.automaton.proofs.Entries.{Left, found, passed, none-left}
+use Rattle.base.proofs.Entries.{Left, found, passed, none-left}
 use Rattle.program.specs.Program.{Edge}
 use Rattle.program.specs.Decoded.{edgeOf}
 use Rattle.prune.specs.Parts.{anyKey, lineSupports, edgeSupports, supports}

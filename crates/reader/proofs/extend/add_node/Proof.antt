@@ -1,4 +1,4 @@
-use Rattle.automaton.proofs.Entries.{one-more}
+use Rattle.base.proofs.Entries.{one-more}
 use Rattle.reader.proofs.Views.{unfilled}
 use lib.ListN.{length}
 use native.Mathlib.Omega.{arith}

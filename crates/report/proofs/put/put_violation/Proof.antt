@@ -19,19 +19,21 @@ returns c =
     let q = c .before .before in
     let v = q .before .before in
     let n : v .violation-line .result .count ≡ 5 = ap (λ (l : Line). l .count) (v .violation-line .ensures) in
-    let a = v .before .before .before .before .before .before .before .args in (
+    let state = v .before .before .before in
+    let a = state .before .before .before .before .before .args in (
       omega (arith, q .put-line .ensures .0),
-      λ p r. put-violation p (a .marks .now) (a .rejecting .now) (a .i) r (v .before .if1 .taken)
+      λ p r. put-violation p (a .marks .now) (a .rejecting .now) (a .i) r (rw (state .state-of .ensures .0) at (v .before .if1 .taken))
           (put-one (v .violation-line .result) (violationFrame (a .i)) (v .violation-line .ensures) (omega arith) (q .put-line .ensures)),
     )
 
 returns-2 : tie.Need-returns-2
 returns-2 c =
-    let a = c .before .before .before .before .before .before .args in
-    (omega arith, λ p r. put-nothing p (a .marks .now) (a .rejecting .now) (a .i) r (c .if1 .left))
+    let state = c .before .before in
+    let a = state .before .before .before .before .before .args in
+    (omega arith, λ p r. put-nothing p (a .marks .now) (a .rejecting .now) (a .i) r (rw (state .state-of .ensures .0) at (c .if1 .left)))
 
 pub put-violation-spec : {M : Type 1} → statement M
 put-violation-spec =
     tie.close
-    (tie.spec (λ c. search needs) (λ c. search needs) (λ c κs. search needs) put-line-requires (λ c. search needs)
-    returns returns-2)
+    (tie.spec (λ c. search needs) (λ c κs. search needs) (λ c. search needs) (λ c κs. search needs) put-line-requires
+    (λ c. search needs) returns returns-2)

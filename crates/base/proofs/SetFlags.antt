@@ -1,21 +1,17 @@
 -- Bytes that are set, in a list of them.
-use mathlib.Core.Path.{_≡_, refl, sym}
+use mathlib.Core.Path.{_≡_, refl, ap}
 use mathlib.Core.Logic.{_⊎_, inl, inr, _≢_}
-use mathlib.Core.Bool.{Bool, true, false}
-use mathlib.Core.Option.{Option, none, some, Option·none-ne-some, Option·some-injective}
+use mathlib.Core.Bool.{Bool, true, false, not}
 use mathlib.Core.List.{List, [], _∷_}
 use Prim.Native.Nat.{ℕ, zero, suc, _+_, _≤_, _<_}
 use native.Mathlib.Omega.{arith}
 use native.Mathlib.Decide.{ℕ-discrete}
 use native.Mathlib.Nat.{suc-ne-zero}
 use lib.Dec.{eqb}
-use lib.ListN.{length, getD, set, replicate, length-set}
+use lib.ListN.{length, getD, set, replicate, length-set, List·getD-eq-default}
 use lib.Seq.{getD-set-same, getD-set-other}
-use borrow.Author.Tests.{eqb-true, eqb-false, ne-eqb}
-use Rattle.reach.specs.Worklist.{lowest}
-
-pub record On (l : List ℕ) (j : ℕ) : Type 0 where
-  pub on : getD l j 0 ≢ 0
+use borrow.Author.Tests.{eqb-true, eqb-false, not-true, ne-eqb}
+use Rattle.base.specs.Flags.{isSet, On}
 
 pub dec-on : (l : List ℕ) (j : ℕ) → Dec (On l j)
 dec-on l j = elim (ℕ-discrete (getD l j 0) 0) [ yes e ↦ no (λ h. h .on e) | no e ↦ yes (record { on = e }) ]
@@ -33,6 +29,18 @@ pub on-lt : (l : List ℕ) (j : ℕ) → On l j → j < length l
 on-lt [] j h = absurd (h .on refl)
 on-lt (x ∷ xs) zero h = omega arith
 on-lt (x ∷ xs) (suc j) h = let k = on-lt xs j (record { on = h .on }) in omega arith
+
+-- ---- the test says so
+
+pub set-byte : (l : List ℕ) (j : ℕ) → isSet l j ≡ true → getD l j 0 ≢ 0
+set-byte l j e = eqb-false (getD l j 0) 0 (not-true (eqb (getD l j 0) 0) e)
+
+pub byte-set : (l : List ℕ) (j : ℕ) → getD l j 0 ≢ 0 → isSet l j ≡ true
+byte-set l j h = ap not (ne-eqb (getD l j 0) 0 h)
+
+-- past the end nothing is set
+pub past-end : (l : List ℕ) (at : ℕ) → length l ≤ at → false ≡ isSet l at
+past-end l at h = rw (List·getD-eq-default l 0 h) refl
 
 -- ---- a byte is set to v
 
@@ -87,37 +95,3 @@ zeros (suc n) (suc j) = zeros n j
 
 pub none-on : (n : ℕ) {j : ℕ} {X : Type 0} → On (replicate n 0) j → X
 none-on n {j} h = absurd (h .on (zeros n j))
-
--- ---- the first that is set
-
-record Found (l : List ℕ) (i k : ℕ) : Type 0 where
-  past : ℕ
-  is : k ≡ i + past
-  found : On l past
-
-found-at : (l : List ℕ) (i k : ℕ) → lowest l i ≡ some k → Found l i k
-unfolding lowest
-found-at [] i k h = absurd (Option·none-ne-some k h)
-found-at (b ∷ bs) i k h = go (λ x. found-at bs (i + 1) k x) (eqb b 0) refl h
-  where
-    go : (lowest bs (i + 1) ≡ some k → Found bs (i + 1) k) → (t : Bool) → eqb b 0 ≡ t
-        → (elim t as (λ x. Option ℕ) [ true ↦ lowest bs (i + 1) | false ↦ some i ]) ≡ some k → Found (b ∷ bs) i k
-    go below true e h = let z = below h in let w = z .is in record { past = suc (z .past); is = omega arith; found = record { on = z .found .on } }
-    go below false e h = record { past = 0; is = omega (arith, Option·some-injective i k h); found = record { on = eqb-false b 0 e } }
-
-pub lowest-on : (l : List ℕ) (i : ℕ) → lowest l 0 ≡ some i → On l i
-lowest-on l i h = let z = found-at l 0 i h in let e : i ≡ z .past = omega (arith, z .is) in rw e (z .found)
-
-none-from : (l : List ℕ) (i : ℕ) → lowest l i ≡ none → (j : ℕ) → ¬ (On l j)
-unfolding lowest
-none-from [] i h j x = x .on refl
-none-from (b ∷ bs) i h j x = go (λ y. none-from bs (i + 1) y) (eqb b 0) refl h j x
-  where
-    go : (lowest bs (i + 1) ≡ none → (j : ℕ) → ¬ (On bs j)) → (t : Bool) → eqb b 0 ≡ t
-        → _≡_ {A = Option ℕ} (elim t as (λ x. Option ℕ) [ true ↦ lowest bs (i + 1) | false ↦ some i ]) none → (j : ℕ) → ¬ (On (b ∷ bs) j)
-    go below true e h zero x = x .on (eqb-true b 0 e)
-    go below true e h (suc j) x = below h j (record { on = x .on })
-    go below false e h j x = Option·none-ne-some i (sym h)
-
-pub lowest-none : (l : List ℕ) → lowest l 0 ≡ none → (j : ℕ) → ¬ (On l j)
-lowest-none l h = none-from l 0 h

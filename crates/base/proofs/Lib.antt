@@ -1,0 +1,5 @@
+pub mod Ways
+pub mod Bools
+pub mod Entries
+pub mod SetFlags
+pub mod Deciding

@@ -1,0 +1,2 @@
+// What every library needs of bytes that are flags.
+pub mod flags;
