@@ -12,7 +12,7 @@ use borrow.Author.Tests.{le-leb, lt-leb, lt-ltb, le-ltb}
 use Rattle.program.specs.Program.{Program}
 use Rattle.reach.specs.Marks.{violates, frontWhen, violationsFrom, firstFrom}
 use Rattle.base.specs.Flags.{countSet}
-use Rattle.analysis.specs.Parts.{within}
+use Rattle.worklist.specs.Parts.{within}
 
 -- f counts the bytes that meet a test, of a list whose first byte has number i
 pub record Counts (f : List ℕ → ℕ → ℕ) (t : ℕ → ℕ → Bool) : Type 0 where

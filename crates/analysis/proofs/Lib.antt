@@ -1,13 +1,2 @@
-pub mod Steps
-pub mod Branches
-pub mod Meaning
-pub mod Taken
 pub mod Counts
-pub mod Lowest
-pub mod Following
-pub mod Begun
-pub mod Filling
-pub mod Known
-pub mod Awaited
 pub mod Answered
-pub mod Slice

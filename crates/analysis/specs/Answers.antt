@@ -1,15 +1,16 @@
 -- The answers of the analysis and of the list of violations, and the lent bytes afterwards: functions of everything lent.
 use Prim.Native.Nat.{ℕ}
-use mathlib.Core.Bool.{Bool, true, false, cond, _&&_}
+use mathlib.Core.Bool.{Bool, true, false, _&&_, not}
 use mathlib.Core.Option.{Option, some, none}
 use mathlib.Core.List.{List, [], _∷_}
 use lib.Dec.{eqb}
 use lib.ListN.{length}
-use Rattle.program.specs.Sizes.{marksSize}
 use Rattle.program.specs.Program.{Program}
 use Rattle.program.specs.Reading.{readFile}
+use Rattle.program.specs.Checks.{Row, row, firstMet, verdictOf, checked}
 use Rattle.program.specs.declared.Verdict.{Verdict}
 use Rattle.program.specs.declared.Verdict.the-variants as verdict
+use Rattle.program.specs.declared.Length.the-variants.{NotAsked, Of}
 use Rattle.reach.specs.Configurations.{none-set}
 use Rattle.reach.specs.Worklist.{analysis}
 use Rattle.reach.specs.Marks.{freshMarks, violations, firstFrom}
@@ -19,15 +20,24 @@ use Rattle.analysis.specs.declared.AnalyzeAnswer.the-variants as analyze
 use Rattle.analysis.specs.declared.NextAnswer.{NextAnswer}
 use Rattle.analysis.specs.declared.NextAnswer.the-variants as next
 
--- ---- the checks before anything is touched: the file (1 to 8), then the marks' length (9), then the working buffer's (11)
+-- ---- the checks: before anything is touched, the file and the lengths of the marks and of the working buffer
 
-abbrev pub checkedBy : Verdict → ℕ → ℕ → Verdict
-checkedBy verdict.Accepted marks work =
-    cond (eqb marks marksSize) (cond (eqb work marksSize) verdict.Accepted (verdict.Refused 11 0)) (verdict.Refused 9 0)
-checkedBy (verdict.Refused n line) marks work = verdict.Refused n line
+abbrev pub checkedMarks : List ℕ → List ℕ → List ℕ → Verdict
+checkedMarks file marks work = checked file (Of (length marks)) NotAsked (Of (length work))
 
-unfoldable pub checked : List ℕ → ℕ → ℕ → Verdict
-checked file marks work = checkedBy (readFile file .verdict) marks work
+-- every byte is the same
+unfoldable pub same : List ℕ → List ℕ → Bool
+same [] [] = true
+same [] (y ∷ ys) = false
+same (x ∷ xs) [] = false
+same (x ∷ xs) (y ∷ ys) = eqb x y && same xs ys
+
+-- then, in the working buffer: any byte of the marks differs from the program's own
+abbrev pub foreignRow : Program → List ℕ → Row
+foreignRow p marks = row 17 (not (same marks (freshMarks p)))
+
+abbrev pub owned : Program → List ℕ → Verdict
+owned p marks = verdictOf (firstMet (foreignRow p marks ∷ []))
 
 -- ---- `analyze`
 
@@ -37,7 +47,7 @@ analyzeBy verdict.Accepted p = analyzed.Counts (countSet (freshMarks p)) (length
 analyzeBy (verdict.Refused n line) p = analyzed.Refused n line
 
 unfoldable pub analyzeAnswer : List ℕ → List ℕ → List ℕ → AnalyzeAnswer
-analyzeAnswer file marks work = analyzeBy (checked file (length marks) (length work)) (readFile file .program)
+analyzeAnswer file marks work = analyzeBy (checkedMarks file marks work) (readFile file .program)
 
 -- the new bytes on success, the old ones on a refusal
 abbrev pub onSuccess : Verdict → List ℕ → List ℕ → List ℕ
@@ -45,32 +55,29 @@ onSuccess verdict.Accepted new old = new
 onSuccess (verdict.Refused n line) new old = old
 
 unfoldable pub marksAfter : List ℕ → List ℕ → List ℕ → List ℕ
-marksAfter file marks work = onSuccess (checked file (length marks) (length work)) (freshMarks (readFile file .program)) marks
+marksAfter file marks work = onSuccess (checkedMarks file marks work) (freshMarks (readFile file .program)) marks
 
--- the working buffer is all zero once the checks are passed
+-- the working buffer is all zero once the file and the lengths are checked
 unfoldable pub workAfter : List ℕ → List ℕ → List ℕ → List ℕ
-workAfter file marks work = onSuccess (checked file (length marks) (length work)) none-set work
+workAfter file marks work = onSuccess (checkedMarks file marks work) none-set work
 
 -- ---- `next_violation`
-
--- every byte is the same
-unfoldable pub same : List ℕ → List ℕ → Bool
-same [] [] = true
-same [] (y ∷ ys) = false
-same (x ∷ xs) [] = false
-same (x ∷ xs) (y ∷ ys) = eqb x y && same xs ys
 
 abbrev pub foundOf : Option ℕ → NextAnswer
 foundOf none = next.Nothing
 foundOf (some i) = next.Found i
 
--- foreign marks (17), then the first violation not below the number, or none
+abbrev pub foundBy : Verdict → Option ℕ → NextAnswer
+foundBy verdict.Accepted v = foundOf v
+foundBy (verdict.Refused n line) v = next.Refused n line
+
+-- foreign marks are refused; else the first violation not below the number is found, or none
 abbrev pub nextBy : Verdict → Program → List ℕ → ℕ → NextAnswer
-nextBy verdict.Accepted p marks low = cond (same marks (freshMarks p)) (foundOf (firstFrom low (violations p))) (next.Refused 17 0)
+nextBy verdict.Accepted p marks low = foundBy (owned p marks) (firstFrom low (violations p))
 nextBy (verdict.Refused n line) p marks low = next.Refused n line
 
 unfoldable pub nextAnswer : List ℕ → List ℕ → List ℕ → ℕ → NextAnswer
-nextAnswer file marks work low = nextBy (checked file (length marks) (length work)) (readFile file .program) marks low
+nextAnswer file marks work low = nextBy (checkedMarks file marks work) (readFile file .program) marks low
 
 -- ---- the numbers of the answers; 0 where there is none
 

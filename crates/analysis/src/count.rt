@@ -1,25 +1,15 @@
-// Passes over bytes, each of which is a flag: clearing, counting, and the search for a violation.
+// Passes over bytes, each of which is a flag: counting, and the search for a violation.
 use reach::configuration::state_of;
 ghost use mathlib.Core.Path.{_≡_};
 ghost use Prim.Native.Nat.{ℕ, _<_};
-ghost use lib.ListN.{length, getD, replicate};
+ghost use lib.ListN.{length, getD};
 ghost use Rattle.automaton.specs.Sizes.{maxStates};
 ghost use Rattle.program.specs.Sizes.{marksSize};
 ghost use Rattle.automaton.specs.Flags.{Rejects};
 ghost use Rattle.program.specs.Program.{Program};
 ghost use Rattle.reach.specs.Marks.{violates, violationsFrom, firstFrom};
 ghost use Rattle.base.specs.Flags.{countSet};
-ghost use Rattle.analysis.specs.Parts.{within};
-
-pub fn clear(bytes: &mut [u8])
-    ensures { λ r. ⌜ now (bytes .exit) ≡ replicate (length (now (bytes .entry))) 0 ⌝ }
-{
-    let mut i: usize = 0;
-    while i < bytes.len() {
-        bytes[i] = 0;
-        i = i + 1;
-    }
-}
+ghost use Rattle.worklist.specs.Parts.{within};
 
 pub fn count_marks(marks: &[u8]) -> usize
     ensures { λ r. ⌜ r ≡ countSet (now (marks .entry)) ⌝ }
@@ -59,8 +49,8 @@ pub fn count_violations(marks: &[u8], rejecting: &[u8]) -> usize
     n
 }
 
-// The first violation that is not below `from`; a number past the marks where there is none. The caller has measured the
-// marks (refusal 9), and the flags have the size of `StateFlags`: hence the `requires`.
+// The first violation that is not below `from`; a number past the marks where there is none. The caller has measured
+// the marks (refusal 9), and the flags have the size of `StateFlags`: hence the `requires`.
 pub fn first_violation(marks: &[u8], rejecting: &[u8], from: usize) -> usize
     requires { ⌜ (length (now marks) ≡ marksSize) × (length (now rejecting) ≡ maxStates) ⌝ }
     ensures { λ r. ⌜ ((p : Program) → Rejects (p .automaton) (now (rejecting .entry)) → firstFrom from (violationsFrom p (now (marks .entry)) 0) ≡ within marksSize r) ⌝ }

@@ -1,15 +1,6 @@
 // The full analysis of a file's program, and the list of its violations.
 pub mod count;
-pub mod exits;
-mod follow;
-pub mod grow;
-mod marking;
-pub mod number;
 pub mod own;
-pub mod part;
-mod pending;
-pub mod run;
-mod take;
 
 use automaton::flags::rejecting_flags;
 use count::count_marks;
@@ -17,9 +8,11 @@ use count::count_violations;
 use count::first_violation;
 use own::is_own;
 use program::DecodedProgram;
+use program::Length;
 use program::Verdict;
 use program::sizes::MARKS_SIZE;
-use run::analyze_program;
+use reader::checks::checked_program;
+use worklist::run::analyze_program;
 ghost use mathlib.Core.Path.{_≡_};
 ghost use lib.ListN.{length};
 ghost use Rattle.program.specs.Sizes.{marksSize};
@@ -28,8 +21,8 @@ ghost use Rattle.program.specs.Decoded.{programOf};
 ghost use Rattle.program.specs.declared.Verdict.the-variants.{Accepted};
 ghost use Rattle.reach.specs.Configurations.{none-set};
 ghost use Rattle.reach.specs.Marks.{freshMarks};
-ghost use Rattle.analysis.specs.Answers.{checkedBy, analyzeBy, analyzeAnswer, marksAfter, workAfter, foundOf, nextBy, nextAnswer};
-ghost use Rattle.analysis.specs.Parts.{within};
+ghost use Rattle.analysis.specs.Answers.{analyzeBy, analyzeAnswer, marksAfter, workAfter, owned, foundOf, nextBy, nextAnswer};
+ghost use Rattle.worklist.specs.Parts.{within};
 
 // The counts of configurations, violations and iterations; or a refusal, at a line.
 pub enum AnalyzeAnswer {
@@ -42,24 +35,6 @@ pub enum NextAnswer {
     Found(usize),
     Nothing,
     Refused(u8, usize),
-}
-
-// The file's verdict, then the lengths of the marks (9) and of the working buffer (11).
-pub fn check_buffers(v: Verdict, marks: usize, work: usize) -> Verdict
-    ensures { λ r. ⌜ r ≡ checkedBy v marks work ⌝ }
-{
-    match v {
-        Verdict::Refused(n, line) => Verdict::Refused(n, line),
-        Verdict::Accepted => {
-            if marks == MARKS_SIZE {
-                if work == MARKS_SIZE {
-                    return Verdict::Accepted;
-                }
-                return Verdict::Refused(11, 0);
-            }
-            Verdict::Refused(9, 0)
-        }
-    }
 }
 
 fn analyze_counts(p: DecodedProgram, marks: &mut [u8], work: &mut [u8]) -> AnalyzeAnswer
@@ -83,10 +58,11 @@ pub fn analyze(file: &[u8], marks: &mut [u8], work: &mut [u8]) -> AnalyzeAnswer
         × (now (marks .exit) ≡ marksAfter (now (file .entry)) (now (marks .entry)) (now (work .entry)))
         × (now (work .exit) ≡ workAfter (now (file .entry)) (now (marks .entry)) (now (work .entry))) ⌝ }
 {
-    let r = reader::read(file);
+    let marks_length = Length::Of(marks.len());
+    let work_length = Length::Of(work.len());
+    let r = checked_program(file, marks_length, Length::NotAsked, work_length);
     let v = r.verdict;
-    let checked = check_buffers(v, marks.len(), work.len());
-    match checked {
+    match v {
         Verdict::Refused(n, line) => AnalyzeAnswer::Refused(n, line),
         Verdict::Accepted => {
             let p = r.program;
@@ -95,20 +71,36 @@ pub fn analyze(file: &[u8], marks: &mut [u8], work: &mut [u8]) -> AnalyzeAnswer
     }
 }
 
-// Marks that differ from the program's own are refused (17); else the first violation not below the number is sought.
+// Marks that differ from the program's own are refused (17). The working buffer is all zero afterwards. The reader accepts only
+// well-formed programs, and the caller has measured the buffers (refusals 9 and 11): hence the `requires`.
+pub fn check_own(p: DecodedProgram, marks: &[u8], work: &mut [u8]) -> Verdict
+    requires { ⌜ WellFormed (programOf p) ⌝ }
+    requires { ⌜ (length (now marks) ≡ marksSize) × (length (now work) ≡ marksSize) ⌝ }
+    ensures { λ r. ⌜ (r ≡ owned (programOf p) (now (marks .entry))) × (now (work .exit) ≡ none-set) ⌝ }
+{
+    if is_own(p, marks, work) {
+        return Verdict::Accepted;
+    }
+    Verdict::Refused(17, 0)
+}
+
+// Where the marks are the program's own, the first violation not below the number is sought.
 fn search_own(p: DecodedProgram, marks: &[u8], work: &mut [u8], low: usize) -> NextAnswer
     requires { ⌜ WellFormed (programOf p) ⌝ }
     requires { ⌜ (length (now marks) ≡ marksSize) × (length (now work) ≡ marksSize) ⌝ }
     ensures { λ r. ⌜ (r ≡ nextBy Accepted (programOf p) (now (marks .entry)) low) × (now (work .exit) ≡ none-set) ⌝ }
 {
-    if is_own(p, marks, work) {
-        let rule = p.automaton;
-        let rejecting = rejecting_flags(rule);
-        let flags = rejecting.flags;
-        let i = first_violation(marks, &flags, low);
-        return found(i);
+    let own = check_own(p, marks, work);
+    match own {
+        Verdict::Refused(n, line) => NextAnswer::Refused(n, line),
+        Verdict::Accepted => {
+            let rule = p.automaton;
+            let rejecting = rejecting_flags(rule);
+            let flags = rejecting.flags;
+            let i = first_violation(marks, &flags, low);
+            found(i)
+        }
     }
-    NextAnswer::Refused(17, 0)
 }
 
 // A search's result past the end says that there is none.
@@ -127,10 +119,11 @@ pub fn next_violation(file: &[u8], marks: &[u8], work: &mut [u8], low: usize) ->
     ensures { λ r. ⌜ (r ≡ nextAnswer (now (file .entry)) (now (marks .entry)) (now (work .entry)) low)
         × (now (work .exit) ≡ workAfter (now (file .entry)) (now (marks .entry)) (now (work .entry))) ⌝ }
 {
-    let r = reader::read(file);
+    let marks_length = Length::Of(marks.len());
+    let work_length = Length::Of(work.len());
+    let r = checked_program(file, marks_length, Length::NotAsked, work_length);
     let v = r.verdict;
-    let checked = check_buffers(v, marks.len(), work.len());
-    match checked {
+    match v {
         Verdict::Refused(n, line) => NextAnswer::Refused(n, line),
         Verdict::Accepted => {
             let p = r.program;

@@ -1,7 +1,7 @@
 // Whether marks are a program's own; those that are not are foreign (refusal 17).
-use crate::run::analyze_program;
 use program::DecodedProgram;
 use program::sizes::MARKS_SIZE;
+use worklist::run::analyze_program;
 ghost use mathlib.Core.Path.{_≡_};
 ghost use lib.ListN.{length};
 ghost use Rattle.program.specs.Sizes.{marksSize};
@@ -11,8 +11,8 @@ ghost use Rattle.reach.specs.Configurations.{none-set};
 ghost use Rattle.reach.specs.Marks.{freshMarks};
 ghost use Rattle.analysis.specs.Answers.{same};
 
-// The marks are compared with those of a full analysis. The reader accepts only well-formed programs, and the caller has
-// measured the working buffer (refusal 11): hence the `requires`.
+// The marks are compared with those of a full analysis. The reader accepts only well-formed programs, and the caller
+// has measured the working buffer (refusal 11): hence the `requires`.
 pub fn is_own(p: DecodedProgram, marks: &[u8], work: &mut [u8]) -> bool
     requires { ⌜ WellFormed (programOf p) × (length (now work) ≡ marksSize) ⌝ }
     ensures { λ r. ⌜ (r ≡ same (now (marks .entry)) (freshMarks (programOf p))) × (now (work .exit) ≡ none-set) ⌝ }

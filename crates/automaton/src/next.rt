@@ -1,10 +1,15 @@
 // The automaton's transitions as a table: may it go from one state to another on an action?
 use crate::DecodedAutomaton;
+use crate::sizes::MAX_ACTIONS;
+use crate::sizes::MAX_STATES;
 use crate::sizes::NEXT_STATES_SIZE;
 use crate::transition;
 use base::flags::set_flag;
+ghost use mathlib.Core.Path.{_≡_};
+ghost use Prim.Native.Nat.{_<_, _≤_, _+_};
+ghost use Rattle.automaton.specs.Sizes.{maxStates, maxActions, nextStatesSize};
 ghost use Rattle.automaton.specs.Decoded.{automatonOf};
-ghost use Rattle.automaton.specs.Flags.{Answers, Placed};
+ghost use Rattle.automaton.specs.Flags.{Answers, Placed, nextPlace};
 
 pub struct NextStates {
     pub flags: [u8; NEXT_STATES_SIZE],
@@ -47,4 +52,13 @@ pub fn next_states(r: DecodedAutomaton) -> NextStates
         i = i + 1;
     }
     NextStates { flags }
+}
+
+// Where the answers for a state and an action stand: one for each next state, in turn. Past the sizes there are none: hence
+// the `requires`.
+pub fn answers_at(q: u8, a: u8) -> usize
+    requires { ⌜ (q < maxStates) × (a < maxActions) ⌝ }
+    ensures { λ r. ⌜ (r ≡ nextPlace q a 0) × (r + maxStates ≤ nextStatesSize) ⌝ }
+{
+    (q as usize * MAX_ACTIONS + a as usize) * MAX_STATES
 }

@@ -10,7 +10,7 @@ use lib.Dec.{eqb}
 use lib.ListN.{length, getD}
 use borrow.Author.Tests.{eqb-true, eqb-false}
 use Rattle.reach.specs.Configurations.{InRange, number}
-use Rattle.analysis.specs.Parts.{Filled}
+use Rattle.worklist.specs.Parts.{Filled}
 use Rattle.components.specs.Parts.{Member, joinedFlag}
 use Rattle.components.specs.Turns.{Joined, Differs, Says}
 

@@ -16,7 +16,7 @@ use Rattle.program.specs.WellFormed.{WellFormed}
 use Rattle.base.proofs.Bools.{both}
 use Rattle.base.proofs.SetFlags.{dec-on}
 use Rattle.reach.proofs.Sizes.{sizes}
-use Rattle.analysis.specs.Parts.{Filled}
+use Rattle.worklist.specs.Parts.{Filled}
 use Rattle.components.specs.Components.{CallEdge, Leads, directly, through, Together}
 use Rattle.components.specs.Parts.{Flagged}
 use Rattle.components.specs.Graphs.{togetherFlag, rankFlag, rankBelow, rankOf}

@@ -14,7 +14,7 @@ use Rattle.program.specs.WellFormed.{WellFormed}
 use Rattle.program.specs.Decoded.{edgeOf, programOf}
 use Rattle.program.specs.declared.DecodedProgram.{DecodedProgram}
 use Rattle.reach.specs.Runs.{Step, labelOf, stepOf, HasStep}
-use Rattle.analysis.proofs.Begun.{take-min}
+use Rattle.worklist.proofs.Begun.{take-min}
 use Rattle.components.specs.Graphs.{callerOf, sourceOf, isCall, calledBy}
 
 -- ---- members of a list, and their places

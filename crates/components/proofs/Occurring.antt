@@ -22,10 +22,10 @@ use Rattle.reach.specs.Marks.{Marked, Shows}
 use Rattle.base.proofs.SetFlags.{none-on}
 use Rattle.reach.proofs.Numbers.{number-fits, summary-state}
 use Rattle.reach.proofs.Sizes.{sizes, call-stays, may-call}
-use Rattle.analysis.specs.Parts.{Filled, Learnt}
-use Rattle.analysis.proofs.Begun.{take-min}
-use Rattle.analysis.proofs.Filling.{filled-bits}
-use Rattle.analysis.proofs.Known.{exit-byte}
+use Rattle.worklist.specs.Parts.{Filled, Learnt}
+use Rattle.worklist.proofs.Begun.{take-min}
+use Rattle.worklist.proofs.Filling.{filled-bits}
+use Rattle.worklist.proofs.Known.{exit-byte}
 use Rattle.components.specs.Passes.{Live, begun, called}
 use Rattle.components.specs.Parts.{Flagged}
 use Rattle.components.specs.Graphs.{inTurn, copyRoot, callerOf, sourceOf, isCall, calledBy, rootsByEdge, rootsByEdges, rootsOfMain, keptByte}

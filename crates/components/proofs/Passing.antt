@@ -18,8 +18,8 @@ use Rattle.reach.specs.Marks.{Marked, Shows}
 use Rattle.reach.proofs.Laws.{grows}
 use Rattle.reach.proofs.Numbers.{routine-of, node-of, root-of, state-of, number-fits}
 use Rattle.reach.proofs.Sizes.{call-stays}
-use Rattle.analysis.specs.Parts.{Filled}
-use Rattle.analysis.proofs.Filling.{filled-bits}
+use Rattle.worklist.specs.Parts.{Filled}
+use Rattle.worklist.proofs.Filling.{filled-bits}
 use Rattle.components.specs.Passes.{PassSeeds, entry, summary}
 use Rattle.components.specs.Parts.{memberOf, Member, RootOf, ExitOf, PassOf, Passable, Passed}
 use Rattle.components.specs.PassParts.{firstMark, Ready, ByMembers}

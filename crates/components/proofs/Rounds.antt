@@ -23,7 +23,7 @@ use Rattle.reach.proofs.Numbers.{number-of, parts-in-range}
 use Rattle.reach.proofs.Sizes.{sizes, Proper, derivable-state, derivable-in-range}
 use Rattle.base.proofs.SetFlags.{on-lt}
 use Rattle.reach.proofs.Shown.{one-of, shows-marked, count-small}
-use Rattle.analysis.specs.Slice.{Followable}
+use Rattle.worklist.specs.Slice.{Followable}
 use Rattle.components.specs.Passes.{onlyOf, edgesOf}
 use Rattle.components.specs.Parts.{memberOf, Member}
 use Rattle.components.specs.PassParts.{is, Ready, ByRoutine, ByMembers, Grows, Round, Turn}

@@ -11,8 +11,8 @@ use Rattle.program.specs.Program.{Edge}
 use Rattle.program.specs.Frames.{edgeKey}
 use Rattle.program.specs.WellFormed.{Ascending}
 use Rattle.program.specs.Decoded.{edgeOf}
-use Rattle.analysis.specs.Slice.{FirstOf}
-use Rattle.analysis.proofs.Slice.{routineAt, in-use-same, part-starts, part-in-use, part-ends, before-part, in-part, after-part}
+use Rattle.worklist.specs.Slice.{FirstOf}
+use Rattle.worklist.proofs.Slice.{routineAt, in-use-same, part-starts, part-in-use, part-ends, before-part, in-part, after-part}
 use Rattle.components.specs.Passes.{edgesOf}
 use Rattle.components.specs.PassParts.{is}
 

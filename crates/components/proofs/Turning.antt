@@ -13,7 +13,7 @@ use Rattle.reach.specs.Marks.{Marked, Shows, freshMarks}
 use Rattle.base.proofs.SetFlags.{zeros}
 use Rattle.reach.proofs.Kept.{marks-length}
 use Rattle.reach.proofs.Exact.{analysis-exact}
-use Rattle.analysis.specs.Parts.{Learnt}
+use Rattle.worklist.specs.Parts.{Learnt}
 use Rattle.components.specs.Components.{Leads, Together, Anew, Reopened}
 use Rattle.components.specs.Passes.{Live}
 use Rattle.components.specs.Parts.{Flagged, Member, Passable, Passed}

@@ -12,7 +12,7 @@ ghost use lib.ListN.{length};
 ghost use Rattle.base.specs.Flags.{isSet, countSet};
 ghost use Rattle.program.specs.WellFormed.{WellFormed};
 ghost use Rattle.program.specs.Decoded.{programOf};
-ghost use Rattle.analysis.specs.Parts.{Filled};
+ghost use Rattle.worklist.specs.Parts.{Filled};
 ghost use Rattle.components.specs.Components.{Leads};
 ghost use Rattle.components.specs.Parts.{Flagged};
 ghost use Rattle.components.specs.Graphs.{inTurn, copyWhen, copyLead, leadsByEdge, leadsByEdges, togetherFlag, rankFlag, rankOf};

@@ -1,13 +1,13 @@
 // The pass over a component (paper: working a group anew): its routines are worked by their own edges, from their roots and
 // the summaries of the routines that they call outside, in rounds until a round marks nothing.
-use analysis::count::clear;
 use analysis::count::count_marks;
-use analysis::part::first_of;
-use analysis::part::follow_part;
 use automaton::in_use;
 use automaton::next::next_states;
 use program::DecodedProgram;
 use program::sizes::MARKS_SIZE;
+use worklist::clear;
+use worklist::part::first_of;
+use worklist::part::follow_part;
 ghost use mathlib.Core.Path.{_≡_};
 ghost use Prim.Native.Nat.{_<_};
 ghost use lib.ListN.{length, getD};
@@ -18,7 +18,7 @@ ghost use Rattle.program.specs.WellFormed.{WellFormed};
 ghost use Rattle.program.specs.Decoded.{programOf};
 ghost use Rattle.reach.specs.Configurations.{none-set};
 ghost use Rattle.reach.specs.Marks.{Shows};
-ghost use Rattle.analysis.specs.Parts.{Filled};
+ghost use Rattle.worklist.specs.Parts.{Filled};
 ghost use Rattle.components.specs.Parts.{Passable, Passed};
 ghost use Rattle.components.specs.PassParts.{firstMark, Ready, ByMembers, Round, Turn};
 

@@ -5,7 +5,7 @@ ghost use Prim.Native.Nat.{_≤_};
 ghost use mathlib.Core.Bool.{cond};
 ghost use lib.Dec.{eqb};
 ghost use lib.ListN.{length, getD};
-ghost use Rattle.analysis.specs.Parts.{Filled};
+ghost use Rattle.worklist.specs.Parts.{Filled};
 ghost use Rattle.components.specs.Components.{Bits};
 ghost use Rattle.components.specs.Parts.{joinedFlag};
 

@@ -10,3 +10,4 @@ pub mod Bytes
 pub mod Back
 pub mod Again
 pub mod Theorems
+pub mod Checked

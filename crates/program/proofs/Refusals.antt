@@ -1,12 +1,12 @@
--- A refusal's number and line are small.
+-- A refusal's number and line are small, and the number is not 0.
 use mathlib.Core.Path.{_≡_, refl}
 use mathlib.Core.Bool.{Bool, true, false, cond, not}
 use mathlib.Core.List.{List, [], _∷_}
-use Prim.Native.Nat.{ℕ, _+_, _≤_}
+use Prim.Native.Nat.{ℕ, _+_, _≤_, _<_}
 use native.Mathlib.Omega.{arith}
 use lib.Dec.{ltb, eqb}
 use lib.ListN.{length}
-use borrow.Author.Tests.{ltb-false}
+use borrow.Author.Tests.{ltb-true, ltb-false}
 use Rattle.text.specs.Lines.{numbers, lineFrom}
 use Rattle.text.specs.declared.Line.{Line}
 use Rattle.program.specs.Frames.{size, kind}
@@ -31,7 +31,7 @@ judge-small s l =
 -- what is said of a refusal
 unfoldable pub Small : Verdict → Type 0
 Small Accepted = Unit
-Small (Refused n line) = (n ≤ 8) × (line ≤ 547)
+Small (Refused n line) = (0 < n) × (n ≤ 8) × (line ≤ 547)
 
 pub small-refusals : (ls : List (List ℕ)) (s : Progress) → Sound s → Small (readFrom s ls .verdict)
 unfolding readFrom Small
@@ -39,7 +39,7 @@ small-refusals [] s g = go (s .ended)
   where
     go : (t : Bool) → Small (cond t (accepted (s .program)) (refused 8 (s .frames + 1)) .verdict)
     go true = tt
-    go false = (omega arith, omega (arith, frames-few s g))
+    go false = (omega arith, omega arith, omega (arith, frames-few s g))
 small-refusals (l ∷ ls) s g =
     let x = lineFrom (numbers l) in
     go (s .ended) refl (judge s x) refl (λ o j. small-refusals ls (after s x) (after-sound s x (padded (numbers l)) g o j))
@@ -47,9 +47,9 @@ small-refusals (l ∷ ls) s g =
     go : (t : Bool) → s .ended ≡ t → (n : ℕ) → judge s (lineFrom (numbers l)) ≡ n
         → (s .ended ≡ false → judge s (lineFrom (numbers l)) ≡ 0 → Small (readFrom (after s (lineFrom (numbers l))) ls .verdict))
         → Small (cond t (refused 8 (s .frames + 1)) (cond (ltb 0 n) (refused n (s .frames + 1)) (readFrom (after s (lineFrom (numbers l))) ls)) .verdict)
-    go true e n f r = (omega arith, omega (arith, frames-few s g))
+    go true e n f r = (omega arith, omega arith, omega (arith, frames-few s g))
     go false e n f r = by-fault (ltb 0 n) refl
       where
         by-fault : (t : Bool) → ltb 0 n ≡ t → Small (cond t (refused n (s .frames + 1)) (readFrom (after s (lineFrom (numbers l))) ls) .verdict)
-        by-fault true h = (omega (arith, judge-small s (lineFrom (numbers l))), omega (arith, frames-few s g))
+        by-fault true h = (ltb-true 0 n h, omega (arith, judge-small s (lineFrom (numbers l))), omega (arith, frames-few s g))
         by-fault false h = r e (omega (arith, ltb-false 0 n h))

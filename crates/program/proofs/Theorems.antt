@@ -1,7 +1,7 @@
 -- What is proved of program files.
 use mathlib.Core.Path.{_≡_, sym, ap, _∙_}
 use mathlib.Core.List.{List}
-use Prim.Native.Nat.{ℕ, _≤_}
+use Prim.Native.Nat.{ℕ, _≤_, _<_}
 use lib.ListN.{length}
 use Rattle.text.specs.Lines.{lines}
 use Rattle.program.specs.Program.{Program}
@@ -35,7 +35,7 @@ read-again p w = read-text _ start (all-bytes p w) ∙ again p w
 pub written-limited : (p : Program) → WellFormed p → length (written p) ≤ 5328
 written-limited = written-short
 
--- A refusal's number is at most 8 and its line at most 547, whatever the file.
-pub few-lines : (file : List ℕ) → (n line : ℕ) → readFile file .verdict ≡ Refused n line → (n ≤ 8) × (line ≤ 547)
+-- A refusal's number is 1 to 8 and its line at most 547, whatever the file.
+pub few-lines : (file : List ℕ) → (n line : ℕ) → readFile file .verdict ≡ Refused n line → (0 < n) × (n ≤ 8) × (line ≤ 547)
 unfolding readFile Small
 few-lines file n line e = rw e at (small-refusals (lines file) start start-sound)

@@ -4,6 +4,7 @@ pub mod Frames
 pub mod Writing
 pub mod WellFormed
 pub mod Reading
+pub mod Checks
 pub mod Decoded
 pub mod Room
 pub mod Sample

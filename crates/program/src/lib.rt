@@ -24,3 +24,9 @@ pub enum Verdict {
     Accepted,
     Refused(u8, usize),
 }
+
+// The length of a buffer that a call is lent; or the call has no such buffer.
+pub enum Length {
+    NotAsked,
+    Of(usize),
+}

@@ -26,7 +26,7 @@ use Rattle.reach.proofs.Numbers.{number-of, number-fits, routine-of, node-of, r
 use Rattle.reach.proofs.Sizes.{Sizes, sizes, initial-proper, derivable-state, call-stays, return-stays, may-call, may-return}
 use Rattle.base.proofs.SetFlags.{set-on, on-set, set-inv, set-bits, zeros, set-byte, byte-set}
 use Rattle.reach.proofs.Shown.{shows-marked}
-use Rattle.analysis.proofs.Begun.{take-min}
+use Rattle.worklist.proofs.Begun.{take-min}
 use Rattle.prune.specs.Keeping.{Kept}
 use Rattle.prune.specs.Parts.{supports, keepsAt, Keeps, same, more, Settled, Tables, Sound, Started}
 use Rattle.prune.proofs.Passes.{keeps-on}

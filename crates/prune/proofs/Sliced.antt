@@ -14,8 +14,8 @@ use borrow.Author.Tests.{ne-eqb}
 use Rattle.program.specs.Frames.{edgeKey}
 use Rattle.program.specs.WellFormed.{Ascending}
 use Rattle.program.specs.Decoded.{edgeOf}
-use Rattle.analysis.specs.Slice.{FirstOf}
-use Rattle.analysis.proofs.Slice.{part-starts, part-in-use, part-ends, before-part, after-part}
+use Rattle.worklist.specs.Slice.{FirstOf}
+use Rattle.worklist.proofs.Slice.{part-starts, part-in-use, part-ends, before-part, after-part}
 use Rattle.prune.specs.Parts.{anyKey, entrySupports, returnSupports, callSupports, linesToTry, actionSupports, edgeSupports, supports, PartOf}
 
 -- ---- the part of a list outside which a test fails

@@ -1,15 +1,13 @@
 // The keeping: of the marks of a sheet those stay that have support back to a start through marked configurations.
 mod support;
 
-use analysis::check_buffers;
-use analysis::count::clear;
-use analysis::part::first_of;
 use automaton::Table;
 use automaton::flags::initial_flags;
 use automaton::in_use;
 use automaton::sizes::MAX_STATES;
 use automaton::sizes::MAX_TRANSITIONS;
 use program::DecodedProgram;
+use program::Length;
 use program::Verdict;
 use program::sizes::MARKS_SIZE;
 use program::sizes::MAX_EDGES;
@@ -17,7 +15,10 @@ use program::sizes::MAX_ROUTINES;
 use reach::configuration::entry_of;
 use reach::configuration::parts_of;
 use reach::spans::ROUTINE_SPAN;
+use reader::checks::checked_program;
 use support::has_support;
+use worklist::clear;
+use worklist::part::first_of;
 ghost use mathlib.Core.Path.{_≡_};
 ghost use mathlib.Core.Bool.{cond, _&&_};
 ghost use mathlib.Core.List.{map};
@@ -36,7 +37,7 @@ ghost use Rattle.program.specs.Reading.{readFile};
 ghost use Rattle.reach.specs.Sizes.{routineSpan};
 ghost use Rattle.reach.specs.Configurations.{routineOf, none-set};
 ghost use Rattle.reach.specs.Marks.{Shows};
-ghost use Rattle.analysis.specs.Answers.{checked, workAfter};
+ghost use Rattle.analysis.specs.Answers.{checkedMarks, workAfter};
 ghost use Rattle.prune.specs.Keeping.{Kept, Pruned};
 ghost use Rattle.prune.specs.Parts.{keepsAt, PartOf, Passed, Settled, Sound, Started};
 
@@ -225,15 +226,16 @@ pub fn prune_program(p: DecodedProgram, marks: &mut [u8], work: &mut [u8])
 
 // The keeping of a file's program on any sheet. A refusal leaves both buffers alone; on success the working buffer is all zero.
 pub fn prune(file: &[u8], marks: &mut [u8], work: &mut [u8]) -> Verdict
-    ensures { λ r. ⌜ (r ≡ checked (now (file .entry)) (length (now (marks .entry))) (length (now (work .entry))))
-        × Pruned (checked (now (file .entry)) (length (now (marks .entry))) (length (now (work .entry)))) (readFile (now (file .entry)) .program)
+    ensures { λ r. ⌜ (r ≡ checkedMarks (now (file .entry)) (now (marks .entry)) (now (work .entry)))
+        × Pruned (checkedMarks (now (file .entry)) (now (marks .entry)) (now (work .entry))) (readFile (now (file .entry)) .program)
         (now (marks .entry)) (now (marks .exit))
         × (now (work .exit) ≡ workAfter (now (file .entry)) (now (marks .entry)) (now (work .entry))) ⌝ }
 {
-    let r = reader::read(file);
+    let marks_length = Length::Of(marks.len());
+    let work_length = Length::Of(work.len());
+    let r = checked_program(file, marks_length, Length::NotAsked, work_length);
     let v = r.verdict;
-    let checked = check_buffers(v, marks.len(), work.len());
-    match checked {
+    match v {
         Verdict::Refused(n, line) => Verdict::Refused(n, line),
         Verdict::Accepted => {
             let p = r.program;

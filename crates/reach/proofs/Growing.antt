@@ -1,46 +1,52 @@
--- A program that has more steps from one node: the marks of the program before are closed but for the configurations at that
--- node, and what follows from them is the marks of the program that it has become.
+-- A program that has more steps from some nodes: the marks of the program before are closed but for the configurations at these
+-- nodes, and what follows from them is the marks of the program that it has become.
 use mathlib.Core.Path.{_≡_, sym, subst}
 use mathlib.Core.Logic.{_⊎_, inl, inr}
 use mathlib.Core.Bool.{true}
 use mathlib.Core.List.{List, List·Memᴰ}
-use Prim.Native.Nat.{ℕ, _+_, _<_}
-use native.Mathlib.Omega.{arith}
+use Prim.Native.Nat.{ℕ, _+_, _*_, _<_}
 use Rattle.automaton.specs.Automaton.{Automaton, moves}
 use Rattle.automaton.specs.declared.Event.{Event}
 use Rattle.program.specs.Program.{Program}
 use Rattle.program.specs.WellFormed.{WellFormed}
+use Rattle.reach.specs.Sizes.{nodeSpan, routineSpan}
 use Rattle.reach.specs.Configurations.{InRange, number}
 use Rattle.reach.specs.Runs.{HasStep, Moves}
 use Rattle.reach.specs.Reachable.{Derivable, seeded, by-action, by-call, by-return, Initial, initial, Any, Reachable, ClosedAt}
 use Rattle.reach.specs.Marks.{Marked, Shows, Between, ClosedBut, freshMarks}
+use Rattle.reach.proofs.Numbers.{node-span, routine-span}
 use Rattle.reach.proofs.Sizes.{reachable-state}
 use Rattle.reach.proofs.Kept.{marks-length, marks-bits}
 use Rattle.reach.proofs.Laws.{Within, grows, flat}
 use Rattle.reach.proofs.Exact.{analysis-exact}
 use Rattle.reach.proofs.Shown.{shows-same, one-list, reachable-shown}
 
--- p′ has the steps of p, and others only from node n of routine f
-pub record Grown (p p′ : Program) (f n : ℕ) : Type 0 where
+-- p′ has the steps of p, and others only from the nodes of A
+pub record Grown (p p′ : Program) (A : ℕ → ℕ → Type 0) : Type 0 where
   pub automaton : p′ .automaton ≡ p .automaton
   pub well-formed : WellFormed p
   pub steps : {g k m : ℕ} {l : Event} → HasStep p g k l m → HasStep p′ g k l m
-  pub only : {g k m : ℕ} {l : Event} → HasStep p′ g k l m → HasStep p g k l m ⊎ ((g ≡ f) × (k ≡ n))
-  -- steps may lead from there: it is in range
-  pub routine : f < 16
-  pub source : n < 16
+  pub only : {g k m : ℕ} {l : Event} → HasStep p′ g k l m → HasStep p g k l m ⊎ A g k
 
--- the 64 configurations at a node have numbers that follow one another
-at-node : {f n g k r q : ℕ} → InRange g k r q → ¬ (Between (number f n 0 0) (number f n 0 0 + 64) (number g k r q)) → ¬ ((g ≡ f) × (k ≡ n))
-unfolding number
-at-node h ne x =
-    let a = h .root in
-    let b = h .state in
-    let c = x .0 in
-    let d = x .1 in
-    ne (omega arith, omega arith)
+-- the configurations at the nodes of A have numbers from low up to high
+pub record Spanned (A : ℕ → ℕ → Type 0) (low high : ℕ) : Type 0 where
+  pub inside : {g k r q : ℕ} → InRange g k r q → A g k → Between low high (number g k r q)
 
-module _ (p p′ : Program) (f n : ℕ) (c : Grown p p′ f n) where
+-- one node
+abbrev pub AtNode : ℕ → ℕ → ℕ → ℕ → Type 0
+AtNode f n g k = (g ≡ f) × (k ≡ n)
+
+pub node-spanned : (f n : ℕ) → Spanned (AtNode f n) (number f n 0 0) (number f n 0 0 + nodeSpan)
+node-spanned f n = record { inside = λ h x. rw (← x .0, ← x .1) (node-span h) }
+
+-- every node of a routine
+abbrev pub InRoutine : ℕ → ℕ → ℕ → Type 0
+InRoutine f g k = g ≡ f
+
+pub routine-spanned : (f : ℕ) → Spanned (InRoutine f) (f * routineSpan) (f * routineSpan + routineSpan)
+routine-spanned f = record { inside = λ h x. rw (← x) (routine-span h) }
+
+module _ (p p′ : Program) {A : ℕ → ℕ → Type 0} (c : Grown p p′ A) where
   reached : {g k r q : ℕ} → Marked (freshMarks p) g k r q → Reachable p g k r q
   reached {g} {k} {r} {q} m = analysis-exact p (c .well-formed) g k r q .0 m
 
@@ -51,10 +57,10 @@ module _ (p p′ : Program) (f n : ℕ) (c : Grown p p′ f n) where
   old-move q l x v = subst (λ (a : Automaton). moves a q l x ≡ true) (c .automaton) v
 
   -- elsewhere p′ has the steps of p, and what follows by them is marked
-  old-step : {g i m : ℕ} {l : Event} → ¬ ((g ≡ f) × (i ≡ n)) → HasStep p′ g i l m → HasStep p g i l m
+  old-step : {g i m : ℕ} {l : Event} → ¬ (A g i) → HasStep p′ g i l m → HasStep p g i l m
   old-step ne e = elim (c .only e) [ inl x ↦ x | inr x ↦ absurd (ne x) ]
 
-  closed : {g i r q : ℕ} → Reachable p g i r q → ¬ ((g ≡ f) × (i ≡ n)) → ClosedAt p′ (Marked (freshMarks p)) g i r q
+  closed : {g i r q : ℕ} → Reachable p g i r q → ¬ (A g i) → ClosedAt p′ (Marked (freshMarks p)) g i r q
   closed d ne =
       record {
         acts = λ e v. marked (by-action d (old-step ne e) (old-move _ _ _ v) tt);
@@ -62,13 +68,13 @@ module _ (p p′ : Program) (f n : ℕ) (c : Grown p p′ f n) where
         returns = λ e v m v′. marked (by-return d (old-step ne e) (old-move _ _ _ v) (reached m) (old-move _ _ _ v′) tt);
       }
 
-  pub grown-closed : ClosedBut p′ (number f n 0 0) (number f n 0 0 + 64) (freshMarks p)
-  grown-closed =
+  pub grown-closed : {low high : ℕ} → Spanned A low high → ClosedBut p′ low high (freshMarks p)
+  grown-closed h =
       record {
         marks-length = marks-length p;
         marks-bits = marks-bits p;
         states = λ {q = q} m. subst (λ (a : Automaton). q < a .states) (sym (c .automaton)) (reachable-state p (c .well-formed) (reached m));
-        closed = λ m ne. closed (reached m) (at-node (m .0) ne);
+        closed = λ m ne. closed (reached m) (λ a. ne (h .inside (m .0) a));
       }
 
   -- ---- what follows from the marks of p by the steps of p′ is what p′ reaches

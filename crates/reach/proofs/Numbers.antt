@@ -122,6 +122,14 @@ pub summary-state : (g q x : ℕ) → (g * maxStates + q) * maxStates + x ≡ su
 unfolding summary
 summary-state g q x = omega arith
 
+pub summary-from : (g q x : ℕ) → summary g q 0 + x ≡ summary g q x
+unfolding summary
+summary-from g q x = omega arith
+
+pub summaries-fit : (g q : ℕ) → g < maxRoutines → q < maxStates → summary g q 0 + maxStates ≤ summariesSize
+unfolding summary
+summaries-fit g q a b = omega arith
+
 -- ---- spans: the numbers of a routine and of a node follow one another
 
 pub in-routine : (f i : ℕ) → f * routineSpan ≤ i → i < f * routineSpan + routineSpan → routineOf i ≡ f
@@ -135,6 +143,10 @@ routine-span h = (omega (arith, h .node, h .root, h .state), omega (arith, h .no
 pub node-span : {f n r q : ℕ} → InRange f n r q → (number f n 0 0 ≤ number f n r q) × (number f n r q < number f n 0 0 + nodeSpan)
 unfolding number
 node-span h = (omega (arith, h .root, h .state), omega (arith, h .root, h .state))
+
+pub node-fits : (f n : ℕ) → f < maxRoutines → n < maxNodes → number f n 0 0 + nodeSpan ≤ marksSize
+unfolding number
+node-fits f n a b = omega arith
 
 pub first-number : (f : ℕ) → number f 0 0 0 ≡ f * routineSpan
 unfolding number

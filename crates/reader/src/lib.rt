@@ -1,4 +1,5 @@
 // Reading a file: the verdict, and the decoded program.
+pub mod checks;
 mod extend;
 pub mod frame;
 pub mod judge;

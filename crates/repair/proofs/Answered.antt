@@ -1,27 +1,28 @@
 -- The repairs of the marks and their answers, by what the functions below promise.
 use mathlib.Core.Path.{_≡_, refl, sym, ap, subst, _∙_}
-use mathlib.Core.Bool.{Bool, true, false, cond}
 use mathlib.Core.List.{List, _++_}
 use Prim.Native.Nat.{ℕ, _+_, _≤_, _<_}
 use native.Mathlib.Omega.{arith}
-use lib.Dec.{ltb, eqb}
 use lib.ListN.{length, drop, length-replicate}
-use borrow.Author.Tests.{eqb-true, ltb-false}
 use Rattle.text.specs.Lines.{Bytes}
 use Rattle.program.specs.Program.{Program}
 use Rattle.program.specs.Frames.{edgeFrame}
 use Rattle.program.specs.WellFormed.{WellFormed}
 use Rattle.program.specs.Writing.{written}
-use Rattle.program.specs.Reading.{Outcome, readFile}
+use Rattle.program.specs.Decoded.{programOf}
 use Rattle.program.specs.declared.Verdict.{Verdict}
 use Rattle.program.specs.declared.Verdict.the-variants as verdict
-use Rattle.program.proofs.Theorems.{accepted-well-formed, written-limited}
+use Rattle.reach.specs.Sizes.{nodeSpan}
+use Rattle.program.specs.declared.Length.the-variants.{Of}
+use Rattle.program.proofs.Theorems.{written-limited}
+use Rattle.reader.specs.Checked.{Checked}
+use Rattle.reader.specs.declared.Reading.{Reading}
 use Rattle.reach.specs.Configurations.{number, none-set}
 use Rattle.reach.specs.Reachable.{Derivable, Any}
 use Rattle.reach.specs.Marks.{Marked, Shows, ClosedBut, freshMarks}
-use Rattle.reach.proofs.Growing.{Grown, grown-closed, grown-marks}
+use Rattle.reach.proofs.Growing.{Grown, AtNode, node-spanned, grown-closed, grown-marks}
 use Rattle.reach.proofs.Kept.{marks-length}
-use Rattle.analysis.specs.Answers.{same}
+use Rattle.analysis.specs.Answers.{owned}
 use Rattle.prune.specs.Keeping.{Kept}
 use Rattle.prune.proofs.Theorems.{kept-fresh}
 use Rattle.writer.specs.declared.WriteAnswer.{WriteAnswer}
@@ -35,7 +36,7 @@ use Rattle.edit.specs.declared.Edit.the-variants.{Add, Drop, Replace}
 use Rattle.edit.specs.declared.EditRead.{EditRead}
 use Rattle.edit.specs.declared.EditRead.the-variants as read
 use Rattle.edit.proofs.Theorems.{applied-well-formed, added-is, dropped-is, replaced-is, relabelled, drop-applies, add-applies}
-use Rattle.repair.specs.Repairs.{After, measuredBy, editedBy, wantedBy, measured, repaired}
+use Rattle.repair.specs.Repairs.{After, editedBy, wantedBy, repairedBy, repaired}
 use Rattle.repair.specs.Parts.{Keeps, Repaired}
 use Rattle.repair.proofs.Steps.{add-grown, drop-within, drop-initial}
 
@@ -49,19 +50,19 @@ module _ (s : Step) (p p′ : Program) (w : WellFormed p) where
     pub added-well-formed : WellFormed p′
     added-well-formed = subst WellFormed (sym is-added) (applied-well-formed (Add s) p w a)
 
-    pub added-grown : Grown p p′ (s .routine) (s .source)
-    added-grown = subst (λ (x : Program). Grown p x (s .routine) (s .source)) (sym is-added) (add-grown s p w a)
+    added-grown : Grown p p′ (AtNode (s .routine) (s .source))
+    added-grown = subst (λ (x : Program). Grown p x (AtNode (s .routine) (s .source))) (sym is-added) (add-grown s p w)
 
     module _ {old : List ℕ} (o : old ≡ freshMarks p) where
       -- what is marked is closed but for the configurations at the source of the new step
-      pub added-closed : ClosedBut p′ (number (s .routine) (s .source) 0 0) (number (s .routine) (s .source) 0 0 + 64) old
-      added-closed = rw o (grown-closed p p′ (s .routine) (s .source) added-grown)
+      pub added-closed : ClosedBut p′ (number (s .routine) (s .source) 0 0) (number (s .routine) (s .source) 0 0 + nodeSpan) old
+      added-closed = rw o (grown-closed p p′ added-grown (node-spanned (s .routine) (s .source)))
 
       pub added : {marks work : List ℕ} → Shows (Derivable p′ (Marked old) Any) marks × (work ≡ none-set) → Repaired (Add s) p p′ marks work
       added {marks} h =
           record {
             is-edited = is-added;
-            own = grown-marks p p′ (s .routine) (s .source) added-grown added-well-formed
+            own = grown-marks p p′ added-grown added-well-formed
                 (subst (λ (l : List ℕ). Shows (Derivable p′ (Marked l) Any) marks) o (h .0));
             clear = h .1;
           }
@@ -104,16 +105,16 @@ module _ (s : Step) (l : Label) (p d p′ : Program) (w : WellFormed p) (a : App
         clear = y .clear;
       }
 
--- ---- 17
+-- ---- the marks
 
 module _ (e : Edit) (p : Program) (marks output : List ℕ) where
-  pub own-answer : same marks (freshMarks p) ≡ true → {p′ : Program} {m k : List ℕ} → Repaired e p p′ m k → {n : ℕ} {o : List ℕ}
+  pub own-answer : owned p marks ≡ verdict.Accepted → {p′ : Program} {m k : List ℕ} → Repaired e p p′ m k → {n : ℕ} {o : List ℕ}
       → (n ≡ length (written p′)) × (o ≡ written p′ ++ drop (length (written p′)) output)
       → _≡_ {A = After} (record { answer = Written n; marks = m; output = o; work = k }) (editedBy e p marks output)
   own-answer t {p′} {m} {k} r {n} {o} h = rw (t, h .0, h .1, r .own, r .clear, r .is-edited) refl
 
-  pub foreign-answer : same marks (freshMarks p) ≡ false → {k : List ℕ} → k ≡ none-set
-      → _≡_ {A = After} (record { answer = Refused 17 0; marks = marks; output = output; work = k }) (editedBy e p marks output)
+  pub foreign-answer : {n at : ℕ} → owned p marks ≡ verdict.Refused n at → {k : List ℕ} → k ≡ none-set
+      → _≡_ {A = After} (record { answer = Refused n at; marks = marks; output = output; work = k }) (editedBy e p marks output)
   foreign-answer t {k} z = rw (t, z) refl
 
   -- there is room for the edited program
@@ -125,50 +126,10 @@ module _ (e : Edit) (p : Program) (marks output : List ℕ) where
 
 -- ---- the checks before
 
-never : {A : Type 0} (n line : ℕ) → verdict.Refused n line ≡ verdict.Accepted → A
-never n line e = absurd (let z : _≡_ {A = ℕ} 0 1 = cc in omega arith)
-
--- what it takes to pass the measuring
-pub record Measured (v : Verdict) (marks output work : ℕ) : Type 0 where
-  pub file : v ≡ verdict.Accepted
-  pub marks-length : marks ≡ 16384
-  pub output-length : 5328 ≤ output
-  pub work-length : work ≡ 16384
-
-pub passed : (v : Verdict) (marks output work : ℕ) → measuredBy v marks output work ≡ verdict.Accepted → Measured v marks output work
-passed (verdict.Refused n line) marks output work e = never n line e
-passed verdict.Accepted marks output work e = go (eqb marks 16384) refl (ltb output 5328) refl (eqb work 16384) refl e
-  where
-    go : (t : Bool) → eqb marks 16384 ≡ t → (u : Bool) → ltb output 5328 ≡ u → (v : Bool) → eqb work 16384 ≡ v
-        → cond t (cond u (verdict.Refused 10 0) (cond v verdict.Accepted (verdict.Refused 11 0))) (verdict.Refused 9 0) ≡ verdict.Accepted
-        → Measured verdict.Accepted marks output work
-    go true t true u v w e = never 10 0 e
-    go true t false u true w e =
-        record { file = refl; marks-length = eqb-true marks 16384 t; output-length = ltb-false output 5328 u; work-length = eqb-true work 16384 w }
-    go true t false u false w e = never 11 0 e
-    go false t u v w x e = never 9 0 e
-
-module _ (file marks line output work : List ℕ) (o : Outcome) (e : o ≡ readFile file) (c : Verdict)
-    (k : c ≡ measuredBy (o .verdict) (length marks) (length output) (length work)) where
-  is-measured : c ≡ measured file (length marks) (length output) (length work)
-  unfolding measured
-  is-measured = k ∙ ap (λ (x : Outcome). measuredBy (x .verdict) (length marks) (length output) (length work)) e
-
-  pub refused-answer : (n at : ℕ) → c ≡ verdict.Refused n at
-      → _≡_ {A = After} (record { answer = Refused n at; marks = marks; output = output; work = work }) (repaired file marks line output work)
-  unfolding repaired
-  refused-answer n at h = rw (← is-measured, h) refl
-
-  module _ (h : c ≡ verdict.Accepted) where
-    pub measured-parts : Measured (o .verdict) (length marks) (length output) (length work)
-    measured-parts = passed (o .verdict) (length marks) (length output) (length work) (sym k ∙ h)
-
-    pub well-formed : WellFormed (o .program)
-    well-formed = rw e (accepted-well-formed file (rw e at (measured-parts .file)))
-
-    pub accepted-answer : {a : After} → a ≡ wantedBy (wantedEdit (o .program) line) (o .program) marks output work → a ≡ repaired file marks line output work
-    unfolding repaired
-    accepted-answer x = x ∙ rw (← is-measured, h, e) refl
+pub checked-answer : (file marks line output work : List ℕ) {r : Reading} → Checked file (Of (length marks)) (Of (length output)) (Of (length work)) r
+    → {v : Verdict} → r .verdict ≡ v → repairedBy v (programOf (r .program)) marks line output work ≡ repaired file marks line output work
+unfolding repaired
+checked-answer file marks line output work k h = rw (← k .verdict, h, k .program) refl
 
 -- ---- the edit line
 

@@ -6,21 +6,26 @@ use mathlib.Core.List.{List}
 use Prim.Native.Nat.{ℕ, _<_}
 use native.Mathlib.Omega.{arith}
 use lib.Dec.{eqb}
-use lib.ListN.{length, getD}
+use lib.ListN.{getD}
 use borrow.Author.Tests.{ne-eqb}
 use Rattle.program.specs.Program.{Program}
-use Rattle.program.specs.Reading.{Outcome, readFile}
-use Rattle.program.specs.declared.Verdict.{Verdict}
+use Rattle.program.specs.Reading.{readFile}
+use Rattle.program.specs.Decoded.{programOf}
 use Rattle.program.specs.declared.Verdict.the-variants as verdict
+use Rattle.program.specs.declared.Length.{Length}
+use Rattle.program.proofs.Checked.{few-checks}
+use Rattle.reader.specs.Checked.{Checked}
+use Rattle.reader.specs.declared.Reading.{Reading}
+use Rattle.analysis.specs.Answers.{owned}
+use Rattle.analysis.proofs.Answered.{refused-foreign}
 use Rattle.components.specs.Components.{Bits}
 use Rattle.edit.specs.Editing.{wantedEdit}
 use Rattle.edit.specs.declared.Edit.{Edit}
 use Rattle.edit.specs.declared.EditRead.{EditRead}
 use Rattle.edit.specs.declared.EditRead.the-variants.{Read, Refused}
-use Rattle.repair.specs.Repairs.{measuredBy}
 use Rattle.repair.specs.Reanalyzed.{ReanalyzedBy, insideOutNumber}
 use Rattle.repair.specs.Parts.{FlagsOf}
-use Rattle.repair.proofs.Numbers.{wanted-number, refused-positive}
+use Rattle.repair.proofs.Numbers.{wanted-number}
 
 -- the bits of flags
 pub bits-of-flags : {R : ℕ → Type 0} {flags : List ℕ} {n : ℕ} → FlagsOf R flags → Bits (λ (f : ℕ). getD flags f 0 ≢ 0) n → Bits R n
@@ -41,14 +46,17 @@ module _ (p : Program) (line : List ℕ) {w : EditRead} (e : w ≡ wantedEdit p 
   pub number-wanted : (d : Edit) → w ≡ Read d → (t : Bool) (n : ℕ) → insideOutNumber t (Read d) p n → insideOutNumber t (wantedEdit p line) p n
   number-wanted d h t n x = subst (λ (y : EditRead). insideOutNumber t y p n) (sym h ∙ e) x
 
-module _ (file marks line output work : List ℕ) (o : Outcome) (e : o ≡ readFile file) (c : Verdict)
-    (k : c ≡ measuredBy (o .verdict) (length marks) (length output) (length work)) where
-  pub number-unmeasured : (n at : ℕ) → c ≡ verdict.Refused n at → insideOutNumber (eqb n 0) (wantedEdit (readFile file .program) line) (readFile file .program) 0
-  number-unmeasured n at h =
-      number-refused n (wantedEdit (readFile file .program) line) (readFile file .program)
-      (refused-positive file (length marks) (length output) (length work) n at
-      (sym (k ∙ ap (λ (x : Outcome). measuredBy (x .verdict) (length marks) (length output) (length work)) e) ∙ h))
+module _ (p : Program) (marks : List ℕ) where
+  pub number-foreign : (e : Edit) {n at : ℕ} → owned p marks ≡ verdict.Refused n at → insideOutNumber (eqb n 0) (Read e) p 0
+  number-foreign e {n} h = number-refused n (Read e) p (omega (arith, refused-foreign p marks h))
 
-  pub number-measured : (t : Bool) (n : ℕ) → insideOutNumber t (wantedEdit (o .program) line) (o .program) n
+module _ (file line : List ℕ) {marks output work : Length} {r : Reading} (k : Checked file marks output work r) where
+  pub number-unchecked : {n at : ℕ} → r .verdict ≡ verdict.Refused n at
+      → insideOutNumber (eqb n 0) (wantedEdit (readFile file .program) line) (readFile file .program) 0
+  number-unchecked {n} h =
+      number-refused n (wantedEdit (readFile file .program) line) (readFile file .program)
+      (few-checks file marks output work (sym (k .verdict) ∙ h) .0)
+
+  pub number-checked : (t : Bool) (n : ℕ) → insideOutNumber t (wantedEdit (programOf (r .program)) line) (programOf (r .program)) n
       → insideOutNumber t (wantedEdit (readFile file .program) line) (readFile file .program) n
-  number-measured t n x = subst (λ (y : Outcome). insideOutNumber t (wantedEdit (y .program) line) (y .program) n) e x
+  number-checked t n x = subst (λ (p : Program). insideOutNumber t (wantedEdit p line) p n) (k .program) x

@@ -3,9 +3,10 @@ use mathlib.Core.Path.{_≡_, refl, sym, ap, _∙_}
 use mathlib.Core.Logic.{_⊎_, inl, inr, _≢_}
 use mathlib.Core.Bool.{Bool, true, false, cond}
 use mathlib.Core.List.{List, [], _∷_, map, List·Memᴰ, List·Memᴰ·head, List·Memᴰ·tail}
-use Prim.Native.Nat.{ℕ}
+use Prim.Native.Nat.{ℕ, _<_}
 use lib.Dec.{ltb}
 use Rattle.automaton.specs.declared.Event.{Event}
+use Rattle.program.specs.Sizes.{maxRoutines, maxNodes}
 use Rattle.program.specs.Program.{Edge, Program}
 use Rattle.program.specs.Frames.{edgeKey}
 use Rattle.program.specs.WellFormed.{WellFormed}
@@ -13,7 +14,7 @@ use Rattle.reach.specs.Runs.{Step, labelOf, stepOf, HasStep}
 use Rattle.reach.specs.Reachable.{Initial, initial}
 use Rattle.reach.proofs.Laws.{Sub, Within}
 use Rattle.reach.proofs.Sizes.{sizes}
-use Rattle.reach.proofs.Growing.{Grown}
+use Rattle.reach.proofs.Growing.{Grown, AtNode}
 use Rattle.edit.specs.Edits.{edgeOfStep, oldEdge}
 use Rattle.edit.specs.Editing.{sameEdge, without, inserted, editedProgram, Applies}
 use Rattle.edit.specs.declared.Step as edit
@@ -104,11 +105,9 @@ module _ (e : Edit) (p : Program) {g n m : ℕ} {l : Event} (ne : g ≢ oldEdge 
 
 -- an add has steps more only from its source, and a drop has no step more
 module _ (s : edit.Step) (p : Program) (w : WellFormed p) where
-  pub add-grown : Applies (Add s) p → Grown p (editedProgram (Add s) p) (s .routine) (s .source)
+  pub add-grown : Grown p (editedProgram (Add s) p) (AtNode (s .routine) (s .source))
   unfolding editedProgram
-  add-grown a =
-      let z = sizes (editedProgram (Add s) p) (applied-well-formed (Add s) p w a) in
-      let h : HasStep (editedProgram (Add s) p) (s .routine) (s .source) (labelOf (edgeOfStep s .label)) (s .target) = new-inserted stepOf (edgeOfStep s) (p .edges) in
+  add-grown =
       record {
         automaton = refl;
         well-formed = w;
@@ -118,9 +117,15 @@ module _ (s : edit.Step) (p : Program) (w : WellFormed p) where
               | inl x ↦ inr (ap (λ (y : Step). y .routine) x, ap (λ (y : Step). y .source) x)
               | inr m ↦ inl m
             ];
-        routine = z .routine h;
-        source = z .source h;
       }
+
+  -- a step leads from there, so that it is in range
+  pub add-from : Applies (Add s) p → (s .routine < maxRoutines) × (s .source < maxNodes)
+  unfolding editedProgram
+  add-from a =
+      let z = sizes (editedProgram (Add s) p) (applied-well-formed (Add s) p w a) in
+      let h : HasStep (editedProgram (Add s) p) (s .routine) (s .source) (labelOf (edgeOfStep s .label)) (s .target) = new-inserted stepOf (edgeOfStep s) (p .edges) in
+      (z .routine h, z .source h)
 
   pub drop-within : Within (editedProgram (Drop s) p) p
   unfolding editedProgram

@@ -1,21 +1,20 @@
 -- A repair (paper): it reads a file, its marks and one edit line, changes the marks to those of the edited program, and writes that program. One function of
 -- everything that is lent gives the answer and every lent byte afterwards.
 use Prim.Native.Nat.{ℕ}
-use mathlib.Core.Bool.{Bool, cond}
 use mathlib.Core.List.{List, _++_}
-use lib.Dec.{ltb, eqb}
 use lib.ListN.{length, drop}
-use Rattle.program.specs.Sizes.{marksSize, outputSize}
 use Rattle.program.specs.Program.{Program}
 use Rattle.program.specs.Reading.{readFile}
+use Rattle.program.specs.Checks.{checked}
 use Rattle.program.specs.Writing.{written}
 use Rattle.program.specs.declared.Verdict.{Verdict}
 use Rattle.program.specs.declared.Verdict.the-variants as verdict
+use Rattle.program.specs.declared.Length.the-variants.{Of}
 use Rattle.writer.specs.declared.WriteAnswer.{WriteAnswer}
 use Rattle.writer.specs.declared.WriteAnswer.the-variants.{Written, Refused}
 use Rattle.reach.specs.Configurations.{none-set}
 use Rattle.reach.specs.Marks.{freshMarks}
-use Rattle.analysis.specs.Answers.{same}
+use Rattle.analysis.specs.Answers.{owned}
 use Rattle.edit.specs.Editing.{editedProgram, wantedEdit}
 use Rattle.edit.specs.declared.Edit.{Edit}
 use Rattle.edit.specs.declared.EditRead.{EditRead}
@@ -30,23 +29,15 @@ pub record After : Type 0 where
   pub output : List ℕ
   pub work : List ℕ
 
--- ---- the checks, in their order
-
--- the file (1 to 8), then the lengths of the marks (9), of the output (10) and of the working buffer (11)
-abbrev pub measuredBy : Verdict → ℕ → ℕ → ℕ → Verdict
-measuredBy verdict.Accepted marks output work =
-    cond (eqb marks marksSize) (cond (ltb output outputSize) (verdict.Refused 10 0) (cond (eqb work marksSize) verdict.Accepted (verdict.Refused 11 0))) (verdict.Refused 9 0)
-measuredBy (verdict.Refused n line) marks output work = verdict.Refused n line
-
 -- ---- what is lent, afterwards
 
--- a refusal that is checked before 17 leaves everything alone
+-- a refusal that is checked before the marks leaves everything alone
 abbrev pub untouched : ℕ → ℕ → List ℕ → List ℕ → List ℕ → After
 untouched n line marks output work = record { answer = Refused n line; marks = marks; output = output; work = work }
 
--- foreign marks (17): the working buffer is all zero
-abbrev pub foreign : List ℕ → List ℕ → After
-foreign marks output = record { answer = Refused 17 0; marks = marks; output = output; work = none-set }
+-- a refusal of foreign marks: the working buffer is all zero
+abbrev pub foreign : ℕ → ℕ → List ℕ → List ℕ → After
+foreign n line marks output = record { answer = Refused n line; marks = marks; output = output; work = none-set }
 
 -- the marks of the edited program; its file at the start of the output, whose other bytes stay; the working buffer all zero
 abbrev pub repairedTo : Program → List ℕ → After
@@ -58,9 +49,17 @@ repairedTo p output =
       work = none-set;
     }
 
--- an edit that is not refused: 17 is left to check
+-- ---- the checks, in their order: the file, the lengths of what is lent, the edit line, and last the marks
+
+abbrev pub checkedRepair : List ℕ → List ℕ → List ℕ → List ℕ → Verdict
+checkedRepair file marks output work = checked file (Of (length marks)) (Of (length output)) (Of (length work))
+
+abbrev pub ownedBy : Verdict → Program → List ℕ → List ℕ → After
+ownedBy verdict.Accepted p marks output = repairedTo p output
+ownedBy (verdict.Refused n line) p marks output = foreign n line marks output
+
 abbrev pub editedBy : Edit → Program → List ℕ → List ℕ → After
-editedBy e p marks output = cond (same marks (freshMarks p)) (repairedTo (editedProgram e p) output) (foreign marks output)
+editedBy e p marks output = ownedBy (owned p marks) (editedProgram e p) marks output
 
 -- the edit line (12 to 16)
 abbrev pub wantedBy : EditRead → Program → List ℕ → List ℕ → List ℕ → After
@@ -73,12 +72,8 @@ repairedBy (verdict.Refused n at) p marks line output work = untouched n at mark
 
 -- ---- a repair, for a file, marks, an edit line, an output and a working buffer
 
-unfoldable pub measured : List ℕ → ℕ → ℕ → ℕ → Verdict
-measured file marks output work = measuredBy (readFile file .verdict) marks output work
-
 unfoldable pub repaired : List ℕ → List ℕ → List ℕ → List ℕ → List ℕ → After
-repaired file marks line output work =
-    repairedBy (measured file (length marks) (length output) (length work)) (readFile file .program) marks line output work
+repaired file marks line output work = repairedBy (checkedRepair file marks output work) (readFile file .program) marks line output work
 
 -- ---- the numbers of an inside-out repair's answer
 

@@ -1,7 +1,6 @@
 // The forward repair of the marks: an add lets the new edge act and follows what is newly marked; a drop keeps what still has
 // support, whatever the marks are; a replace is the drop and then the add. The edits that come here were not refused (12 to 16),
 // the buffers have their lengths (9 and 11), and but for a drop the marks must be the program's own (17): hence each `requires`.
-use analysis::grow::follow_added;
 use edit::Edit;
 use edit::Step;
 use edit::apply::relabelled;
@@ -9,6 +8,7 @@ use edit::apply::with_step;
 use edit::apply::without_step;
 use program::DecodedProgram;
 use prune::prune_program;
+use worklist::grow::follow_added;
 ghost use mathlib.Core.Path.{_≡_};
 ghost use lib.ListN.{length};
 ghost use Rattle.program.specs.Sizes.{marksSize};

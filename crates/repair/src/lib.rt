@@ -2,16 +2,16 @@
 mod forward;
 mod inside_out;
 
-use analysis::own::is_own;
+use analysis::check_own;
 use components::routines::bits_of;
 use edit::Edit;
 use edit::EditRead;
 use edit::wanted_edit;
 use inside_out::mend;
 use program::DecodedProgram;
+use program::Length;
 use program::Verdict;
-use program::sizes::MARKS_SIZE;
-use program::sizes::OUTPUT_SIZE;
+use reader::checks::checked_program;
 use writer::WriteAnswer;
 use writer::put::write_program;
 ghost use mathlib.Core.Path.{_≡_};
@@ -26,7 +26,7 @@ ghost use Rattle.edit.specs.Editing.{wantedEdit, Applies};
 ghost use Rattle.program.specs.Reading.{readFile};
 ghost use Rattle.writer.specs.Answers.{refusal};
 ghost use Rattle.edit.specs.declared.EditRead.the-variants.{Read};
-ghost use Rattle.repair.specs.Repairs.{After, measuredBy, editedBy, wantedBy, repaired, plain, reanalyzed};
+ghost use Rattle.repair.specs.Repairs.{After, editedBy, wantedBy, repaired, plain, reanalyzed};
 ghost use Rattle.repair.specs.Reanalyzed.{insideOutNumber};
 
 // So many bytes were written, and these routines were reanalyzed, a bit each; or nothing was done, and a refusal says why, at
@@ -36,28 +36,7 @@ pub enum RepairAnswer {
     Refused(u8, usize),
 }
 
-// The file's verdict, then the lengths of the marks (9), of the output (10) and of the working buffer (11).
-fn measure(v: Verdict, marks: usize, output: usize, work: usize) -> Verdict
-    ensures { λ r. ⌜ r ≡ measuredBy v marks output work ⌝ }
-{
-    match v {
-        Verdict::Refused(n, line) => Verdict::Refused(n, line),
-        Verdict::Accepted => {
-            if marks == MARKS_SIZE {
-                if output < OUTPUT_SIZE {
-                    return Verdict::Refused(10, 0);
-                }
-                if work == MARKS_SIZE {
-                    return Verdict::Accepted;
-                }
-                return Verdict::Refused(11, 0);
-            }
-            Verdict::Refused(9, 0)
-        }
-    }
-}
-
-// Marks that differ from the program's own are refused (17). Else they are repaired, and the edited program is written.
+// Marks that are not the program's own are refused. Else they are repaired, and the edited program is written.
 fn repair_own(
     inward: bool,
     p: DecodedProgram,
@@ -72,19 +51,22 @@ fn repair_own(
         (editedBy e (programOf p) (now (marks .entry)) (now (output .entry)))
         × (inward ≡ true → insideOutNumber (eqb (refusal (plain r)) 0) (Read e) (programOf p) (reanalyzed r)) ⌝ }
 {
-    if is_own(p, marks, work) {
-        let mended = mend(inward, p, e, marks, work);
-        let edited = mended.program;
-        let routines = mended.routines;
-        let flags = routines.flags;
-        let bits = bits_of(&flags);
-        let size = write_program(output, edited);
-        return RepairAnswer::Repaired(size, bits);
+    let own = check_own(p, marks, work);
+    match own {
+        Verdict::Refused(n, at) => RepairAnswer::Refused(n, at),
+        Verdict::Accepted => {
+            let mended = mend(inward, p, e, marks, work);
+            let edited = mended.program;
+            let routines = mended.routines;
+            let flags = routines.flags;
+            let bits = bits_of(&flags);
+            let size = write_program(output, edited);
+            RepairAnswer::Repaired(size, bits)
+        }
     }
-    RepairAnswer::Refused(17, 0)
 }
 
-// The refusals of the edit line (12 to 16); else 17 is left to check.
+// The refusals of the edit line (12 to 16); else the marks are left to check.
 fn repair_wanted(
     inward: bool,
     p: DecodedProgram,
@@ -120,10 +102,12 @@ fn repair_file(
         (repaired (now (file .entry)) (now (marks .entry)) (now (line .entry)) (now (output .entry)) (now (work .entry)))
         × (inward ≡ true → insideOutNumber (eqb (refusal (plain r)) 0) (wantedEdit (readFile (now (file .entry)) .program) (now (line .entry))) (readFile (now (file .entry)) .program) (reanalyzed r)) ⌝ }
 {
-    let r = reader::read(file);
+    let marks_length = Length::Of(marks.len());
+    let output_length = Length::Of(output.len());
+    let work_length = Length::Of(work.len());
+    let r = checked_program(file, marks_length, output_length, work_length);
     let v = r.verdict;
-    let measured = measure(v, marks.len(), output.len(), work.len());
-    match measured {
+    match v {
         Verdict::Refused(n, at) => RepairAnswer::Refused(n, at),
         Verdict::Accepted => {
             let p = r.program;

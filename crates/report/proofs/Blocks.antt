@@ -1,24 +1,26 @@
 -- The lines of a block and of refusals, put into an output.
 use mathlib.Core.Path.{_≡_, refl, sym, ap, _∙_}
-use mathlib.Core.Bool.{Bool, true, false, cond, _&&_, not}
+use mathlib.Core.Bool.{Bool, true, false, _&&_, not}
 use mathlib.Core.List.{List, [], _∷_, _++_, map, map-append, append-assoc, append-nil}
 use Prim.Native.Nat.{ℕ, _+_, _*_, _%_, _<_, _≤_}
 use native.Mathlib.Nat.{zero-add}
 use native.Mathlib.Numerals.{add-one}
 use native.Mathlib.Omega.{arith}
-use lib.Dec.{eqb, ltb, leb}
+use lib.Dec.{eqb}
 use lib.ListN.{length, getD, take, drop, length-append, drop-of-length-le}
 use lib.Seq.{sets, sets-eq, drop-cons}
-use borrow.Author.Tests.{lt-ltb, le-ltb, leb-true, leb-false, eqb-true}
+use borrow.Author.Tests.{lt-ltb, le-ltb}
 use Rattle.text.specs.Hex.{hexLine}
 use Rattle.text.specs.declared.Line.{Line}
 use Rattle.text.proofs.RoundTrip.{length-hex}
 use Rattle.automaton.specs.Flags.{Rejects}
 use Rattle.program.specs.Program.{Program}
-use Rattle.program.specs.Reading.{Outcome, readFile}
+use Rattle.program.specs.Decoded.{programOf}
 use Rattle.program.specs.declared.Verdict.{Verdict}
 use Rattle.program.specs.declared.Verdict.the-variants as verdict
-use Rattle.base.proofs.Bools.{both}
+use Rattle.program.specs.declared.Length.the-variants.{NotAsked, Of}
+use Rattle.reader.specs.Checked.{Checked}
+use Rattle.reader.specs.declared.Reading.{Reading}
 use Rattle.reach.specs.Configurations.{stateOf}
 use Rattle.reach.proofs.Numbers.{state-small}
 use Rattle.reach.specs.Marks.{violates, frontWhen, violationsFrom}
@@ -26,7 +28,6 @@ use Rattle.base.specs.Flags.{countSet}
 use Rattle.writer.specs.Parts.{Put}
 use Rattle.writer.proofs.Written.{put-none, put-both}
 use Rattle.report.specs.Report.{violationFrame, countFrame, blockOf, blockSize, blockBy, blockText, lineWithin, Printed}
-use Rattle.report.specs.Parts.{blockFits}
 use Rattle.report.proofs.Theorems.{block-limited}
 
 -- ---- a line of a refusal
@@ -105,30 +106,16 @@ block-put {o = o} p marks h room e f x y =
     let w = put-both x (rw (e, f) at y) in
     (w .past ∙ zero-add _, w .there ∙ sets-eq (blockOf p marks) o 0 (omega (arith, block-limited p marks h)) ∙ rw zero-add)
 
--- ---- whether there is a block
+-- ---- the block, or nothing
 
-same-test : (a b : ℕ) → ltb a (b + 1) ≡ leb a b
-same-test a b = go (leb a b) refl
-  where
-    go : (t : Bool) → leb a b ≡ t → ltb a (b + 1) ≡ t
-    go true e = lt-ltb a (b + 1) (let h = leb-true a b e in omega arith)
-    go false e = le-ltb a (b + 1) (let h = leb-false a b e in omega arith)
+pub no-block : (p : Program) (marks o : List ℕ) → length o < blockSize → Printed (blockBy verdict.Accepted p marks (length o)) o o 0
+no-block p marks o h = rw (lt-ltb (length o) blockSize h) (refl, refl)
 
-by-fits : (v : Verdict) (p : Program) (marks : List ℕ) (room : ℕ) → blockBy v p marks room ≡ cond (blockFits v (length marks) room) (blockOf p marks) []
-by-fits verdict.Accepted p marks room = rw (same-test blockSize room)
-by-fits (verdict.Refused n line) p marks room = refl
+pub whole-block : {out : List ℕ} {r : ℕ} (p : Program) (marks o : List ℕ) → blockSize ≤ length o → Printed (blockOf p marks) o out r
+    → Printed (blockBy verdict.Accepted p marks (length o)) o out r
+whole-block p marks o h x = rw (le-ltb (length o) blockSize h) x
 
-pub fits : (v : Verdict) (m room : ℕ) → blockFits v m room ≡ true → (m ≡ 16384) × (blockSize ≤ room)
-fits verdict.Accepted m room e =
-    let h = both (eqb m 16384) (leb blockSize room) e in
-    (eqb-true m 16384 (h .0), leb-true blockSize room (h .1))
-fits (verdict.Refused n line) m room e = absurd (let z : _≡_ {A = ℕ} 0 1 = cc in omega arith)
-
-module _ (file marks : List ℕ) (room : ℕ) (o : Outcome) (e : o ≡ readFile file) where
-  pub by-block : blockFits (o .verdict) (length marks) room ≡ true → blockText file marks room ≡ blockOf (o .program) marks
-  unfolding blockText
-  by-block t = rw (← e, by-fits (o .verdict) (o .program) marks room, t)
-
-  pub by-nothing : blockFits (o .verdict) (length marks) room ≡ false → blockText file marks room ≡ []
-  unfolding blockText
-  by-nothing t = rw (← e, by-fits (o .verdict) (o .program) marks room, t)
+pub block-text : (file marks : List ℕ) (room : ℕ) {r : Reading} → Checked file (Of (length marks)) NotAsked NotAsked r → {v : Verdict} → r .verdict ≡ v
+    → blockText file marks room ≡ blockBy v (programOf (r .program)) marks room
+unfolding blockText
+block-text file marks room k h = rw (← k .verdict, h, k .program)

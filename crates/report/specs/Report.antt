@@ -9,10 +9,12 @@ use Rattle.program.specs.Sizes.{marksSize}
 use Rattle.text.specs.Hex.{hexLine}
 use Rattle.text.specs.Lines.{lines}
 use Rattle.program.specs.Program.{Program}
-use Rattle.program.specs.Reading.{Outcome, readFile}
+use Rattle.program.specs.Reading.{readFile}
+use Rattle.program.specs.Checks.{checked}
 use Rattle.program.specs.Writing.{text}
 use Rattle.program.specs.declared.Verdict.{Verdict}
 use Rattle.program.specs.declared.Verdict.the-variants as verdict
+use Rattle.program.specs.declared.Length.the-variants.{NotAsked, Of}
 use Rattle.reach.specs.Configurations.{routineOf, nodeOf, rootOf, stateOf}
 use Rattle.reach.specs.Marks.{freshMarks, violationsFrom}
 use Rattle.base.specs.Flags.{countSet}
@@ -98,13 +100,13 @@ lineSize = 11
 abbrev pub blockSize : ℕ
 blockSize = lineSize * marksSize + lineSize
 
--- the block, or nothing where the file is refused, the marks do not have 16,384 bytes or the output is too short for every block
+-- the block, or nothing where the file or the marks' length is refused, or the output is too short for every block
 abbrev pub blockBy : Verdict → Program → List ℕ → ℕ → List ℕ
-blockBy verdict.Accepted p marks room = cond (eqb (length marks) marksSize && ltb blockSize (room + 1)) (blockOf p marks) []
+blockBy verdict.Accepted p marks room = cond (ltb room blockSize) [] (blockOf p marks)
 blockBy (verdict.Refused n line) p marks room = []
 
 unfoldable pub blockText : List ℕ → List ℕ → ℕ → List ℕ
-blockText file marks room = blockBy (readFile file .verdict) (readFile file .program) marks room
+blockText file marks room = blockBy (checked file (Of (length marks)) NotAsked NotAsked) (readFile file .program) marks room
 
 -- ---- a line of a refusal, as it is asked for: into an output
 

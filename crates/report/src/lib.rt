@@ -1,9 +1,11 @@
 // What bench prints: where the file of an input ends, the block of a program and its marks, and the lines of refusals.
 mod put;
 
+use program::Length;
 use program::Verdict;
 use program::sizes::MARKS_SIZE;
 use put::put_block;
+use reader::checks::checked_program;
 use text::Line;
 use text::put_line;
 ghost use mathlib.Core.Path.{_≡_};
@@ -12,7 +14,6 @@ ghost use Prim.Native.Nat.{_<_, _/_, _%_};
 ghost use lib.ListN.{length, drop};
 ghost use Rattle.text.specs.Lines.{lines, lineOf, firstLine};
 ghost use Rattle.report.specs.Report.{startsEnd, fileSize, firstSize, blockText, editRefusal, fileRefusal, Printed};
-ghost use Rattle.report.specs.Parts.{blockFits};
 
 // No input that is read is longer.
 pub const INPUT_SIZE: usize = 16384;
@@ -63,27 +64,23 @@ pub fn file_size(input: &[u8]) -> usize
     at
 }
 
-// Whether a block is printed: the file is accepted, the marks have their length, and the output has room for every block.
-fn has_block(v: Verdict, marks: usize, room: usize) -> bool
-    ensures { λ r. ⌜ r ≡ blockFits v marks room ⌝ }
-{
-    match v {
-        Verdict::Refused(_n, _line) => false,
-        Verdict::Accepted => (marks == MARKS_SIZE) & (BLOCK_SIZE <= room),
-    }
-}
-
 // The block of a file's program and of marks: each violation, ascending, and then the counts.
 pub fn block(file: &[u8], marks: &[u8], output: &mut [u8]) -> usize
     ensures { λ r. ⌜ Printed (blockText (now (file .entry)) (now (marks .entry)) (length (now (output .entry)))) (now (output .entry)) (now (output .exit)) r ⌝ }
 {
-    let r = reader::read(file);
+    let marks_length = Length::Of(marks.len());
+    let r = checked_program(file, marks_length, Length::NotAsked, Length::NotAsked);
     let v = r.verdict;
-    if has_block(v, marks.len(), output.len()) {
-        let p = r.program;
-        return put_block(p, marks, output);
+    match v {
+        Verdict::Refused(_n, _line) => 0,
+        Verdict::Accepted => {
+            if output.len() < BLOCK_SIZE {
+                return 0;
+            }
+            let p = r.program;
+            put_block(p, marks, output)
+        }
     }
-    0
 }
 
 fn edit_refusal_line(n: u8) -> Line

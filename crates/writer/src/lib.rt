@@ -1,9 +1,10 @@
 // Writing a file's program back.
 pub mod put;
 
+use program::Length;
 use program::Verdict;
-use program::sizes::OUTPUT_SIZE;
 use put::write_program;
+use reader::checks::checked_program;
 ghost use mathlib.Core.Path.{_≡_};
 ghost use Rattle.writer.specs.Answers.{writeAnswer, outputAfter};
 
@@ -18,14 +19,12 @@ pub fn write(file: &[u8], output: &mut [u8]) -> WriteAnswer
     ensures { λ r. ⌜ (r ≡ writeAnswer (now (file .entry)) (now (output .entry)))
         × (now (output .exit) ≡ outputAfter (now (file .entry)) (now (output .entry))) ⌝ }
 {
-    let r = reader::read(file);
+    let output_length = Length::Of(output.len());
+    let r = checked_program(file, Length::NotAsked, output_length, Length::NotAsked);
     let v = r.verdict;
     match v {
         Verdict::Refused(n, line) => WriteAnswer::Refused(n, line),
         Verdict::Accepted => {
-            if output.len() < OUTPUT_SIZE {
-                return WriteAnswer::Refused(10, 0);
-            }
             let p = r.program;
             WriteAnswer::Written(write_program(output, p))
         }

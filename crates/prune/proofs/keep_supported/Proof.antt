@@ -8,7 +8,7 @@ use borrow.Author.Needs.{needs}
 use Rattle.program.specs.Frames.{edgeKey}
 use Rattle.program.specs.WellFormed.{Ascending}
 use Rattle.program.specs.Decoded.{edgeOf}
-use Rattle.analysis.proofs.Slice.{in-use-same}
+use Rattle.worklist.proofs.Slice.{in-use-same}
 use Rattle.prune.proofs.Closed.{its-tables, settled-shows}
 use Rattle.prune.proofs.keep_supported.Statement.{statement}
 use Rattle.prune.proofs.keep_supported.Tie as tie

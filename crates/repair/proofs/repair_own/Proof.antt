@@ -1,49 +1,60 @@
 use Rattle.repair.proofs.Answered.{own-answer, foreign-answer, room, none-length}
-use Rattle.repair.proofs.Numbered.{bits-of-flags}
-use Rattle.analysis.proofs.Answered.{same-equal}
+use Rattle.repair.proofs.Numbered.{number-foreign, bits-of-flags}
+use Rattle.analysis.proofs.Answered.{accepted-own}
 use Rattle.program.specs.Decoded.{programOf}
 use lib.ListN.{length}
-use mathlib.Core.Path.{refl, ap, sym, _∙_}
+use mathlib.Core.Path.{ap, sym, _∙_}
 use borrow.Author.Needs.{needs}
 use Rattle.repair.proofs.repair_own.Statement.{statement}
 use Rattle.repair.proofs.repair_own.Tie as tie
 
-is-own-requires : tie.Need-is-own-requires
-is-own-requires c κs = let z = c .before .before .before .before .before in (z .pre .0 .0, z .pre .1 .2)
+abbrev start : tie.After-check-own → tie.Start
+start b = b .before .before .before .before .before .before
+
+abbrev own : tie.After-enum-told → tie.After-check-own
+own t = t .before .before .before .before
+
+abbrev mended : tie.After-bits-of → tie.After-mend
+mended c = c .before .before .before .before .before .before .before .before .before
 
 mend-requires : tie.Need-mend-requires
 mend-requires c κs =
-    let z = c .before .before .before .before .before .before .before .before .before .before .before in
-    let o = c .before .before .before .before .before .is-own .ensures in
-    (z .pre .0, (same-equal _ _ (sym (o .0) ∙ c .before .before .if1 .taken), ap length (o .1) ∙ none-length))
-
-bits-of-requires : tie.Need-bits-of-requires
-bits-of-requires c κs =
-    let o = c .before .before .before .before .before .before .before .before .mend .ok in
-    search (needs, o)
+    let t = c .before .before in
+    let z = start (own t) in
+    let o = own t .check-own .ensures in
+    (z .pre .0, (accepted-own (programOf (z .args .p)) (z .args .marks .now) (sym (o .0) ∙ t .enum-told .given .1), ap length (o .1) ∙ none-length))
 
 write-program-requires : tie.Need-write-program-requires
 write-program-requires c κs =
-    let z = c .before .before .before .before .before .before .before .before .before .before .before .before .before .before .before .before .before .before .before .before .before .before in
-    let x = room (z .args .e) (programOf (z .args .p)) (z .args .marks .now) (z .args .output .now) (z .pre .0 .0) (z .pre .0 .1) (c .before .before .before .before .before .before .before .before .before .before .mend .ensures .0) (z .pre .1 .1) in
+    let m = mended (c .before) in
+    let z = start (own (m .before .before .before)) in
+    let x = room (z .args .e) (programOf (z .args .p)) (z .args .marks .now) (z .args .output .now) (z .pre .0 .0) (z .pre .0 .1) (m .mend .ensures .0) (z .pre .1 .1) in
     (x .0 .transitions-fit, x .1)
 
 returns : tie.Need-returns
 returns c =
-    let z = c .before .before .before .before .before .before .before .before .before .before .before .before .before .before .before .before .before .before .before .before .before .before .before .before .before in
-    let t = sym (c .before .before .before .before .before .before .before .before .before .before .before .before .before .before .before .before .before .before .before .is-own .ensures .0) ∙ c .before .before .before .before .before .before .before .before .before .before .before .before .before .before .before .before .if1 .taken in
-    let r = c .before .before .before .before .before .before .before .before .before .before .before .before .before .mend .ensures in
-    (own-answer (z .args .e) (programOf (z .args .p)) (z .args .marks .now) (z .args .output .now) t (r .0) (c .before .before .write-program .ensures), λ i. bits-of-flags (r .1 i) (c .before .before .before .before .bits-of .ensures))
+    let b = c .before .before .before .before .before in
+    let z = start b in
+    let p = programOf (z .args .p) in
+    let o = b .check-own .ensures in
+    let h = sym (o .0) ∙ c .before .own .given .1 in
+    (foreign-answer (z .args .e) p (z .args .marks .now) (z .args .output .now) h (o .1), λ i. number-foreign p (z .args .marks .now) (z .args .e) h)
 
 returns-2 : tie.Need-returns-2
 returns-2 c =
-    let z = c .before .before .before .before .before .before .before .before .before in
-    let o = c .before .before .before .is-own .ensures in
-    (foreign-answer (z .args .e) (programOf (z .args .p)) (z .args .marks .now) (z .args .output .now) (sym (o .0) ∙ c .if1 .left) (o .1), λ i. refl)
+    let d = c .before .before .before .before in
+    let m = mended d in
+    let t = m .before .before .before in
+    let z = start (own t) in
+    let h = sym (own t .check-own .ensures .0) ∙ t .enum-told .given .1 in
+    let r = m .mend .ensures in (
+      own-answer (z .args .e) (programOf (z .args .p)) (z .args .marks .now) (z .args .output .now) h (r .0) (c .before .before .write-program .ensures),
+      λ i. bits-of-flags (r .1 i) (d .bits-of .ensures),
+    )
 
 pub repair-own-spec : {M : Type 1} → statement M
 repair-own-spec =
     tie.close
-    (tie.spec is-own-requires mend-requires (λ c. search needs) bits-of-requires write-program-requires
-    (λ c. search needs) (λ c. search needs) (λ c. search needs) returns (λ c. search needs) (λ c. search needs)
-    returns-2)
+    (tie.spec (λ c κs. search needs) (λ c. search needs) (λ c. search needs) mend-requires (λ c. search needs)
+    (λ c κs. search needs) write-program-requires (λ c. search needs) (λ c. search needs) returns
+    (λ c. search needs) (λ c. search needs) (λ c. search needs) returns-2)

@@ -1,45 +1,46 @@
 -- `report::block` meets its contract.
-use mathlib.Core.Path.{refl, sym, _∙_}
+use mathlib.Core.Path.{refl}
+use native.Mathlib.Omega.{arith}
 use lib.ListN.{length}
 use borrow.Author.Needs.{needs}
-use Rattle.reader.specs.Outcome.{outcomeOf}
-use Rattle.report.proofs.Blocks.{fits, by-block, by-nothing}
+use Rattle.program.specs.Decoded.{programOf}
+use Rattle.report.proofs.Blocks.{no-block, whole-block, block-text}
 use Rattle.report.proofs.block.Statement.{statement}
 use Rattle.report.proofs.block.Tie as tie
 
-abbrev start : tie.After-has-block → tie.Start
-start b = b .before .before .before .before .before
-
-put-block-requires : tie.Need-put-block-requires
-put-block-requires c κs =
-    let t = c .before .before in
-    let z = start (t .before) in
-    fits (t .before .before .read .result .verdict) (length (z .args .marks .now)) (length (z .args .output .now))
-    (sym (t .before .has-block .ensures) ∙ t .if1 .taken)
+abbrev start : tie.After-checked-program → tie.Start
+start b = b .before .before .before .before
 
 returns : tie.Need-returns
 returns c =
-    let q = c .before .before in
-    let t = q .before .before .before in
-    let b = t .before in
-    let z = start b in
-    let read = b .before .read in
-    rw
-    (by-block (z .args .file .now) (z .args .marks .now) (length (z .args .output .now)) (outcomeOf (read .result)) (read .ensures)
-    (sym (b .has-block .ensures) ∙ t .if1 .taken))
-    (q .put-block .ensures)
+    let t = c .before in
+    let b = t .before .before in
+    let z = start b .args in
+    rw (block-text (z .file .now) (z .marks .now) (length (z .output .now)) (b .checked-program .ensures) (t .enum-told .given .1))
+    (no-block (programOf (b .checked-program .result .program)) (z .marks .now) (z .output .now) (omega arith))
+
+put-block-requires : tie.Need-put-block-requires
+put-block-requires c κs =
+    let t = c .before .before .before in
+    (t .before .before .checked-program .ensures .sized (t .enum-told .given .1) .marks-length, omega arith)
 
 returns-2 : tie.Need-returns-2
 returns-2 c =
-    let b = c .before in
-    let z = start b in
-    let read = b .before .read in
-    rw
-    (by-nothing (z .args .file .now) (z .args .marks .now) (length (z .args .output .now)) (outcomeOf (read .result)) (read .ensures)
-    (sym (b .has-block .ensures) ∙ c .if1 .left))
-    (refl, refl)
+    let b = c .before .before .before in
+    let z = start b .args in
+    rw (block-text (z .file .now) (z .marks .now) (length (z .output .now)) (b .checked-program .ensures) (c .before .v .given .1)) (refl, refl)
+
+returns-3 : tie.Need-returns-3
+returns-3 c =
+    let d = c .before .before in
+    let t = d .before .before .before .before in
+    let b = t .before .before in
+    let z = start b .args in
+    rw (block-text (z .file .now) (z .marks .now) (length (z .output .now)) (b .checked-program .ensures) (t .enum-told .given .1))
+    (whole-block (programOf (b .checked-program .result .program)) (z .marks .now) (z .output .now) (omega arith) (d .put-block .ensures))
 
 pub block-spec : {M : Type 1} → statement M
 block-spec =
     tie.close
-    (tie.spec (λ c κs. search needs) (λ c κs. search needs) put-block-requires (λ c. search needs) returns returns-2)
+    (tie.spec (λ c κs. search needs) (λ c. search needs) (λ c. search needs) returns put-block-requires returns-2
+    (λ c. search needs) returns-3)

@@ -1,4 +1,5 @@
 -- `analysis::own::is_own` meets its contract.
+use Rattle.program.specs.Sizes.{marksSize}
 use Rattle.analysis.specs.Answers.{same}
 use Rattle.analysis.proofs.Answered.{same-decides}
 use lib.ListN.{length-replicate}
@@ -12,12 +13,14 @@ use Rattle.analysis.proofs.own.is_own.Tie as tie
 analyze-program-requires : tie.Need-analyze-program-requires
 analyze-program-requires c κs =
     let z = c .before .before .before .before in
-    (z .pre .0, (length-replicate {A = ℕ} 16384 0, z .pre .1))
+    (z .pre .0, (length-replicate {A = ℕ} marksSize 0, z .pre .1))
 
 returns : tie.Need-returns
 returns c =
-    let a = c .before .before .before .before .before .analyze-program .ensures in
-    (same-decides _ _ _ (c .same .ensures) ∙ ap (λ (l : List ℕ). same (c .before .before .before .before .before .before .before .before .before .before .args .marks .now) l) (a .0), a .1)
+    let analyzed = c .before .before .before .before .before in
+    let z = analyzed .before .before .before .before .before in
+    let a = analyzed .analyze-program .ensures in
+    (same-decides _ _ _ (c .same .ensures) ∙ ap (λ (l : List ℕ). same (z .args .marks .now) l) (a .0), a .1)
 
 pub is-own-spec : {M : Type 1} → statement M
 is-own-spec =

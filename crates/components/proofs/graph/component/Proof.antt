@@ -1,7 +1,7 @@
 -- `components::graph::component` meets its contract. The loop's invariant: the flags below `g` are those of the
 -- component.
 use Rattle.components.specs.Graphs.{togetherFlag}
-use Rattle.analysis.proofs.Filling.{Filling, filling-none, filling-more, filling-all}
+use Rattle.worklist.proofs.Filling.{Filling, filling-none, filling-more, filling-all}
 use borrow.Author.Needs.{needs}
 use native.Mathlib.Omega.{arith}
 use Prim.Native.Nat.{_-_}

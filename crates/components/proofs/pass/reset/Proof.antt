@@ -1,5 +1,5 @@
 -- `components::pass::reset` meets its contract. The loop's invariant: the first `i` marks are written, the others are as they were.
-use Rattle.analysis.proofs.Filling.{Filling, filling-none, filling-more, filling-all}
+use Rattle.worklist.proofs.Filling.{Filling, filling-none, filling-more, filling-all}
 use Rattle.components.specs.PassParts.{firstMark}
 use borrow.Author.Needs.{needs}
 use native.Mathlib.Omega.{arith}

@@ -1,5 +1,5 @@
 -- `components::pass::turn` meets its contract: the part of the table that is handed on has the edges of routine `f`.
-use Rattle.analysis.proofs.Slice.{part-starts}
+use Rattle.worklist.proofs.Slice.{part-starts}
 use Rattle.components.proofs.Slice.{routine-edges}
 use Rattle.components.proofs.Rounds.{no-turn, turn-followable, turn-shown}
 use native.Mathlib.Omega.{arith}

@@ -1,7 +1,7 @@
 -- `components::roots::cut` meets its contract. The loop's invariant: the bytes below `i` are cut, the others are as
 -- they were.
 use Rattle.components.specs.Graphs.{keptByte}
-use Rattle.analysis.proofs.Filling.{Filling, filling-none, filling-more, filling-all}
+use Rattle.worklist.proofs.Filling.{Filling, filling-none, filling-more, filling-all}
 use borrow.Author.Needs.{needs}
 use native.Mathlib.Omega.{arith}
 use Prim.Native.Nat.{_-_}

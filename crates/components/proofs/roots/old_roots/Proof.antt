@@ -1,6 +1,6 @@
 -- `components::roots::old_roots` meets its contract. The loop's invariant: the flags below `i` are the entries' bytes.
 use Rattle.components.proofs.Occurring.{entries-flagged}
-use Rattle.analysis.proofs.Filling.{Filling, filling-none, filling-more, filling-all}
+use Rattle.worklist.proofs.Filling.{Filling, filling-none, filling-more, filling-all}
 use Prim.Native.Nat.{_/_, _%_, _+_, _-_, _*_}
 use borrow.Author.Needs.{needs}
 use native.Mathlib.Omega.{arith}

@@ -2,7 +2,7 @@
 use mathlib.Core.Logic.{⊎-elim}
 use mathlib.Core.Path.{sym, _∙_}
 use borrow.Author.Tests.{eq-eqb, ne-eqb}
-use Rattle.analysis.proofs.Filling.{Filling, filling-none, filling-more, filling-kept, filling-all}
+use Rattle.worklist.proofs.Filling.{Filling, filling-none, filling-more, filling-kept, filling-all}
 use Rattle.components.specs.Parts.{joinedFlag}
 use borrow.Author.Needs.{needs}
 use native.Mathlib.Omega.{arith}

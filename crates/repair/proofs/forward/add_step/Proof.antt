@@ -1,4 +1,5 @@
-use Rattle.repair.proofs.Answered.{added-well-formed, added-grown, added-closed, added}
+use Rattle.repair.proofs.Steps.{add-from}
+use Rattle.repair.proofs.Answered.{added-well-formed, added-closed, added}
 use Rattle.edit.proofs.Theorems.{add-ready}
 use Rattle.program.specs.Decoded.{programOf}
 use borrow.Author.Needs.{needs}
@@ -15,8 +16,8 @@ follow-added-requires c κs =
     let z = c .before .before .before .before .before in
     let p = programOf (z .args .p) in
     let e = c .before .before .with-step .ensures in
-    let g = added-grown (z .args .s) p _ (z .pre .0 .0) (z .pre .0 .1) e in (
-      (added-well-formed (z .args .s) p _ (z .pre .0 .0) (z .pre .0 .1) e, g .routine, g .source, z .pre .1 .1),
+    let from = add-from (z .args .s) p (z .pre .0 .0) (z .pre .0 .1) in (
+      (added-well-formed (z .args .s) p _ (z .pre .0 .0) (z .pre .0 .1) e, from .0, from .1, z .pre .1 .1),
       added-closed (z .args .s) p _ (z .pre .0 .0) (z .pre .0 .1) e (z .pre .1 .0),
     )
 

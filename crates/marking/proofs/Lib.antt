@@ -1,0 +1,4 @@
+pub mod Steps
+pub mod Branches
+pub mod Meaning
+pub mod Taken

@@ -1,0 +1,88 @@
+-- One configuration marked or set pending, and the lower bound of what is pending.
+use Prim.Native.Nat.{ℕ, zero, suc, _≤_, _<_, _+_, _-_}
+use mathlib.Core.Path.{_≡_, refl, sym, ap, _∙_}
+use mathlib.Core.List.{List}
+use native.Mathlib.Omega.{arith}
+use native.Mathlib.Nat.{sub-zero}
+use native.Mathlib.Numerals.{add-one}
+use lib.ListN.{length, getD, set, List·getD-eq-default}
+use lib.Seq.{set-out, getD-set-other}
+use borrow.Author.Tests.{eq-eqb, ne-eqb}
+use Rattle.program.specs.Sizes.{marksSize}
+use Rattle.reach.specs.Worklist.{Worklist, mark, wake}
+use Rattle.marking.specs.Parts.{worklist, Becomes, NoneBelow, Lowers, each}
+
+module _ (m w : List ℕ) (at : ℕ) where
+  pub mark-new : getD m at 0 ≡ 0 → Becomes (mark at) m w (set m at 1) (set w at 1)
+  unfolding mark
+  mark-new e = record { becomes = λ k n. rw (mark, eq-eqb (getD m at 0) 0 e) }
+
+  pub mark-old : (getD m at 0 ≡ 0 → ⊥) → Becomes (mark at) m w m w
+  unfolding mark
+  mark-old e = record { becomes = λ k n. rw (mark, ne-eqb (getD m at 0) 0 e) }
+
+  pub mark-out : length m ≤ at → length w ≤ at → Becomes (mark at) m w m w
+  unfolding mark
+  mark-out a b =
+      record { becomes = λ k n. rw (mark, eq-eqb (getD m at 0) 0 (List·getD-eq-default m 0 a), set-out m at 1 a, set-out w at 1 b) }
+
+  pub wake-marked : (getD m at 0 ≡ 0 → ⊥) → Becomes (wake at) m w m (set w at 1)
+  unfolding wake
+  wake-marked e = record { becomes = λ k n. rw (wake, ne-eqb (getD m at 0) 0 e) }
+
+  pub wake-unmarked : getD m at 0 ≡ 0 → Becomes (wake at) m w m w
+  unfolding wake
+  wake-unmarked e = record { becomes = λ k n. rw (wake, eq-eqb (getD m at 0) 0 e) }
+
+  pub wake-out : length m ≤ at → Becomes (wake at) m w m w
+  wake-out a = wake-unmarked (List·getD-eq-default m 0 a)
+
+-- one more is pending: the bound is the lower of the two
+pub set-lowers : (w : List ℕ) (at low r : ℕ) → r ≤ low → r ≤ at → Lowers w low (set w at 1) r
+set-lowers w at low r a b h =
+    record { none-below = λ j l. getD-set-other w at j 1 0 (λ e. omega arith) ∙ h .none-below j (omega arith) }
+
+-- ---- loops that take one step for each number
+
+-- what holds at the head of such a loop: what is left to do from here gives the whole
+pub record Looping (f : ℕ → Worklist → Worklist) (n : ℕ) (m₀ w₀ : List ℕ) (low₀ j : ℕ) (m w : List ℕ) (low : ℕ) : Type 0 where
+  pub within : j ≤ n
+  pub marks-length : length m ≡ marksSize
+  pub pending-length : length w ≡ marksSize
+  pub rest : (known : List ℕ) (c : ℕ) → each f (n - j) j (worklist m w known c) ≡ each f n 0 (worklist m₀ w₀ known c)
+  pub lowers : Lowers w₀ low₀ w low
+
+pub loop-start : (f : ℕ → Worklist → Worklist) (n : ℕ) (m w : List ℕ) (low : ℕ) → length m ≡ marksSize → length w ≡ marksSize
+    → Looping f n m w low 0 m w low
+loop-start f n m w low a b =
+    record { within = omega arith; marks-length = a; pending-length = b; rest = λ known c. simp sub-zero; lowers = λ h. h }
+
+one-less : (n j : ℕ) → j < n → n - j ≡ suc (n - (j + 1))
+one-less n j h = omega arith
+
+none-left : (n j : ℕ) → n ≤ j → n - j ≡ 0
+none-left n j h = omega arith
+
+each-turn : (f : ℕ → Worklist → Worklist) (n j : ℕ) (s : Worklist) → j < n → each f (n - j) j s ≡ each f (n - (j + 1)) (j + 1) (f j s)
+unfolding each
+each-turn f n j s h = rw (one-less n j h, add-one j)
+
+each-done : (f : ℕ → Worklist → Worklist) (n j : ℕ) (s : Worklist) → n ≤ j → each f (n - j) j s ≡ s
+unfolding each
+each-done f n j s h = rw (none-left n j h)
+
+module _ {f : ℕ → Worklist → Worklist} {n : ℕ} {m₀ w₀ : List ℕ} {low₀ j : ℕ} {m w : List ℕ} {low : ℕ} (l : Looping f n m₀ w₀ low₀ j m w low) where
+  pub loop-turn : {m′ w′ : List ℕ} {low′ : ℕ} → j < n → Becomes (f j) m w m′ w′ → Lowers w low w′ low′ → length m′ ≡ length m → length w′ ≡ length w
+      → Looping f n m₀ w₀ low₀ (j + 1) m′ w′ low′
+  loop-turn h b d a e =
+      record {
+        within = omega arith;
+        marks-length = a ∙ l .marks-length;
+        pending-length = e ∙ l .pending-length;
+        rest = λ known c.
+            ap (each f (n - (j + 1)) (j + 1)) (b .becomes known c) ∙ sym (each-turn f n j (worklist m w known c) h) ∙ l .rest known c;
+        lowers = λ x. d (l .lowers x);
+      }
+
+  pub loop-end : n ≤ j → Becomes (each f n 0) m₀ w₀ m w × Lowers w₀ low₀ w low
+  loop-end h = (record { becomes = λ known c. sym (each-done f n j (worklist m w known c) h) ∙ l .rest known c }, l .lowers)

@@ -1,0 +1,79 @@
+-- The checks that a call makes before it touches anything: the file, and then the lengths of the buffers that it is lent.
+use Prim.Native.Nat.{ℕ, _≤_}
+use mathlib.Core.Path.{_≡_}
+use mathlib.Core.Bool.{Bool, false, cond, not}
+use mathlib.Core.List.{List, [], _∷_}
+use lib.Dec.{ltb, eqb}
+use Rattle.program.specs.Sizes.{marksSize, outputSize}
+use Rattle.program.specs.Reading.{readFile}
+use Rattle.program.specs.declared.Verdict.{Verdict}
+use Rattle.program.specs.declared.Verdict.the-variants.{Accepted, Refused}
+use Rattle.program.specs.declared.Length.{Length}
+use Rattle.program.specs.declared.Length.the-variants.{NotAsked, Of}
+
+-- ---- rows of the table of refusals
+
+-- a row: its number, and whether its case is met
+pub record Row : Type 0 where
+  pub number : ℕ
+  pub met : Bool
+
+abbrev pub row : ℕ → Bool → Row
+row n t = record { number = n; met = t }
+
+-- the number of the first row that is met; 0 where none is
+unfoldable pub firstMet : List Row → ℕ
+firstMet [] = 0
+firstMet (r ∷ rs) = cond (r .met) (r .number) (firstMet rs)
+
+-- the verdict by such a number, which has no line
+abbrev pub verdictOf : ℕ → Verdict
+verdictOf n = cond (eqb n 0) Accepted (Refused n 0)
+
+-- ---- the rows of lengths: a buffer that a call does not have meets none
+
+-- there is such a buffer, and it has another length than this
+abbrev pub otherThan : ℕ → Length → Bool
+otherThan size NotAsked = false
+otherThan size (Of n) = not (eqb n size)
+
+-- there is such a buffer, and it is shorter than this
+abbrev pub under : ℕ → Length → Bool
+under size NotAsked = false
+under size (Of n) = ltb n size
+
+abbrev pub bufferRows : Length → Length → Length → List Row
+bufferRows marks output work =
+    -- the marks do not have 16,384 bytes
+    row 9 (otherThan marksSize marks)
+    -- the output has under 5,328 bytes
+    ∷ row 10 (under outputSize output)
+    -- the working buffer does not have 16,384 bytes
+    ∷ row 11 (otherThan marksSize work)
+    ∷ []
+
+-- ---- the file, and then the lengths
+
+-- a refused file is refused as it is; else the first row decides that the lengths meet
+abbrev pub checkedBy : Verdict → Length → Length → Length → Verdict
+checkedBy Accepted marks output work = verdictOf (firstMet (bufferRows marks output work))
+checkedBy (Refused n line) marks output work = Refused n line
+
+unfoldable pub checked : List ℕ → Length → Length → Length → Verdict
+checked file marks output work = checkedBy (readFile file .verdict) marks output work
+
+-- ---- what passing these checks says of the buffers
+
+abbrev pub HasLength : ℕ → Length → Type 0
+HasLength size NotAsked = Unit
+HasLength size (Of n) = n ≡ size
+
+abbrev pub HasRoom : ℕ → Length → Type 0
+HasRoom size NotAsked = Unit
+HasRoom size (Of n) = size ≤ n
+
+-- each buffer that there is has its size
+pub record Sized (marks output work : Length) : Type 0 where
+  pub marks-length : HasLength marksSize marks
+  pub output-length : HasRoom outputSize output
+  pub work-length : HasLength marksSize work

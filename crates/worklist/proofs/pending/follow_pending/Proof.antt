@@ -1,0 +1,87 @@
+-- `worklist::pending::follow_pending` meets its contract. The loop's invariant: the bytes are on the way to the result.
+use Rattle.reach.specs.Sizes.{enoughIterations}
+use Rattle.worklist.proofs.Following.{Going, going-start, not-used-up, going-turn, going-end}
+use native.Mathlib.Omega.{arith}
+use mathlib.Core.Path.{sym, _∙_}
+use Prim.Native.Nat.{_-_, _<_}
+use borrow.Author.Needs.{needs}
+use Rattle.worklist.proofs.pending.follow_pending.Statement.{statement}
+use Rattle.worklist.proofs.pending.follow_pending.Tie as tie
+
+abbrev Inv-loop : tie.InvT-loop
+Inv-loop keys count next marks₀ pending₀ known₀ from iterations₀ at₀ marks pending known iterations at =
+    Going keys count next marks₀ pending₀ known₀ marks pending known iterations at
+
+abbrev μ-loop : tie.MeasureT-loop
+μ-loop keys count next marks₀ pending₀ known₀ from iterations₀ at₀ marks pending known iterations at =
+    enoughIterations - iterations
+
+-- the places before
+abbrev start : tie.At-loop Inv-loop μ-loop → tie.Start Inv-loop μ-loop
+start p = p .before .before .before .before .before .before .before .before
+
+abbrev tested : tie.After-take Inv-loop μ-loop → tie.In-loop Inv-loop μ-loop
+tested t = t .before .before .before .before
+
+-- in the loop there are iterations left
+left : (c : tie.In-loop Inv-loop μ-loop) → c .before .loop .iterations < enoughIterations
+left c =
+    let p = c .before in
+    let z = start p .pre in
+    not-used-up (p .loop .inv) (omega arith) (z .1 .0) (z .1 .1)
+
+lowest-pending-requires : tie.Need-lowest-pending-requires Inv-loop μ-loop
+lowest-pending-requires c κs = let z = c .before .before .before .before .before .before in (z .pre .1 .1 .shape .pending-length, z .pre .0 .2)
+
+loop-holds : tie.Need-loop-holds Inv-loop μ-loop
+loop-holds c =
+    let z = c .before .before .before .before .before .before .before in
+    let l = c .lowest-pending .ensures in
+    going-start (z .pre .1 .0) (z .pre .1 .1) (l .0) (l .1)
+
+take-requires : tie.Need-take-requires Inv-loop μ-loop
+take-requires c κs =
+    let p = c .before .before .before .before in
+    let z = start p in
+    let g = p .loop .inv in
+    ((omega arith, z .pre .0 .0, z .pre .0 .1, g .known-length), (g .marks-length, g .pending-length))
+
+add-iterations : tie.Need-add-iterations Inv-loop μ-loop
+add-iterations c = let taken = c .before .before .before .before .before .before in omega (arith, left (tested taken))
+
+lowest-pending-requires-2 : tie.Need-lowest-pending-requires-2 Inv-loop μ-loop
+lowest-pending-requires-2 c κs =
+    let taken = c .before .before .before .before .before .before .before in
+    let p = tested taken .before in
+    let t = taken .take in
+    (t .kept .1 .1 .1 .1 .0 ∙ p .loop .inv .pending-length, t .ensures .1 (p .loop .inv .below))
+
+loop-less : tie.Need-loop-less Inv-loop μ-loop
+loop-less c = let taken = c .before .before .before .before .before .before .before .before in omega (arith, left (tested taken))
+
+loop-again : tie.Need-loop-again Inv-loop μ-loop
+loop-again c =
+    let taken = c .before .before .before .before .before .before .before .before in
+    let i = tested taken in
+    let t = taken .take in
+    let l = c .lowest-pending2 .ensures in
+    going-turn (i .before .loop .inv) (omega (arith, i .loop-test)) (t .ensures .0) (t .kept .1 .1 .1 .0) (t .kept .1 .1 .1 .1 .0) (t .kept .1 .1 .1 .1 .1 .0)
+    (l .0) (l .1)
+
+same-length : tie.Need-same-length Inv-loop μ-loop
+same-length c = let p = c .before in p .loop .inv .marks-length ∙ sym (start p .pre .1 .1 .shape .marks-length)
+
+same-length-2 : tie.Need-same-length-2 Inv-loop μ-loop
+same-length-2 c = let p = c .before in p .loop .inv .pending-length ∙ sym (start p .pre .1 .1 .shape .pending-length)
+
+same-length-3 : tie.Need-same-length-3 Inv-loop μ-loop
+same-length-3 c = let p = c .before in p .loop .inv .known-length ∙ sym (start p .pre .1 .1 .shape .known-length)
+
+returns : tie.Need-returns Inv-loop μ-loop
+returns c = going-end (c .before .loop .inv) (omega arith)
+
+pub follow-pending-spec : {M : Type 1} → statement M
+follow-pending-spec =
+    tie.close
+    (tie.spec Inv-loop μ-loop lowest-pending-requires loop-holds take-requires add-iterations lowest-pending-requires-2
+    loop-less loop-again same-length same-length-2 same-length-3 returns)

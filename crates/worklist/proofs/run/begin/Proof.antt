@@ -1,0 +1,25 @@
+-- `worklist::run::begin` meets its contract.
+use Rattle.reach.specs.Configurations.{none-set}
+use lib.ListN.{replicate}
+use mathlib.Core.Path.{ap, _∙_}
+use Prim.Native.Nat.{ℕ}
+use borrow.Author.Needs.{needs}
+use Rattle.worklist.proofs.run.begin.Statement.{statement}
+use Rattle.worklist.proofs.run.begin.Tie as tie
+
+returns : tie.Need-returns
+unfolding none-set
+returns c =
+    let opened = c .before .before .before .before in
+    let second = opened .before .before .before .before .before in
+    let first = second .before .before .before .before in
+    let z = first .before .before .before .before in
+    let m = first .clear .ensures ∙ ap (λ (n : ℕ). replicate n 0) (z .pre .0) in
+    let w = second .clear2 .ensures ∙ ap (λ (n : ℕ). replicate n 0) (z .pre .1) in
+    rw (m, w) at (opened .open-initial .ensures)
+
+pub begin-spec : {M : Type 1} → statement M
+begin-spec =
+    tie.close
+    (tie.spec (λ c κs. search needs) (λ c κs. search needs) (λ c κs. search needs) (λ c. search needs)
+    (λ c. search needs) returns)

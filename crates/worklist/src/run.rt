@@ -1,0 +1,62 @@
+// The full analysis of a decoded program.
+use crate::clear;
+use crate::pending::follow_program;
+use automaton::States;
+use automaton::in_use;
+use automaton::sizes::MAX_STATES;
+use marking::mark;
+use program::DecodedProgram;
+use reach::configuration::entry_of;
+use reach::spans::SUMMARIES_SIZE;
+ghost use mathlib.Core.Path.{_≡_};
+ghost use lib.ListN.{length};
+ghost use Rattle.program.specs.Sizes.{marksSize};
+ghost use Rattle.automaton.specs.Decoded.{statesOf};
+ghost use Rattle.program.specs.WellFormed.{WellFormed};
+ghost use Rattle.program.specs.Decoded.{programOf};
+ghost use Rattle.reach.specs.Configurations.{none-set};
+ghost use Rattle.reach.specs.Worklist.{opened, analysis};
+ghost use Rattle.marking.specs.Parts.{Becomes};
+
+// The main routine's entry in each initial state.
+fn open_initial(initial: States, marks: &mut [u8], pending: &mut [u8])
+    requires { ⌜ (length (now marks) ≡ marksSize) × (length (now pending) ≡ marksSize) ⌝ }
+    ensures { λ _. ⌜ Becomes (opened (statesOf initial))
+        (now (marks .entry)) (now (pending .entry)) (now (marks .exit)) (now (pending .exit)) ⌝ }
+{
+    let list = initial.list;
+    let count = in_use(initial.count, MAX_STATES);
+    let mut low: usize = 0;
+    let mut i: usize = 0;
+    while i < count {
+        let q = list[i];
+        low = mark(marks, pending, entry_of(0, q), low);
+        i = i + 1;
+    }
+}
+
+// Nothing is marked but the main routine's entries, and these are pending.
+fn begin(initial: States, marks: &mut [u8], pending: &mut [u8])
+    requires { ⌜ (length (now marks) ≡ marksSize) × (length (now pending) ≡ marksSize) ⌝ }
+    ensures { λ _. ⌜ Becomes (opened (statesOf initial)) none-set none-set (now (marks .exit)) (now (pending .exit)) ⌝ }
+{
+    clear(marks);
+    clear(pending);
+    open_initial(initial, marks, pending);
+}
+
+// The full analysis of a decoded program, from any contents of the two buffers. Returns the count of iterations. The
+// reader accepts only well-formed programs, and the caller has measured the buffers (refusals 9 and 11): hence the
+// `requires`.
+pub fn analyze_program(p: DecodedProgram, marks: &mut [u8], pending: &mut [u8]) -> usize
+    requires { ⌜ WellFormed (programOf p) ⌝ }
+    requires { ⌜ (length (now marks) ≡ marksSize) × (length (now pending) ≡ marksSize) ⌝ }
+    ensures { λ r. ⌜ (now (marks .exit) ≡ analysis (programOf p) .marks) × (now (pending .exit) ≡ none-set)
+        × (r ≡ analysis (programOf p) .iterations) ⌝ }
+{
+    let rule = p.automaton;
+    let initial = rule.initial;
+    let mut known = [0u8; SUMMARIES_SIZE];
+    begin(initial, marks, pending);
+    follow_program(p, marks, pending, &mut known, 0)
+}
