@@ -1,13 +1,15 @@
 -- The answers, by what the checks say.
 use Prim.Native.Nat.{ℕ}
 use mathlib.Core.Path.{_≡_, refl, sym, ap, subst, _∙_}
-use mathlib.Core.Bool.{Bool, true, false, _&&_, not}
+use mathlib.Core.Bool.{Bool, true, false, not}
 use mathlib.Core.List.{List, [], _∷_}
 use native.Mathlib.Omega.{arith}
 use lib.Dec.{eqb}
 use lib.ListN.{length}
 use borrow.Author.Tests.{eqb-true, eq-eqb}
+use Rattle.program.specs.Sizes.{marksSize}
 use Rattle.program.specs.Program.{Program}
+use Rattle.program.specs.WellFormed.{WellFormed}
 use Rattle.program.specs.Checks.{row, firstMet, verdictOf}
 use Rattle.program.specs.Decoded.{programOf}
 use Rattle.program.specs.declared.Verdict.{Verdict}
@@ -20,6 +22,11 @@ use Rattle.reach.specs.Configurations.{none-set}
 use Rattle.reach.specs.Marks.{freshMarks, violationsFrom, firstFrom}
 use Rattle.analysis.specs.Answers.{analyzeBy, analyzeAnswer, onSuccess, marksAfter, workAfter, same, owned, foundOf, nextBy, nextAnswer}
 use Rattle.worklist.specs.Parts.{within}
+
+-- what those ask who are called where nothing is refused
+pub ready : {file : List ℕ} {m w : ℕ} {r : Reading} → Checked file (Of m) NotAsked (Of w) r → r .verdict ≡ Accepted
+    → WellFormed (programOf (r .program)) × ((m ≡ marksSize) × (w ≡ marksSize))
+ready k h = (k .well-formed h, (k .sized h .marks-length, k .sized h .work-length))
 
 module _ (file marks work : List ℕ) {r : Reading} (k : Checked file (Of (length marks)) NotAsked (Of (length work)) r) {v : Verdict} (h : r .verdict ≡ v) where
   pub analyze-answered : (analyzeBy v (programOf (r .program)) ≡ analyzeAnswer file marks work)
@@ -67,21 +74,23 @@ module _ (p : Program) (marks : List ℕ) where
   unfolding firstMet
   foreign-refused e = rw e
 
-  pub accepted-own : owned p marks ≡ Accepted → marks ≡ freshMarks p
+  -- one or the other
+  pub by-marks : (P : Verdict → Type 0) → (same marks (freshMarks p) ≡ true → P Accepted) → (same marks (freshMarks p) ≡ false → P (Refused 17 0)) → P (owned p marks)
   unfolding firstMet
-  accepted-own e = go (same marks (freshMarks p)) refl e
+  by-marks P a f = go (same marks (freshMarks p)) a f
     where
-      go : (t : Bool) → same marks (freshMarks p) ≡ t → verdictOf (firstMet (row 17 (not t) ∷ [])) ≡ Accepted → marks ≡ freshMarks p
-      go true h e = same-equal marks (freshMarks p) h
-      go false h e = absurd (let z : _≡_ {A = ℕ} 0 1 = cc in omega arith)
+      go : (t : Bool) → (t ≡ true → P Accepted) → (t ≡ false → P (Refused 17 0)) → P (verdictOf (firstMet (row 17 (not t) ∷ [])))
+      go true a f = a refl
+      go false a f = f refl
+
+  pub accepted-own : owned p marks ≡ Accepted → marks ≡ freshMarks p
+  accepted-own =
+      by-marks (λ v. v ≡ Accepted → marks ≡ freshMarks p) (λ t e. same-equal marks (freshMarks p) t)
+      (λ t e. absurd (let z : _≡_ {A = ℕ} 0 1 = cc in omega arith))
 
   pub refused-foreign : {n line : ℕ} → owned p marks ≡ Refused n line → n ≡ 17
-  unfolding firstMet
-  refused-foreign {n} {line} e = go (same marks (freshMarks p)) e
-    where
-      go : (t : Bool) → verdictOf (firstMet (row 17 (not t) ∷ [])) ≡ Refused n line → n ≡ 17
-      go true e = absurd (let z : _≡_ {A = ℕ} 0 1 = cc in omega arith)
-      go false e = cc
+  refused-foreign {n} {line} =
+      by-marks (λ v. v ≡ Refused n line → n ≡ 17) (λ t e. absurd (let z : _≡_ {A = ℕ} 0 1 = cc in omega arith)) (λ t e. cc)
 
   pub own-found : (low i : ℕ) → owned p marks ≡ Accepted → firstFrom low (violationsFrom p marks 0) ≡ within 16384 i
       → foundOf (within 16384 i) ≡ nextBy Accepted p marks low

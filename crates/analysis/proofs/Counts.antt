@@ -11,21 +11,8 @@ use lib.Seq.{drop-cons}
 use borrow.Author.Tests.{le-leb, lt-leb, lt-ltb, le-ltb}
 use Rattle.program.specs.Program.{Program}
 use Rattle.reach.specs.Marks.{violates, frontWhen, violationsFrom, firstFrom}
-use Rattle.base.specs.Flags.{countSet}
+use Rattle.base.proofs.Counts.{Counts}
 use Rattle.worklist.specs.Parts.{within}
-
--- f counts the bytes that meet a test, of a list whose first byte has number i
-pub record Counts (f : List ℕ → ℕ → ℕ) (t : ℕ → ℕ → Bool) : Type 0 where
-  pub empty : (i : ℕ) → f [] i ≡ 0
-  pub first : (b : ℕ) (bs : List ℕ) (i : ℕ) → f (b ∷ bs) i ≡ cond (t b i) 1 0 + f bs (i + 1)
-
-pub counts-set : Counts (λ l i. countSet l) (λ b i. not (eqb b 0))
-unfolding countSet
-counts-set = record { empty = λ i. refl; first = λ b bs i. one (eqb b 0) (countSet bs) }
-  where
-    one : (e : Bool) (n : ℕ) → cond e 0 1 + n ≡ cond (not e) 1 0 + n
-    one true n = refl
-    one false n = refl
 
 pub counts-violations : (p : Program) → Counts (λ l i. length (violationsFrom p l i)) (violates p)
 unfolding violationsFrom
@@ -34,27 +21,6 @@ counts-violations p = record { empty = λ i. refl; first = λ b bs i. front (vio
     front : (t : Bool) (i : ℕ) (is : List ℕ) → length (frontWhen t i is) ≡ cond t 1 0 + length is
     front true i is = omega arith
     front false i is = omega arith
-
--- a loop counts in turn: at i it has n, and those from i on are to come
-pub record Counted (f : List ℕ → ℕ → ℕ) (l : List ℕ) (n i : ℕ) : Type 0 where
-  pub total : n + f (drop i l) i ≡ f l 0
-
-module _ {f : List ℕ → ℕ → ℕ} {t : ℕ → ℕ → Bool} {l : List ℕ} {n i : ℕ} (counts : Counts f t) (c : Counted f l n i) where
-  next : i < length l → (n + cond (t (getD l i 0) i) 1 0) + f (drop (i + 1) l) (i + 1) ≡ f l 0
-  next h =
-      let e : f (drop i l) i ≡ cond (t (getD l i 0) i) 1 0 + f (drop (i + 1) l) (i + 1) =
-      rw (drop-cons l i 0 h, ← (add-one i)) (counts .first (getD l i 0) (drop (i + 1) l) i)
-      in
-      omega (arith, c .total, e)
-
-  pub counted-one : i < length l → t (getD l i 0) i ≡ true → Counted f l (n + 1) (i + 1)
-  counted-one h e = record { total = rw e at (next h) }
-
-  pub counted-none : i < length l → t (getD l i 0) i ≡ false → Counted f l n (i + 1)
-  counted-none h e = record { total = let x = rw e at (next h) in omega arith }
-
-  pub counted-all : length l ≤ i → n ≡ f l 0
-  counted-all h = let x = rw (drop-of-length-le l h, counts .empty i) at (c .total) in omega arith
 
 -- ---- the search
 

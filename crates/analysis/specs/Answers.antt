@@ -1,4 +1,5 @@
--- The answers of the analysis and of the list of violations, and the lent bytes afterwards: functions of everything lent.
+-- The answers of the analysis and of the list of violations, and the lent bytes afterwards: functions of everything
+-- lent.
 use Prim.Native.Nat.{ℕ}
 use mathlib.Core.Bool.{Bool, true, false, _&&_, not}
 use mathlib.Core.Option.{Option, some, none}
@@ -43,7 +44,8 @@ owned p marks = verdictOf (firstMet (foreignRow p marks ∷ []))
 
 -- the counts of configurations, of violations and of iterations, or the refusal
 abbrev pub analyzeBy : Verdict → Program → AnalyzeAnswer
-analyzeBy verdict.Accepted p = analyzed.Counts (countSet (freshMarks p)) (length (violations p)) (analysis p .iterations)
+analyzeBy verdict.Accepted p = analyzed.Counts (countSet (freshMarks p)) (length (violations p))
+    (analysis p .iterations)
 analyzeBy (verdict.Refused n line) p = analyzed.Refused n line
 
 unfoldable pub analyzeAnswer : List ℕ → List ℕ → List ℕ → AnalyzeAnswer

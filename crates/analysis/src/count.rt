@@ -1,4 +1,4 @@
-// Passes over bytes, each of which is a flag: counting, and the search for a violation.
+// Passes over the marks: the count of violations, and the search for one.
 use reach::configuration::state_of;
 ghost use mathlib.Core.Path.{_≡_};
 ghost use Prim.Native.Nat.{ℕ, _<_};
@@ -8,27 +8,13 @@ ghost use Rattle.program.specs.Sizes.{marksSize};
 ghost use Rattle.automaton.specs.Flags.{Rejects};
 ghost use Rattle.program.specs.Program.{Program};
 ghost use Rattle.reach.specs.Marks.{violates, violationsFrom, firstFrom};
-ghost use Rattle.base.specs.Flags.{countSet};
 ghost use Rattle.worklist.specs.Parts.{within};
-
-pub fn count_marks(marks: &[u8]) -> usize
-    ensures { λ r. ⌜ r ≡ countSet (now (marks .entry)) ⌝ }
-{
-    let mut n: usize = 0;
-    let mut i: usize = 0;
-    while i < marks.len() {
-        if marks[i] != 0 {
-            n = n + 1;
-        }
-        i = i + 1;
-    }
-    n
-}
 
 // Whether the configuration of number i is marked and its present state is rejecting.
 fn is_violation(marks: &[u8], rejecting: &[u8], i: usize) -> bool
     requires { ⌜ (i < length (now marks)) × (length (now rejecting) ≡ maxStates) ⌝ }
-    ensures { λ y. ⌜ ((p : Program) → Rejects (p .automaton) (now (rejecting .entry)) → y ≡ violates p (getD (now (marks .entry)) i 0) i) ⌝ }
+    ensures { λ y. ⌜ ((p : Program) → Rejects (p .automaton) (now (rejecting .entry))
+        → y ≡ violates p (getD (now (marks .entry)) i 0) i) ⌝ }
 {
     (marks[i] != 0) & (rejecting[state_of(i)] != 0)
 }
@@ -36,7 +22,8 @@ fn is_violation(marks: &[u8], rejecting: &[u8], i: usize) -> bool
 // The flags have the size of `StateFlags`: hence the `requires`.
 pub fn count_violations(marks: &[u8], rejecting: &[u8]) -> usize
     requires { ⌜ length (now rejecting) ≡ maxStates ⌝ }
-    ensures { λ r. ⌜ ((p : Program) → Rejects (p .automaton) (now (rejecting .entry)) → r ≡ length (violationsFrom p (now (marks .entry)) 0)) ⌝ }
+    ensures { λ r. ⌜ ((p : Program) → Rejects (p .automaton) (now (rejecting .entry))
+        → r ≡ length (violationsFrom p (now (marks .entry)) 0)) ⌝ }
 {
     let mut n: usize = 0;
     let mut i: usize = 0;
@@ -53,7 +40,8 @@ pub fn count_violations(marks: &[u8], rejecting: &[u8]) -> usize
 // the marks (refusal 9), and the flags have the size of `StateFlags`: hence the `requires`.
 pub fn first_violation(marks: &[u8], rejecting: &[u8], from: usize) -> usize
     requires { ⌜ (length (now marks) ≡ marksSize) × (length (now rejecting) ≡ maxStates) ⌝ }
-    ensures { λ r. ⌜ ((p : Program) → Rejects (p .automaton) (now (rejecting .entry)) → firstFrom from (violationsFrom p (now (marks .entry)) 0) ≡ within marksSize r) ⌝ }
+    ensures { λ r. ⌜ ((p : Program) → Rejects (p .automaton) (now (rejecting .entry))
+        → firstFrom from (violationsFrom p (now (marks .entry)) 0) ≡ within marksSize r) ⌝ }
 {
     let mut i = from;
     while i < marks.len() {

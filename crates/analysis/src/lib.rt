@@ -3,7 +3,7 @@ pub mod count;
 pub mod own;
 
 use automaton::flags::rejecting_flags;
-use count::count_marks;
+use base::flags::count_set;
 use count::count_violations;
 use count::first_violation;
 use own::is_own;
@@ -21,7 +21,8 @@ ghost use Rattle.program.specs.Decoded.{programOf};
 ghost use Rattle.program.specs.declared.Verdict.the-variants.{Accepted};
 ghost use Rattle.reach.specs.Configurations.{none-set};
 ghost use Rattle.reach.specs.Marks.{freshMarks};
-ghost use Rattle.analysis.specs.Answers.{analyzeBy, analyzeAnswer, marksAfter, workAfter, owned, foundOf, nextBy, nextAnswer};
+ghost use Rattle.analysis.specs.Answers.{analyzeBy, analyzeAnswer, marksAfter, workAfter, owned, foundOf, nextBy};
+ghost use Rattle.analysis.specs.Answers.{nextAnswer};
 ghost use Rattle.worklist.specs.Parts.{within};
 
 // The counts of configurations, violations and iterations; or a refusal, at a line.
@@ -40,19 +41,20 @@ pub enum NextAnswer {
 fn analyze_counts(p: DecodedProgram, marks: &mut [u8], work: &mut [u8]) -> AnalyzeAnswer
     requires { ⌜ WellFormed (programOf p) ⌝ }
     requires { ⌜ (length (now marks) ≡ marksSize) × (length (now work) ≡ marksSize) ⌝ }
-    ensures { λ r. ⌜ (r ≡ analyzeBy Accepted (programOf p)) × (now (marks .exit) ≡ freshMarks (programOf p)) × (now (work .exit) ≡ none-set) ⌝ }
+    ensures { λ r. ⌜ (r ≡ analyzeBy Accepted (programOf p)) × (now (marks .exit) ≡ freshMarks (programOf p))
+        × (now (work .exit) ≡ none-set) ⌝ }
 {
     let iterations = analyze_program(p, marks, work);
     let rule = p.automaton;
     let rejecting = rejecting_flags(rule);
     let flags = rejecting.flags;
-    let configurations = count_marks(marks);
+    let configurations = count_set(marks);
     let violations = count_violations(marks, &flags);
     AnalyzeAnswer::Counts(configurations, violations, iterations)
 }
 
-// The fresh marks of a file's program and their counts. A refusal leaves both buffers alone; on success the working buffer
-// is all zero.
+// The fresh marks of a file's program and their counts. A refusal leaves both buffers alone; on success the working
+// buffer is all zero.
 pub fn analyze(file: &[u8], marks: &mut [u8], work: &mut [u8]) -> AnalyzeAnswer
     ensures { λ r. ⌜ (r ≡ analyzeAnswer (now (file .entry)) (now (marks .entry)) (now (work .entry)))
         × (now (marks .exit) ≡ marksAfter (now (file .entry)) (now (marks .entry)) (now (work .entry)))
@@ -71,8 +73,8 @@ pub fn analyze(file: &[u8], marks: &mut [u8], work: &mut [u8]) -> AnalyzeAnswer
     }
 }
 
-// Marks that differ from the program's own are refused (17). The working buffer is all zero afterwards. The reader accepts only
-// well-formed programs, and the caller has measured the buffers (refusals 9 and 11): hence the `requires`.
+// Marks that differ from the program's own are refused (17). The working buffer is all zero afterwards. The reader
+// accepts only well-formed programs, and the caller has measured the buffers: hence the `requires`.
 pub fn check_own(p: DecodedProgram, marks: &[u8], work: &mut [u8]) -> Verdict
     requires { ⌜ WellFormed (programOf p) ⌝ }
     requires { ⌜ (length (now marks) ≡ marksSize) × (length (now work) ≡ marksSize) ⌝ }
@@ -113,8 +115,8 @@ fn found(i: usize) -> NextAnswer
     NextAnswer::Nothing
 }
 
-// The first violation of a file's program that is not below the number. The marks must be the program's own. The working
-// buffer is all zero once the checks of the file and of the lengths are passed.
+// The first violation of a file's program that is not below the number. The marks must be the program's own. The
+// working buffer is all zero once the checks of the file and of the lengths are passed.
 pub fn next_violation(file: &[u8], marks: &[u8], work: &mut [u8], low: usize) -> NextAnswer
     ensures { λ r. ⌜ (r ≡ nextAnswer (now (file .entry)) (now (marks .entry)) (now (work .entry)) low)
         × (now (work .exit) ≡ workAfter (now (file .entry)) (now (marks .entry)) (now (work .entry))) ⌝ }

@@ -9,12 +9,15 @@ use lib.Dec.{eqb}
 use lib.ListN.{length, take, drop, getD, set, replicate, length-take, length-set, length-replicate, getD-replicate, drop-of-length-le}
 use lib.Seq.{drop-cons, getD-take, getD-set-same, getD-set-other}
 use borrow.Author.Tests.{eqb-true, eqb-false, eq-eqb, ne-eqb}
-use Rattle.automaton.specs.Automaton.{Automaton, listed, moves, member}
+use Rattle.tables.specs.Keys.{member}
+use Rattle.base.proofs.Entries.{Asks}
+use Rattle.tables.proofs.Entries.{asks-member}
+use Rattle.automaton.specs.Sizes.{maxStates, maxActions, nextStatesSize}
+use Rattle.automaton.specs.Automaton.{Automaton, goes, listed, moves}
 use Rattle.automaton.specs.Decoded.{transitionOf}
 use Rattle.automaton.specs.Flags.{nextPlace, Placed, Answers, Lists}
 use Rattle.base.specs.Flags.{isSet}
 use Rattle.base.proofs.Deciding.{Deciding, deciding-none, deciding-more, deciding-all}
-use Rattle.automaton.proofs.Entries.{asks-listed, asks-member}
 
 -- ---- the place of a transition's flag
 
@@ -40,14 +43,14 @@ module _ (key : ℕ) where
   abbrev z : ℕ
   z = key % 256
 
-  pub no-place : (x < 8 → y < 32 → z < 8 → ⊥) → Placed key 2048
+  pub no-place : (x < maxStates → y < maxActions → z < maxStates → ⊥) → Placed key nextStatesSize
   no-place out =
       record {
         placed = λ q a s hq ha hs.
-            same-place x y z q a s 2048 (λ d. absurd (omega arith)) (λ u v w. absurd (out (omega arith) (omega arith) (omega arith)));
+            same-place x y z q a s nextStatesSize (λ d. absurd (omega arith)) (λ u v w. absurd (out (omega arith) (omega arith) (omega arith)));
       }
 
-  pub its-place : {at : ℕ} → at ≡ nextPlace x y z → x < 8 → y < 32 → z < 8 → Placed key at
+  pub its-place : {at : ℕ} → at ≡ nextPlace x y z → x < maxStates → y < maxActions → z < maxStates → Placed key at
   its-place {at} e hx hy hz =
       record {
         placed = λ q a s hq ha hs. same-place x y z q a s at (λ d. (omega arith, omega arith, omega arith)) (λ u v w. omega arith);
@@ -55,38 +58,42 @@ module _ (key : ℕ) where
 
 -- ---- the flags of a table's transitions, the first i keys taken
 
-pub record Transitions (keys : List ℕ) (n i : ℕ) (flags : List ℕ) : Type 0 where
-  pub size : length flags ≡ 2048
-  pub flag : (q a s : ℕ) → q < 8 → a < 32 → s < 8 → Deciding (λ ks. listed q a s (map transitionOf ks)) keys n i flags (nextPlace q a s)
+asks-listed : (q a s : ℕ) → Asks (λ ks. listed q a s (map transitionOf ks)) (λ k. goes q a s (transitionOf k))
+unfolding listed
+asks-listed q a s = record { empty = refl; first = λ x xs. refl }
 
-pub transitions-none : (keys : List ℕ) (n : ℕ) → Transitions keys n 0 (replicate 2048 0)
-transitions-none keys n =
+pub record Allowed (keys : List ℕ) (n i : ℕ) (flags : List ℕ) : Type 0 where
+  pub size : length flags ≡ nextStatesSize
+  pub flag : (q a s : ℕ) → q < maxStates → a < maxActions → s < maxStates → Deciding (λ ks. listed q a s (map transitionOf ks)) keys n i flags (nextPlace q a s)
+
+pub allowed-none : (keys : List ℕ) (n : ℕ) → Allowed keys n 0 (replicate nextStatesSize 0)
+allowed-none keys n =
     record {
-      size = length-replicate {A = ℕ} 2048 0;
-      flag = λ q a s hq ha hs. deciding-none (λ ks. listed q a s (map transitionOf ks)) keys n 2048 (nextPlace q a s) (omega arith);
+      size = length-replicate {A = ℕ} nextStatesSize 0;
+      flag = λ q a s hq ha hs. deciding-none (λ ks. listed q a s (map transitionOf ks)) keys n nextStatesSize (nextPlace q a s) (omega arith);
     }
 
-module _ {keys : List ℕ} {n i : ℕ} {flags : List ℕ} (t : Transitions keys n i flags) where
-  pub transitions-more : (j : ℕ) → i < n → i < length keys → Placed (getD keys i 0) j → Transitions keys n (i + 1) (set flags j 1)
-  transitions-more j h k place =
+module _ {keys : List ℕ} {n i : ℕ} {flags : List ℕ} (t : Allowed keys n i flags) where
+  pub allowed-more : (j : ℕ) → i < n → i < length keys → Placed (getD keys i 0) j → Allowed keys n (i + 1) (set flags j 1)
+  allowed-more j h k place =
       record {
         size = simp length-set (t .size);
         flag = λ q a s hq ha hs. deciding-more (asks-listed q a s) (t .flag q a s hq ha hs) j h k (omega (arith, t .size)) (place .placed q a s hq ha hs);
       }
 
-  pub transitions-all : (r : Automaton) → min n (length keys) ≤ i → r .transitions ≡ map transitionOf (take n keys) → Answers r flags
+  pub allowed-all : (r : Automaton) → min n (length keys) ≤ i → r .transitions ≡ map transitionOf (take n keys) → Answers r flags
   unfolding moves
-  transitions-all r h e =
+  allowed-all r h e =
       record { answers = λ q a s hq ha hs. rw e (deciding-all (asks-listed q a s) (t .flag q a s hq ha hs) h) }
 
 -- ---- the flags of a list's states, the first i of them taken
 
 pub record Members (list : List ℕ) (n i : ℕ) (flags : List ℕ) : Type 0 where
-  pub size : length flags ≡ 8
-  pub flag : (q : ℕ) → q < 8 → Deciding (member q) list n i flags q
+  pub size : length flags ≡ maxStates
+  pub flag : (q : ℕ) → q < maxStates → Deciding (member q) list n i flags q
 
-pub members-none : (list : List ℕ) (n : ℕ) → Members list n 0 (replicate 8 0)
-members-none list n = record { size = refl; flag = λ q h. deciding-none (member q) list n 8 q h }
+pub members-none : (list : List ℕ) (n : ℕ) → Members list n 0 (replicate maxStates 0)
+members-none list n = record { size = refl; flag = λ q h. deciding-none (member q) list n maxStates q h }
 
 module _ {list : List ℕ} {n i : ℕ} {flags : List ℕ} (m : Members list n i flags) where
   pub members-more : i < n → i < length list → Members list n (i + 1) (set flags (getD list i 0) 1)

@@ -3,6 +3,7 @@ use Prim.Native.Nat.{ℕ}
 use mathlib.Core.Bool.{Bool, false, _&&_, _||_}
 use mathlib.Core.List.{List, [], _∷_}
 use lib.Dec.{ltb, eqb}
+use Rattle.tables.specs.Keys.{member}
 use Rattle.automaton.specs.declared.Event.{Event}
 use Rattle.automaton.specs.declared.Event.the-variants.{Action, Call, Return}
 
@@ -35,10 +36,6 @@ unfoldable pub moves : Automaton → ℕ → Event → ℕ → Bool
 moves r q (Action a) s = listed q a s (r .transitions)
 moves r q (Call f) s = ltb q (r .states) && eqb q s
 moves r q (Return f) s = ltb q (r .states) && eqb q s
-
-unfoldable pub member : ℕ → List ℕ → Bool
-member q [] = false
-member q (s ∷ ss) = eqb s q || member q ss
 
 abbrev pub isInitial : Automaton → ℕ → Bool
 isInitial r q = member q (r .initial)

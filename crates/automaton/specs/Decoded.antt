@@ -3,13 +3,13 @@ use Prim.Native.Nat.{ℕ, _/_, _%_}
 use mathlib.Core.List.{List, map}
 use lib.ListN.{take}
 use Rattle.automaton.specs.Automaton.{Transition, Automaton}
-use Rattle.automaton.specs.declared.Table.{Table}
+use Rattle.automaton.specs.declared.transitions.Transitions.{Transitions}
 use Rattle.automaton.specs.declared.States.{States}
 use Rattle.automaton.specs.declared.DecodedAutomaton.{DecodedAutomaton}
 
--- the keys of a table
-abbrev pub keysOf : Table → List ℕ
-keysOf t = take (t .count) (t .keys)
+-- the keys of the table of transitions
+abbrev pub transitionKeysOf : Transitions → List ℕ
+transitionKeysOf t = take (t .count) (t .keys)
 
 abbrev pub statesOf : States → List ℕ
 statesOf s = take (s .count) (s .list)
@@ -23,7 +23,7 @@ automatonOf d =
     record {
       states = d .states;
       actions = d .actions;
-      transitions = map transitionOf (keysOf (d .transitions));
+      transitions = map transitionOf (transitionKeysOf (d .transitions));
       initial = statesOf (d .initial);
       rejecting = statesOf (d .rejecting);
     }

@@ -1,28 +1,27 @@
-// Flags, a byte each; those of the initial and of the rejecting states are made once, so that a pass reads one byte for each
-// question.
+// Flags, a byte each; those of the initial and of the rejecting states are made once, so that a pass reads one byte for
+// each question.
 use crate::DecodedAutomaton;
 use crate::States;
+use crate::sizes::MAX_STATES;
 use base::flags::set_flag;
+use tables::in_use;
 ghost use mathlib.Core.Path.{_≡_};
 ghost use Rattle.automaton.specs.Decoded.{statesOf, automatonOf};
 ghost use Rattle.automaton.specs.Flags.{Lists, Starts, Rejects};
 
-// A flag for each of the 8 states.
+// A flag for each state that there may be.
 pub struct StateFlags {
-    pub flags: [u8; 8],
+    pub flags: [u8; MAX_STATES],
 }
 
 fn flags_of(states: States) -> StateFlags
     ensures { λ y. ⌜ Lists (statesOf states) (y .flags) ⌝ }
 {
     let list = states.list;
-    let count = states.count;
-    let mut flags = [0u8; 8];
+    let count = in_use(states.count, MAX_STATES);
+    let mut flags = [0u8; MAX_STATES];
     let mut i: usize = 0;
-    while i < 8 {
-        if count <= i {
-            return StateFlags { flags };
-        }
+    while i < count {
         let q = list[i] as usize;
         set_flag(&mut flags, q);
         i = i + 1;

@@ -3,3 +3,5 @@ pub mod Bools
 pub mod Entries
 pub mod SetFlags
 pub mod Deciding
+pub mod Filling
+pub mod Counts

@@ -1,5 +1,5 @@
-// Reads a program file and then edits from standard input, and prints what the library says of each. The first argument chooses
-// the repair; what is printed is the same with either.
+// Reads a program file and then edits from standard input, and prints what the library says of each. The first argument
+// chooses the repair; what is printed is the same with either.
 use libc::STDERR_FILENO;
 use libc::STDIN_FILENO;
 use libc::STDOUT_FILENO;

@@ -1,18 +1,25 @@
--- The loops that decide whether a component is worked anew, and the joining of sets.
-use mathlib.Core.Path.{_≡_, refl, sym, subst, _∙_}
-use mathlib.Core.Logic.{_⊎_, inl, inr, _↔_, _≢_}
-use mathlib.Core.Bool.{Bool, true, false, cond, not, _&&_, _||_}
+-- The loops that decide whether a component is worked anew.
+use mathlib.Core.Path.{_≡_, refl, subst, _∙_}
+use mathlib.Core.Logic.{_⊎_, inl, inr, _≢_}
+use mathlib.Core.Bool.{Bool, true, false, not, _&&_, _||_}
 use mathlib.Core.List.{List}
-use Prim.Native.Nat.{ℕ, _+_, _-_, _*_, _/_, _%_, _<_}
+use Prim.Native.Nat.{ℕ, _+_, _≤_, _<_}
 use native.Mathlib.Omega.{arith}
 use native.Mathlib.Decide.{ℕ-discrete}
 use lib.Dec.{eqb}
-use lib.ListN.{length, getD}
+use lib.ListN.{getD}
 use borrow.Author.Tests.{eqb-true, eqb-false}
-use Rattle.reach.specs.Configurations.{InRange, number}
-use Rattle.worklist.specs.Parts.{Filled}
-use Rattle.components.specs.Parts.{Member, joinedFlag}
-use Rattle.components.specs.Turns.{Joined, Differs, Says}
+use Rattle.automaton.specs.Sizes.{maxStates}
+use Rattle.program.specs.Sizes.{maxRoutines}
+use Rattle.program.specs.Program.{Edge, isCall, calledBy}
+use Rattle.reach.specs.Sizes.{nodeSpan, summariesSize}
+use Rattle.reach.specs.Configurations.{InRange, number, rootOf, stateOf, exitAt}
+use Rattle.reach.specs.Worklist.{summary}
+use Rattle.reach.specs.Marks.{Marked}
+use Rattle.reach.proofs.Numbers.{root-of, state-of, root-small, state-small, first-node, first-range, summary-fits, summary-span, exit-summary}
+use Rattle.callgraph.specs.Components.{memberOf}
+use Rattle.callgraph.proofs.Members.{true-member, false-member}
+use Rattle.components.specs.TurnParts.{Differs, Says, DifferingEdge}
 
 -- ---- a test that is true or false
 
@@ -50,58 +57,88 @@ apart-no b m h = go (eqb b 0) refl (eqb m 0) refl h
     go false e false f h (inl a) = eqb-false m 0 f (a .1)
     go false e false f h (inr a) = eqb-false b 0 e (a .0)
 
--- the j-th summary of g, of 64
+-- the j-th summary of g
 abbrev pub ApartAt : List ℕ → List ℕ → ℕ → ℕ → Type 0
-ApartAt before marks g j = Apart (getD before (g * 64 + j) 0) (getD marks (g * 1024 + 64 + j) 0)
+ApartAt before marks g j = Apart (getD before (summary g 0 0 + j) 0) (getD marks (exitAt (summary g 0 0 + j)) 0)
 
-module _ (before marks : List ℕ) (g : ℕ) (hg : g < 16) where
-  exit-place : (r q : ℕ) → number g 1 r q ≡ g * 1024 + 64 + (r * 8 + q)
-  unfolding number
-  exit-place r q = omega arith
+pub place-fits : (g j : ℕ) → g < maxRoutines → j < nodeSpan → summary g 0 0 + j < summariesSize
+place-fits g j hg h = rw (summary-span g j h) (summary-fits g (rootOf j) (stateOf j) hg (root-small j) (state-small j))
 
-  pub found-differs : (j : ℕ) → j < 64 → ApartAt before marks g j → Differs before marks g
-  found-differs j h a =
-      let r = j / 8 in
-      let q = j % 8 in
-      let p : (g * 8 + r) * 8 + q ≡ g * 64 + j = omega arith in
-      let n : number g 1 r q ≡ g * 1024 + 64 + j = omega (arith, exit-place r q) in
-      let i : InRange g 1 r q = record { routine = hg; node = omega arith; root = omega arith; state = omega arith } in
-      record {
-        root = r;
-        state = q;
-        root-small = omega arith;
-        state-small = omega arith;
-        differs = rw p (elim a [
-          | inl x ↦ inl (x .0, λ m. m .1 (rw n (x .1)))
-          | inr x ↦ inr (x .0, (i, rw n (x .1)))
-        ]);
-      }
+module _ (before marks : List ℕ) (g : ℕ) (hg : g < maxRoutines) where
+  module _ (r q : ℕ) (hr : r < maxStates) (hq : q < maxStates) where
+    exit-range : InRange g 1 r q
+    exit-range = record { routine = hg; node = omega arith; root = hr; state = hq }
 
-  pub none-differs : ((j : ℕ) → j < 64 → ¬ (ApartAt before marks g j)) → ¬ (Differs before marks g)
+    apart-differs : Apart (getD before (summary g r q) 0) (getD marks (exitAt (summary g r q)) 0) → Differs before marks g
+    apart-differs a =
+        let n = exit-summary g r q hr hq in
+        record {
+          root = r;
+          state = q;
+          root-small = hr;
+          state-small = hq;
+          differs = elim a [
+            | inl x ↦ inl (x .0, λ m. m .1 (rw n at (x .1)))
+            | inr x ↦ inr (x .0, (exit-range, rw n at (x .1)))
+          ];
+        }
+
+    differs-apart : ((getD before (summary g r q) 0 ≢ 0) × (¬ (Marked marks g 1 r q))) ⊎ ((getD before (summary g r q) 0 ≡ 0) × Marked marks g 1 r q)
+        → Apart (getD before (summary g r q) 0) (getD marks (exitAt (summary g r q)) 0)
+    differs-apart d =
+        rw (exit-summary g r q hr hq)
+        (elim d [ inl x ↦ inl (x .0, zero (λ z. x .1 (exit-range, z))) | inr x ↦ inr (x .0, x .1 .1) ])
+      where
+        zero : ¬ (getD marks (number g 1 r q) 0 ≢ 0) → getD marks (number g 1 r q) 0 ≡ 0
+        zero h = elim (ℕ-discrete (getD marks (number g 1 r q) 0) 0) [ yes e ↦ e | no e ↦ absurd (h e) ]
+
+  pub found-differs : (j : ℕ) → j < nodeSpan → ApartAt before marks g j → Differs before marks g
+  found-differs j h a = apart-differs (rootOf j) (stateOf j) (root-small j) (state-small j) (rw (summary-span g j h) at a)
+
+  pub none-differs : ((j : ℕ) → j < nodeSpan → ¬ (ApartAt before marks g j)) → ¬ (Differs before marks g)
   none-differs k d =
       let r = d .root in
       let q = d .state in
-      let hr = d .root-small in
-      let hq = d .state-small in
-      let p : (g * 8 + r) * 8 + q ≡ g * 64 + (r * 8 + q) = omega arith in
-      let i : InRange g 1 r q = record { routine = hg; node = omega arith; root = hr; state = hq } in
-      k (r * 8 + q) (omega arith) (elim (d .differs) [
-        | inl x ↦ inl (rw p at (x .0), zero-at (r * 8 + q) (λ z. x .1 (i, rw (exit-place r q) z)))
-        | inr x ↦ inr (rw p at (x .0), rw (exit-place r q) at (x .1 .1))
-      ])
-    where
-      zero-at : (j : ℕ) → ¬ (getD marks (g * 1024 + 64 + j) 0 ≢ 0) → getD marks (g * 1024 + 64 + j) 0 ≡ 0
-      zero-at j h = elim (ℕ-discrete (getD marks (g * 1024 + 64 + j) 0) 0) [ yes e ↦ e | no e ↦ absurd (h e) ]
+      let j = number 0 0 r q in
+      let h = first-node (d .root-small) (d .state-small) in
+      let i = first-range (d .root-small) (d .state-small) in
+      let e : summary g 0 0 + j ≡ summary g r q = summary-span g j h ∙ rw (root-of i, state-of i) in
+      k j h (rw e (differs-apart r q (d .root-small) (d .state-small) (d .differs)))
 
 -- one more is not so
 pub none-more : {P : ℕ → Type 0} (i : ℕ) → ((j : ℕ) → j < i → ¬ (P j)) → ¬ (P i) → (j : ℕ) → j < i + 1 → ¬ (P j)
 none-more {P} i k n j h x = elim (ℕ-discrete j i) [ yes e ↦ n (subst P e x) | no e ↦ k j (omega arith) x ]
 
--- ---- joining
+-- ---- an edge, as the code takes it apart
 
-pub joined-members : {a b c : List ℕ} → length a ≡ 16 → Filled (joinedFlag a b) 16 c → Joined a b c
-joined-members {a} {b} {c} len w = record { len = w .len ∙ sym len; joined = λ f h. go f (eqb (getD b f 0) 0) refl (w .byte f h) }
-  where
-    go : (f : ℕ) (t : Bool) → eqb (getD b f 0) 0 ≡ t → getD c f 0 ≡ cond t (getD a f 0) 1 → Member c f ↔ (Member a f ⊎ Member b f)
-    go f true t e = (λ m. inl (rw e at m), λ m. elim m [ inl x ↦ rw e x | inr x ↦ absurd (x (eqb-true (getD b f 0) 0 t)) ])
-    go f false t e = (λ m. inr (eqb-false (getD b f 0) 0 t), λ m z. omega arith)
+module _ {members before marks : List ℕ} {e k : Edge} (same : e ≡ k) where
+  of-edge : {y : Bool} → Says y (DifferingEdge members before marks e) → Says y (DifferingEdge members before marks k)
+  of-edge {y} s = subst (λ (x : Edge). Says y (DifferingEdge members before marks x)) same s
+
+  pub edge-outside : memberOf members (e .routine) ≡ false → Says false (DifferingEdge members before marks k)
+  edge-outside t = of-edge (said-no (λ d. false-member members (e .routine) t (d .is-member)))
+
+  pub edge-acts : isCall (e .label) ≡ false → Says false (DifferingEdge members before marks k)
+  edge-acts t = of-edge (said-no (λ d. let u = d .is-call in let z : _≡_ {A = ℕ} 0 1 = cc in omega arith))
+
+  module _ {g : ℕ} (called : g ≡ calledBy (e .label)) where
+    pub edge-past : maxRoutines ≤ g → Says false (DifferingEdge members before marks k)
+    edge-past h = of-edge (said-no (λ d. omega (arith, d .small)))
+
+    pub edge-inside : memberOf members g ≡ true → Says false (DifferingEdge members before marks k)
+    edge-inside t = of-edge (said-no (λ d. d .outside (rw called at (true-member members g t))))
+
+    pub edge-calls : {y : Bool} → memberOf members (e .routine) ≡ true → isCall (e .label) ≡ true → g < maxRoutines → memberOf members g ≡ false
+        → Says y (Differs before marks g) → Says y (DifferingEdge members before marks k)
+    edge-calls t u h v s =
+        of-edge (record {
+          if-yes = λ y.
+              record {
+                is-member = true-member members (e .routine) t;
+                is-call = u;
+                small = rw called at h;
+                outside = rw called at (false-member members g v);
+                differing = rw called at (s .if-yes y);
+              };
+          if-no = λ y d. s .if-no y (rw called (d .differing));
+        })

@@ -1,49 +1,44 @@
 -- The pass of a component within its turn, the test whether there is to be one, and the end of the inside-out repair.
 use mathlib.Core.Path.{_≡_, refl, sym, subst}
 use mathlib.Core.Logic.{_⊎_, inl, inr, _↔_}
-use mathlib.Core.Bool.{true}
 use mathlib.Core.List.{List}
 use Prim.Native.Nat.{ℕ, _<_}
 use native.Mathlib.Omega.{arith}
-use lib.Dec.{eqb}
 use lib.ListN.{length, getD}
-use borrow.Author.Tests.{ne-eqb, eqb-false, not-true}
 use Rattle.automaton.specs.Automaton.{Automaton}
+use Rattle.program.specs.Sizes.{maxRoutines}
 use Rattle.program.specs.Program.{Program}
-use Rattle.reach.specs.Configurations.{Set}
+use Rattle.reach.specs.Configurations.{Set, Sub}
 use Rattle.reach.specs.Reachable.{seeded, root, Reachable}
 use Rattle.reach.specs.Marks.{Marked, Shows, freshMarks}
-use Rattle.reach.proofs.Laws.{Sub, Within, grows}
+use Rattle.reach.proofs.Laws.{Within, grows}
 use Rattle.reach.proofs.Sizes.{may-call, reachable-in-range, reachable-state, reachable-root}
 use Rattle.reach.proofs.Kept.{marks-length, marks-bits}
 use Rattle.reach.proofs.Exact.{analysis-exact}
 use Rattle.reach.proofs.Shown.{shows-same, one-list, reachable-shown}
-use Rattle.components.specs.Components.{CallEdge, Leads, directly, through, Together, OldRoot, Anew, Changed, Reopened}
-use Rattle.components.specs.Passes.{onlyOf, PassSeeds, entry, summary, Live, begun, called}
-use Rattle.components.specs.Parts.{Flagged, Member, memberOf, RootOf, ExitOf, PassOf, Passable}
-use Rattle.components.specs.Turns.{DropOf, Ranks, Before, turnOf, Working, Differs, CallsDiffering}
+use Rattle.callgraph.specs.Components.{CallEdge, Leads, directly, through, Together, OldRoot, Anew, Changed, Reopened, Member, memberOf}
+use Rattle.roots.specs.Roots.{RootOf, Live, begun, called, LiveMarked}
+use Rattle.roots.specs.Parts.{RootFlags}
+use Rattle.components.specs.Passes.{onlyOf, PassSeeds, entry, summary, ExitOf, PassOf}
+use Rattle.components.specs.PassParts.{Passable}
+use Rattle.components.specs.TurnParts.{DropOf, Ranks, Before, turnOf, firstTurn, endTurn, Working, Differs, CallsDiffering}
 use Rattle.components.proofs.Worked.{Passing, pass-anew, anew-pass, root-old, anew-old, called-old, live-exact}
 use Rattle.components.proofs.Only.{only-step, only-routine, step-only}
-use Rattle.components.proofs.Graphed.{called-small, caller-small}
-use Rattle.components.proofs.Turned.{member-small, member-dec, dropped, called-done}
+use Rattle.callgraph.proofs.Members.{member-true, true-member, member-small, member-dec}
+use Rattle.callgraph.proofs.Graphed.{called-small, caller-small}
+use Rattle.components.proofs.Turned.{dropped, called-done}
 
--- ---- members
+-- ---- leads
 
-is-on : (members : List ℕ) (f : ℕ) → Member members f → memberOf members f ≡ true
-is-on members f m = rw (ne-eqb (getD members f 0) 0 m)
-
-on-is : (members : List ℕ) (f : ℕ) → memberOf members f ≡ true → Member members f
-on-is members f e = eqb-false (getD members f 0) 0 (not-true (eqb (getD members f 0) 0) e)
-
-leads-small : {p p′ : Program} {edited : ℕ} → DropOf p p′ edited → {f g : ℕ} → Leads p′ f g → g < 16
+leads-small : {p p′ : Program} {edited : ℕ} → DropOf p p′ edited → {f g : ℕ} → Leads p′ f g → g < maxRoutines
 leads-small {p′ = p′} h (directly e) = called-small p′ (h .well-formed) e
 leads-small h (through e l) = leads-small h l
 
 -- ---- the turn of routine f, with its component
 
 module _ {p p′ : Program} {edited : ℕ} (h : DropOf p p′ edited) {rank : ℕ → ℕ} (k : Ranks p′ rank) {i : ℕ} {marks done reopened : List ℕ}
-    (w : Working p p′ edited rank i marks done reopened) (f : ℕ) (hf : f < 16) (turn : turnOf rank f ≡ i) (not-done : ¬ (Member done f))
-    (members : List ℕ) (members-length : length members ≡ 16) (is-member : (g : ℕ) → g < 16 → Member members g ↔ Together p′ f g) where
+    (w : Working p p′ edited rank i marks done reopened) (f : ℕ) (hf : f < maxRoutines) (turn : turnOf rank f ≡ i) (not-done : ¬ (Member done f))
+    (members : List ℕ) (members-length : length members ≡ maxRoutines) (is-member : (g : ℕ) → g < maxRoutines → Member members g ↔ Together p′ f g) where
   outside-done : (g c : ℕ) → Member members g → CallEdge p′ g c → ¬ (Member members c) → Member done c
   outside-done g c m e x = called-done h k w f hf turn not-done members members-length is-member (member-small members g members-length m) m e x
 
@@ -55,12 +50,12 @@ module _ {p p′ : Program} {edited : ℕ} (h : DropOf p p′ edited) {rank : �
         member = member-dec members;
         within = record { steps = λ x. only-step (memberOf members) p′ x; moves = λ q e s v. v };
         moves = λ q e s v. v;
-        steps = λ {f = g} m x. step-only (memberOf members) p′ (is-on members g m) x;
-        only = λ {f = g} x. on-is members g (only-routine (memberOf members) p′ x);
+        steps = λ {f = g} m x. step-only (memberOf members) p′ (member-true members g m) x;
+        only = λ {f = g} x. true-member members g (only-routine (memberOf members) p′ x);
         given = λ {f = a} {n = n} {m = m} {g = b} c e x s y. w .worked b 1 s y (outside-done a b c (record { source = n; target = m; edge = e }) x);
       }
 
-  module _ (roots : List ℕ) (r : Flagged 16 8 (OldRoot p) roots) where
+  module _ (roots : List ℕ) (r : RootFlags (OldRoot p) roots) where
     to-old : {g x : ℕ} → RootOf roots g x → OldRoot p g x
     to-old {g} {x} z = r .flagged g x (z .0) (z .1) .0 (z .2)
 
@@ -91,8 +86,6 @@ module _ {p p′ : Program} {edited : ℕ} (h : DropOf p p′ edited) {rank : �
         record {
           marks-length = w .marks-length;
           marks-bits = w .marks-bits;
-          members-length = members-length;
-          roots-length = r .len;
           states = λ {f = g} {n = n} {r = x} {q = q} m. state (reached g n x q m);
           root-states = λ {f = g} {r = y} z. subst (λ (a : Automaton). y < a .states) (sym (h .automaton)) (reachable-root p (h .old-well-formed) (to-old z));
           covered = λ {f = g} {n = n} {r = x} {q = q} {g = c} {m = t} m z e y.
@@ -112,7 +105,7 @@ module _ {p p′ : Program} {edited : ℕ} (h : DropOf p p′ edited) {rank : �
 
   module _ (before : List ℕ) (b : Before p before) where
     -- of a routine that is done: its summaries on the sheet are others than before exactly if they have changed
-    differs-changed : (c : ℕ) → c < 16 → Member done c → Differs before marks c → Changed p p′ c
+    differs-changed : (c : ℕ) → c < maxRoutines → Member done c → Differs before marks c → Changed p p′ c
     differs-changed c hc d z =
         let x = z .root in
         let q = z .state in
@@ -129,7 +122,7 @@ module _ {p p′ : Program} {edited : ℕ} (h : DropOf p p′ edited) {rank : �
               }
         ]
 
-    changed-differs : (c : ℕ) → c < 16 → Member done c → Changed p p′ c → Differs before marks c
+    changed-differs : (c : ℕ) → c < maxRoutines → Member done c → Changed p p′ c → Differs before marks c
     changed-differs c hc d z =
         let x = z .root in
         let q = z .state in
@@ -166,8 +159,8 @@ module _ {p p′ : Program} {edited : ℕ} (h : DropOf p p′ edited) {rank : �
                   });
             }
 
-        together-small : {g : ℕ} → Together p′ f g → g < 16
-        together-small (inl e) = subst (λ (x : ℕ). x < 16) e hf
+        together-small : {g : ℕ} → Together p′ f g → g < maxRoutines
+        together-small (inl e) = subst (λ (x : ℕ). x < maxRoutines) e hf
         together-small (inr l) = leads-small h (l .0)
 
         back : Reopened p p′ edited f → Member members edited ⊎ CallsDiffering p′ members before marks
@@ -192,8 +185,8 @@ module _ {p p′ : Program} {edited : ℕ} (h : DropOf p p′ edited) {rank : �
 -- ---- the first turn, and after the last
 
 module _ {p p′ : Program} {edited : ℕ} (h : DropOf p p′ edited) {rank : ℕ → ℕ} (k : Ranks p′ rank) where
-  pub first-turn : (done reopened : List ℕ) → length done ≡ 16 → length reopened ≡ 16 → ((f : ℕ) → getD done f 0 ≡ 0) → ((f : ℕ) → getD reopened f 0 ≡ 0)
-      → Working p p′ edited rank 16 (freshMarks p) done reopened
+  pub first-turn : (done reopened : List ℕ) → length done ≡ maxRoutines → length reopened ≡ maxRoutines → ((f : ℕ) → getD done f 0 ≡ 0) → ((f : ℕ) → getD reopened f 0 ≡ 0)
+      → Working p p′ edited rank firstTurn (freshMarks p) done reopened
   first-turn done reopened a b c d =
       record {
         marks-length = marks-length p;
@@ -208,11 +201,11 @@ module _ {p p′ : Program} {edited : ℕ} (h : DropOf p p′ edited) {rank : �
         none-yet = λ f m x. x (d f);
       }
 
-  module _ {marks done reopened : List ℕ} (w : Working p p′ edited rank 272 marks done reopened) where
-    all-done : (f : ℕ) → f < 16 → Member done f
+  module _ {marks done reopened : List ℕ} (w : Working p p′ edited rank endTurn marks done reopened) where
+    all-done : (f : ℕ) → f < maxRoutines → Member done f
     all-done f hf = w .earlier f hf (omega (arith, k .high f hf))
 
-    pub all-right : (f : ℕ) → f < 16 → Member reopened f ↔ Reopened p p′ edited f
+    pub all-right : (f : ℕ) → f < maxRoutines → Member reopened f ↔ Reopened p p′ edited f
     all-right f hf = w .right f hf (all-done f hf)
 
     anew-marked : {f n r q : ℕ} → Anew p p′ f n r q → Marked marks f n r q
@@ -227,11 +220,11 @@ module _ {p p′ : Program} {edited : ℕ} (h : DropOf p p′ edited) {rank : �
     live-sub s (called l x e v) = called (live-sub s l) (s .at x) e v
 
     -- what has a root that occurs is marked as afresh
-    pub cut-fresh : (marks′ : List ℕ) → Shows (λ (f n r q : ℕ). Live p′ (Marked marks) f r × Marked marks f n r q) marks′ → marks′ ≡ freshMarks p′
+    pub cut-fresh : (marks′ : List ℕ) → Shows (LiveMarked p′ marks) marks′ → marks′ ≡ freshMarks p′
     cut-fresh marks′ s = one-list (shows-same (record { at = there }) (record { at = back }) s) (reachable-shown p′ (h .well-formed))
       where
-        there : {f n r q : ℕ} → Live p′ (Marked marks) f r × Marked marks f n r q → Reachable p′ f n r q
+        there : {f n r q : ℕ} → LiveMarked p′ marks f n r q → Reachable p′ f n r q
         there x = live-exact (dropped h) .0 (live-sub (record { at = marked-anew }) (x .0), marked-anew (x .1))
 
-        back : {f n r q : ℕ} → Reachable p′ f n r q → Live p′ (Marked marks) f r × Marked marks f n r q
+        back : {f n r q : ℕ} → Reachable p′ f n r q → LiveMarked p′ marks f n r q
         back x = let z = live-exact (dropped h) .1 x in (live-sub (record { at = anew-marked }) (z .0), anew-marked (z .1))

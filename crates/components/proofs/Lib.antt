@@ -4,12 +4,6 @@ pub mod Only
 pub mod Slice
 pub mod Rounds
 pub mod Passing
-pub mod Growth
-pub mod Keyed
-pub mod Graphed
-pub mod Leading
-pub mod Occurring
-pub mod Bitted
 pub mod Finished
 pub mod Deciding
 pub mod Turning

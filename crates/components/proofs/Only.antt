@@ -8,7 +8,8 @@ use lib.ListN.{length}
 use Rattle.automaton.specs.declared.Event.{Event}
 use Rattle.program.specs.Program.{Edge, Program, edgeFits}
 use Rattle.program.specs.Frames.{edgeKey}
-use Rattle.program.specs.WellFormed.{All, Ascending, WellFormed}
+use Rattle.program.specs.WellFormed.{All, WellFormed}
+use Rattle.tables.specs.Keys.{Ascending}
 use Rattle.reach.specs.Runs.{Step, stepOf, HasStep}
 use Rattle.reach.proofs.Laws.{Within}
 use Rattle.components.specs.Passes.{edgesOf, onlyOf}

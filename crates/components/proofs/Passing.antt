@@ -1,84 +1,65 @@
 -- The pass over a component, as a whole: from the first marks, what follows by the edges of its routines is what the pass derives, and of the
 -- other routines nothing is marked anew.
-use Prim.Native.Nat.{ℕ, _+_, _*_, _≤_}
+use Prim.Native.Nat.{ℕ, _≤_}
 use mathlib.Core.Path.{_≡_, refl, sym, _∙_}
 use mathlib.Core.Logic.{_≢_}
-use mathlib.Core.Bool.{Bool, true, false, cond}
+use mathlib.Core.Bool.{Bool, true, false, cond, _&&_}
 use mathlib.Core.List.{List}
 use native.Mathlib.Omega.{arith}
 use native.Mathlib.Decide.{ℕ-discrete}
 use lib.Dec.{eqb}
 use lib.ListN.{getD}
-use borrow.Author.Tests.{eqb-true, eqb-false, eq-eqb, ne-eqb}
+use borrow.Author.Tests.{eqb-true, eq-eqb}
+use Rattle.base.specs.Flags.{isSet}
+use Rattle.program.specs.Sizes.{marksSize}
 use Rattle.program.specs.Program.{Program}
 use Rattle.program.specs.WellFormed.{WellFormed}
-use Rattle.reach.specs.Configurations.{InRange, number, routineOf, nodeOf, rootOf, stateOf}
+use Rattle.base.proofs.Bools.{both}
+use Rattle.reach.specs.Configurations.{InRange, number, routineOf, nodeOf, rootOf, stateOf, rootPlace}
 use Rattle.reach.specs.Reachable.{seeded, by-action, by-call, by-return}
 use Rattle.reach.specs.Marks.{Marked, Shows}
 use Rattle.reach.proofs.Laws.{grows}
 use Rattle.reach.proofs.Numbers.{routine-of, node-of, root-of, state-of, number-fits}
 use Rattle.reach.proofs.Sizes.{call-stays}
-use Rattle.worklist.specs.Parts.{Filled}
-use Rattle.worklist.proofs.Filling.{filled-bits}
-use Rattle.components.specs.Passes.{PassSeeds, entry, summary}
-use Rattle.components.specs.Parts.{memberOf, Member, RootOf, ExitOf, PassOf, Passable, Passed}
-use Rattle.components.specs.PassParts.{firstMark, Ready, ByMembers}
+use Rattle.base.specs.Filled.{Filled}
+use Rattle.base.proofs.Filling.{filled-bits}
+use Rattle.callgraph.specs.Components.{memberOf, Member}
+use Rattle.callgraph.proofs.Graphed.{bit-small}
+use Rattle.callgraph.proofs.Members.{member-true, true-member, member-dec}
+use Rattle.roots.specs.Roots.{RootOf}
+use Rattle.components.specs.Passes.{PassSeeds, entry, summary, ExitOf, PassOf, Passed}
+use Rattle.components.specs.PassParts.{Passable, rootMark, firstOf, firstMarks, Ready, ByMembers}
 use Rattle.components.proofs.Only.{only-step, only-routine, only-within}
-use Rattle.components.proofs.Rounds.{true-member, shown-marked, marked-shown}
+use Rattle.components.proofs.Rounds.{shown-marked, marked-shown}
 
 -- ---- the first marks
 
 -- what the first mark of a member is: 1 at an entry in one of its roots
-rootMark : List ℕ → ℕ → ℕ → ℕ → ℕ → ℕ
-rootMark roots f n r q = cond (eqb n 0) (cond (eqb r q) (cond (eqb (getD roots (f * 8 + q) 0) 0) 0 1) 0) 0
-
 record AtRoot (roots : List ℕ) (f n r q : ℕ) : Type 0 where
   entry : n ≡ 0
   same : r ≡ q
-  root : getD roots (f * 8 + q) 0 ≢ 0
+  root : getD roots (rootPlace f q) 0 ≢ 0
 
 root-mark : (roots : List ℕ) (f n r q : ℕ) → rootMark roots f n r q ≢ 0 → AtRoot roots f n r q
-unfolding rootMark
-root-mark roots f n r q h = go (eqb n 0) refl (eqb r q) refl (eqb (getD roots (f * 8 + q) 0) 0) refl h
+root-mark roots f n r q h = go (eqb n 0 && eqb r q && isSet roots (rootPlace f q)) refl h
   where
-    go : (a : Bool) → eqb n 0 ≡ a → (b : Bool) → eqb r q ≡ b → (c : Bool) → eqb (getD roots (f * 8 + q) 0) 0 ≡ c
-        → _≢_ {A = ℕ} (cond a (cond b (cond c 0 1) 0) 0) 0 → AtRoot roots f n r q
-    go false x b y c z h = absurd (h refl)
-    go true x false y c z h = absurd (h refl)
-    go true x true y true z h = absurd (h refl)
-    go true x true y false z h =
-        record { entry = eqb-true n 0 x; same = eqb-true r q y; root = eqb-false (getD roots (f * 8 + q) 0) 0 z }
+    go : (t : Bool) → eqb n 0 && eqb r q && isSet roots (rootPlace f q) ≡ t → _≢_ {A = ℕ} (cond t 1 0) 0 → AtRoot roots f n r q
+    go true e h =
+        let a = both (eqb n 0 && eqb r q) (isSet roots (rootPlace f q)) e in
+        let b = both (eqb n 0) (eqb r q) (a .0) in
+        record { entry = eqb-true n 0 (b .0); same = eqb-true r q (b .1); root = true-member roots (rootPlace f q) (a .1) }
+    go false e h = absurd (h refl)
 
-root-bit : (roots : List ℕ) (f n r q : ℕ) → rootMark roots f n r q ≤ 1
-unfolding rootMark
-root-bit roots f n r q = go (eqb n 0) (eqb r q) (eqb (getD roots (f * 8 + q) 0) 0)
-  where
-    go : (a b c : Bool) → cond a (cond b (cond c 0 1) 0) 0 ≤ 1
-    go false b c = omega arith
-    go true false c = omega arith
-    go true true true = omega arith
-    go true true false = omega arith
-
-mark-root : (roots : List ℕ) (f q : ℕ) → getD roots (f * 8 + q) 0 ≢ 0 → rootMark roots f 0 q q ≡ 1
-unfolding rootMark
-mark-root roots f q h = rw (eq-eqb q q refl, ne-eqb (getD roots (f * 8 + q) 0) 0 h)
-
-first-by : (members roots : List ℕ) (old i : ℕ)
-    → firstMark members roots old i ≡ cond (eqb (getD members (routineOf i) 0) 0) old (rootMark roots (routineOf i) (nodeOf i) (rootOf i) (stateOf i))
-unfolding rootMark routineOf nodeOf rootOf stateOf
-first-by members roots old i = refl
+mark-root : (roots : List ℕ) (f q : ℕ) → getD roots (rootPlace f q) 0 ≢ 0 → rootMark roots f 0 q q ≡ 1
+mark-root roots f q h = rw (eq-eqb q q refl, member-true roots (rootPlace f q) h)
 
 module _ {p : Program} {members roots marks first : List ℕ} (w : WellFormed p) (a : Passable p members roots marks)
-    (x : Filled (λ i. firstMark members roots (getD marks i 0) i) 16384 first) where
-  byte : {f n r q : ℕ} → InRange f n r q
-      → getD first (number f n r q) 0 ≡ cond (eqb (getD members f 0) 0) (getD marks (number f n r q) 0) (rootMark roots f n r q)
-  byte {f} {n} {r} {q} h =
-      let i = number f n r q in
-      x .byte i (number-fits h) ∙ first-by members roots (getD marks i 0) i
-      ∙ rw (routine-of h, node-of h, root-of h, state-of h)
+    (x : Filled (firstMarks members roots marks) marksSize first) where
+  byte : {f n r q : ℕ} → InRange f n r q → getD first (number f n r q) 0 ≡ firstOf members roots (getD marks (number f n r q) 0) f n r q
+  byte {f} {n} {r} {q} h = x .byte (number f n r q) (number-fits h) ∙ rw (routine-of h, node-of h, root-of h, state-of h)
 
   byte-in : {f n r q : ℕ} → Member members f → InRange f n r q → getD first (number f n r q) 0 ≡ rootMark roots f n r q
-  byte-in {f} m h = byte h ∙ rw (ne-eqb (getD members f 0) 0 m)
+  byte-in {f} m h = byte h ∙ rw (member-true members f m)
 
   byte-out : {f n r q : ℕ} → ¬ (Member members f) → InRange f n r q → getD first (number f n r q) 0 ≡ getD marks (number f n r q) 0
   byte-out {f} m h =
@@ -101,24 +82,20 @@ module _ {p : Program} {members roots marks first : List ℕ} (w : WellFormed p)
       let h : InRange f 0 r r = record { routine = y .0; node = omega arith; root = y .1; state = y .1 } in
       (h, λ e. omega (arith, mark-root roots f r (y .2), byte-in m h))
 
-  is-member : (f : ℕ) → Dec (Member members f)
-  is-member f = elim (ℕ-discrete (getD members f 0) 0) [ yes e ↦ no (λ m. m e) | no e ↦ yes e ]
-
-  old-or-root : (old i : ℕ) → old ≤ 1 → firstMark members roots old i ≤ 1
-  old-or-root old i h = rw (first-by members roots old i) (go (eqb (getD members (routineOf i) 0) 0) (root-bit roots (routineOf i) (nodeOf i) (rootOf i) (stateOf i)))
-    where
-      go : (t : Bool) {b : ℕ} → b ≤ 1 → cond t old b ≤ 1
-      go true k = h
-      go false k = k
+  old-or-root : (t : Bool) {old b : ℕ} → old ≤ 1 → b ≤ 1 → cond t b old ≤ 1
+  old-or-root true h k = k
+  old-or-root false h k = h
 
   pub first-ready : Ready p first
   first-ready =
       record {
         well-formed = w;
         marks-length = x .len;
-        marks-bits = filled-bits x (λ i. old-or-root (getD marks i 0) i (a .marks-bits i));
+        marks-bits = filled-bits x (λ i.
+            old-or-root (memberOf members (routineOf i)) (a .marks-bits i)
+            (bit-small (eqb (nodeOf i) 0 && eqb (rootOf i) (stateOf i) && isSet roots (rootPlace (routineOf i) (stateOf i)))));
         states = λ {f} {n} {r} {q} y.
-            elim (is-member f) [
+            elim (member-dec members f) [
               | yes m ↦
                   let e = in-root m y in
                   a .root-states {f = f} {r = q} (y .0 .routine, y .0 .state, e .root)
@@ -143,7 +120,7 @@ module _ {p : Program} {members roots marks first : List ℕ} (w : WellFormed p)
   to-pass m (by-call {f = f} d s v u) = by-call (to-pass (true-member members f (only-routine (memberOf members) p s)) d) s v tt
   to-pass m (by-return {g = g} {s = s} {x = z} d e v d′ v′ u) =
       by-return {x = z} (to-pass m d) e v
-      (elim (is-member g) [ yes k ↦ to-pass k d′ | no k ↦ seeded (summary k (exit-given k refl d′)) tt ])
+      (elim (member-dec members g) [ yes k ↦ to-pass k d′ | no k ↦ seeded (summary k (exit-given k refl d′)) tt ])
       v′ tt
 
   first-seeds : {f n r q : ℕ} → PassSeeds (Member members) (RootOf roots) (ExitOf marks) f n r q → Marked first f n r q

@@ -1,41 +1,37 @@
 -- Rounds over the routines of a component: each turn marks what follows by the edges of one routine, and once a round marks nothing, what is marked
 -- is exactly what follows by the edges of all of them.
-use Prim.Native.Nat.{ℕ, suc, zero, _+_, _-_, _*_, _≤_, _<_}
-use mathlib.Core.Path.{_≡_, refl, sym, ap, subst, _∙_}
+use Prim.Native.Nat.{ℕ, _+_, _-_, _<_}
+use mathlib.Core.Path.{_≡_, refl, sym, subst, _∙_}
 use mathlib.Core.Logic.{_≢_}
-use mathlib.Core.Bool.{Bool, true, cond, not}
-use mathlib.Core.List.{List, [], _∷_, map}
+use mathlib.Core.Bool.{Bool, true, false}
+use mathlib.Core.List.{List, map}
 use native.Mathlib.Omega.{arith}
 use native.Mathlib.Decide.{ℕ-discrete}
-use lib.Dec.{eqb}
 use lib.ListN.{length, getD}
-use borrow.Author.Tests.{eqb-true, eqb-false, eq-eqb, ne-eqb, not-true}
+use borrow.Author.Tests.{eqb-true, eq-eqb}
 use Rattle.automaton.specs.Flags.{Answers}
+use Rattle.program.specs.Sizes.{maxRoutines, marksSize}
 use Rattle.program.specs.Program.{Program}
 use Rattle.program.specs.WellFormed.{WellFormed}
 use Rattle.program.specs.Decoded.{edgeOf}
-use Rattle.reach.specs.Configurations.{Set, InRange, number}
+use Rattle.reach.specs.Sizes.{routineSpan}
+use Rattle.reach.specs.Configurations.{Set, InRange, number, Sub}
 use Rattle.reach.specs.Reachable.{Derivable, seeded, by-action, by-call, by-return, Any}
 use Rattle.reach.specs.Marks.{Marked, Shows, Between}
-use Rattle.base.specs.Flags.{countSet}
-use Rattle.reach.proofs.Laws.{Sub, Within, grows, flat}
-use Rattle.reach.proofs.Numbers.{number-of, parts-in-range}
+use Rattle.base.specs.Flags.{countSet, On}
+use Rattle.reach.proofs.Laws.{Within, grows, flat}
+use Rattle.reach.proofs.Numbers.{number-of, parts-in-range, routine-span, first-number}
 use Rattle.reach.proofs.Sizes.{sizes, Proper, derivable-state, derivable-in-range}
 use Rattle.base.proofs.SetFlags.{on-lt}
 use Rattle.reach.proofs.Shown.{one-of, shows-marked, count-small}
 use Rattle.worklist.specs.Slice.{Followable}
+use Rattle.callgraph.specs.Components.{memberOf, Member}
+use Rattle.callgraph.proofs.Growth as Flags
+use Rattle.callgraph.proofs.Growth.{count-grows, count-same}
+use Rattle.callgraph.proofs.Members.{member-true, true-member, false-member}
 use Rattle.components.specs.Passes.{onlyOf, edgesOf}
-use Rattle.components.specs.Parts.{memberOf, Member}
 use Rattle.components.specs.PassParts.{is, Ready, ByRoutine, ByMembers, Grows, Round, Turn}
 use Rattle.components.proofs.Only.{only-well-formed, only-step, only-routine, step-only, only-within}
-
--- ---- members
-
-pub member-true : (members : List ℕ) (f : ℕ) → Member members f → memberOf members f ≡ true
-member-true members f h = ap not (ne-eqb (getD members f 0) 0 h)
-
-pub true-member : (members : List ℕ) (f : ℕ) → memberOf members f ≡ true → Member members f
-true-member members f h = eqb-false (getD members f 0) 0 (not-true (eqb (getD members f 0) 0) h)
 
 -- ---- marks that show a set
 
@@ -94,19 +90,15 @@ module _ {p : Program} {members marks : List ℕ} (h : Ready p marks) where
 
 -- ---- a turn
 
--- the numbers of another routine
-other-routine : {f g n r q : ℕ} → InRange g n r q → ¬ (Between (f * 1024) (f * 1024 + 1024) (number g n r q)) → g ≢ f
-unfolding number
-other-routine h ne e =
-    let a = h .node in
-    let b = h .root in
-    let c = h .state in
-    ne (omega arith, omega arith)
+-- a configuration that has none of the numbers of routine f is another's
+other-routine : {f g n r q low : ℕ} → low ≡ number f 0 0 0 → InRange g n r q → ¬ (Between low (low + routineSpan) (number g n r q)) → g ≢ f
+other-routine {f} e h ne same = ne (rw (e, first-number f, ← same) (routine-span h))
 
 -- no edge of routine f leads from the configurations of another
-pub turn-followable : {p : Program} {steps next marks : List ℕ} (f : ℕ) → Ready p marks → edgesOf (is f) (p .edges) ≡ map edgeOf steps
-    → Answers (p .automaton) next → Followable (onlyOf (is f) p) steps next (f * 1024) (f * 1024 + 1024) marks
-turn-followable {p} f h e a =
+pub turn-followable : {p : Program} {steps next marks : List ℕ} {low : ℕ} (f : ℕ) → low ≡ number f 0 0 0 → Ready p marks
+    → edgesOf (is f) (p .edges) ≡ map edgeOf steps → Answers (p .automaton) next
+    → Followable (onlyOf (is f) p) steps next low (low + routineSpan) marks
+turn-followable {p} f first h e a =
     record {
       well-formed = only-well-formed (is f) p (h .well-formed);
       edges = e;
@@ -116,7 +108,7 @@ turn-followable {p} f h e a =
         marks-bits = h .marks-bits;
         states = h .states;
         closed = λ {f = g} m ne.
-            let x = other-routine (m .0) ne in
+            let x = other-routine first (m .0) ne in
             record {
               acts = λ s v. absurd (x (eqb-true g f (only-routine (is f) p s)));
               calls = λ s v. absurd (x (eqb-true g f (only-routine (is f) p s)));
@@ -126,8 +118,8 @@ turn-followable {p} f h e a =
     }
 
 module _ {p : Program} {members marks : List ℕ} (h : Ready p marks) (f : ℕ) where
-  pub no-turn : getD members f 0 ≡ 0 → Turn p members f marks marks
-  no-turn e = record { grows = grows-none h; closed = λ m. absurd (m e) }
+  pub no-turn : memberOf members f ≡ false → Turn p members f marks marks
+  no-turn e = record { grows = grows-none h; closed = λ m. absurd (false-member members f e m) }
 
   pub turn-shown : {marks′ : List ℕ} → Member members f → Shows (ByRoutine p f marks) marks′ → Turn p members f marks marks′
   turn-shown m s =
@@ -167,74 +159,41 @@ round-turn {p} {members} {marks} {marks′} {marks″} {n} h g t =
 
 -- ---- how many are marked
 
--- a list that has each set byte of another has no fewer, and if it has no more, then the same
-one : ℕ → ℕ
-one b = cond (eqb b 0) 0 1
-
-one-set : (b : ℕ) → b ≢ 0 → one b ≡ 1
-unfolding one
-one-set b h = rw (ne-eqb b 0 h)
-
-one-clear : (b : ℕ) → b ≡ 0 → one b ≡ 0
-unfolding one
-one-clear b h = rw (eq-eqb b 0 h)
-
-one-grows : (a b : ℕ) → (a ≢ 0 → b ≢ 0) → one a ≤ one b
-one-grows a b i =
-    elim (ℕ-discrete a 0) [
-      | yes e ↦ omega (arith, one-clear a e)
-      | no e ↦ omega (arith, one-set a e, one-set b (i e))
-    ]
-
-pub count-grows : (l k : List ℕ) → length l ≡ length k → ((j : ℕ) → getD l j 0 ≢ 0 → getD k j 0 ≢ 0) → countSet l ≤ countSet k
-unfolding countSet one
-count-grows [] [] e i = omega arith
-count-grows [] (b ∷ k) e i = absurd (omega arith)
-count-grows (a ∷ l) [] e i = absurd (omega arith)
-count-grows (a ∷ l) (b ∷ k) e i = omega (arith, one-grows a b (i 0), count-grows l k (omega arith) (λ j. i (suc j)))
-
-pub count-same : (l k : List ℕ) → length l ≡ length k → ((j : ℕ) → getD l j 0 ≢ 0 → getD k j 0 ≢ 0) → countSet k ≤ countSet l
-    → (j : ℕ) → getD k j 0 ≢ 0 → getD l j 0 ≢ 0
-unfolding countSet one
-count-same [] [] e i c j h = h
-count-same [] (b ∷ k) e i c j h = absurd (omega arith)
-count-same (a ∷ l) [] e i c j h = absurd (omega arith)
-count-same (a ∷ l) (b ∷ k) e i c zero h =
-    λ z. omega (arith, count-grows l k (omega arith) (λ j. i (suc j)), one-set b h, one-clear a z)
-count-same (a ∷ l) (b ∷ k) e i c (suc j) h =
-    count-same l k (omega arith) (λ j. i (suc j)) (omega (arith, one-grows a b (i 0))) j h
-
 module _ {p : Program} {members marks marks′ : List ℕ} (h : Ready p marks) (g : Grows p members marks marks′) where
-  kept-at : (j : ℕ) → getD marks j 0 ≢ 0 → getD marks′ j 0 ≢ 0
-  kept-at j x =
-      let b : j < 16384 = omega (arith, h .marks-length, on-lt marks j (record { on = x })) in
-      let e = number-of j in
-      let y : Marked marks _ _ _ _ = (parts-in-range j b, subst (λ (i : ℕ). getD marks i 0 ≢ 0) (sym e) x) in
-      subst (λ (i : ℕ). getD marks′ i 0 ≢ 0) e (g .keeps .at y .1)
+  grown : Flags.Grows marks marks′
+  grown = record { stays = λ j x. record { on = kept-at j x } }
+    where
+      kept-at : (j : ℕ) → On marks j → getD marks′ j 0 ≢ 0
+      kept-at j x =
+          let b : j < marksSize = omega (arith, h .marks-length, on-lt marks j x) in
+          let e = number-of j in
+          let y : Marked marks _ _ _ _ = (parts-in-range j b, subst (λ (i : ℕ). getD marks i 0 ≢ 0) (sym e) (x .on)) in
+          subst (λ (i : ℕ). getD marks′ i 0 ≢ 0) e (g .keeps .at y .1)
 
-  pub more-marks : countSet marks ≤ countSet marks′
-  more-marks = count-grows marks marks′ (h .marks-length ∙ sym (g .marks-length)) kept-at
+  same-length : length marks ≡ length marks′
+  same-length = h .marks-length ∙ sym (g .marks-length)
 
   -- so a round that marks more comes nearer to all
-  pub rounds-less : {after before : ℕ} → after ≡ countSet marks′ → before ≡ countSet marks → after ≢ before → 16384 - countSet marks′ < 16384 - countSet marks
+  pub rounds-less : {after before : ℕ} → after ≡ countSet marks′ → before ≡ countSet marks → after ≢ before
+      → marksSize - countSet marks′ < marksSize - countSet marks
   rounds-less a b ne =
       elim (ℕ-discrete (countSet marks′) (countSet marks)) [
         | yes e ↦ absurd (ne (a ∙ e ∙ sym b))
-        | no e ↦ omega (arith, more-marks, count-small marks′, g .marks-length)
+        | no e ↦ omega (arith, count-grows marks marks′ same-length grown, count-small marks′, g .marks-length)
       ]
 
   pub none-new : countSet marks′ ≡ countSet marks → Sub (Marked marks′) (Marked marks)
   none-new e =
       record {
         at = λ {f} {n} {r} {q} x.
-            (x .0, count-same marks marks′ (h .marks-length ∙ sym (g .marks-length)) kept-at (omega arith) (number f n r q) (x .1));
+            (x .0, count-same marks marks′ same-length grown (omega arith) (number f n r q) (record { on = x .1 }) .on);
       }
 
 -- ---- the end of the rounds
 
 module _ {p : Program} {members marks marks′ marks″ : List ℕ} (h : Ready p marks) (g : Grows p members marks marks′)
-    (r : Round p members 16 marks′ marks″) (e : countSet marks″ ≡ countSet marks′) where
-  closed : (f : ℕ) → f < 16 → Member members f → Sub (ByRoutine p f marks′) (Marked marks′)
+    (r : Round p members maxRoutines marks′ marks″) (e : countSet marks″ ≡ countSet marks′) where
+  closed : (f : ℕ) → f < maxRoutines → Member members f → Sub (ByRoutine p f marks′) (Marked marks′)
   closed = r .closed (none-new (grown-ready h g) (r .grows) e)
 
   own-step : (f : ℕ) → is f f ≡ true

@@ -7,9 +7,10 @@ use native.Mathlib.Omega.{arith}
 use native.Mathlib.Nat.{sub-zero}
 use lib.ListN.{length, take, drop}
 use borrow.Author.Tests.{eq-eqb, ne-eqb}
+use Rattle.program.specs.Sizes.{maxEdges}
 use Rattle.program.specs.Program.{Edge}
 use Rattle.program.specs.Frames.{edgeKey}
-use Rattle.program.specs.WellFormed.{Ascending}
+use Rattle.tables.specs.Keys.{Ascending}
 use Rattle.program.specs.Decoded.{edgeOf}
 use Rattle.worklist.specs.Slice.{FirstOf}
 use Rattle.worklist.proofs.Slice.{routineAt, in-use-same, part-starts, part-in-use, part-ends, before-part, in-part, after-part}
@@ -51,7 +52,7 @@ module _ {keys : List ℕ} {count f a b : ℕ} (x : FirstOf keys count f a) (y :
       ∙ ap (map edgeOf) (part-in-use x y)
 
 -- the keys of a table: a count above its size means all of them
-module _ {keys : List ℕ} (n : ℕ) {u f a b : ℕ} (room : length keys ≡ 256) (e : u ≡ min n 256) (x : FirstOf keys u f a) (y : FirstOf keys u (f + 1) b) where
+module _ {keys : List ℕ} (n : ℕ) {u f a b : ℕ} (room : length keys ≡ maxEdges) (e : u ≡ min n maxEdges) (x : FirstOf keys u f a) (y : FirstOf keys u (f + 1) b) where
   pub routine-edges : Ascending 0 (map edgeKey (map edgeOf (take n keys))) → edgesOf (is f) (map edgeOf (take n keys)) ≡ map edgeOf (take (b - a) (drop a keys))
   routine-edges up =
       let same = in-use-same keys n room e in

@@ -1,23 +1,24 @@
 -- The turns of the inside-out repair.
 use mathlib.Core.Path.{_≡_, sym, subst, _∙_}
 use mathlib.Core.Logic.{_⊎_, inl, inr, _↔_}
-use mathlib.Core.Bool.{true, not}
+use mathlib.Core.Bool.{true}
 use mathlib.Core.List.{List, List·Memᴰ}
 use Prim.Native.Nat.{ℕ, _+_, _≤_, _<_}
 use native.Mathlib.Omega.{arith}
 use native.Mathlib.Decide.{ℕ-discrete}
 use lib.ListN.{length, getD}
 use Rattle.automaton.specs.Automaton.{Automaton, moves}
+use Rattle.program.specs.Sizes.{maxRoutines, marksSize}
 use Rattle.program.specs.Program.{Program}
 use Rattle.reach.specs.Configurations.{InRange, number}
 use Rattle.reach.specs.Reachable.{Initial, initial, Reachable}
 use Rattle.reach.specs.Marks.{Marked}
 use Rattle.reach.proofs.Sizes.{reachable-in-range}
-use Rattle.base.proofs.SetFlags.{on-lt}
-use Rattle.components.specs.Components.{CallEdge, Together, Anew, Reopened}
-use Rattle.components.specs.Parts.{Member}
-use Rattle.components.specs.Turns.{DropOf, Ranks, turnOf, Working, Joined}
-use Rattle.components.proofs.Graphed.{together-sym, together-trans, called-small}
+use Rattle.callgraph.specs.Components.{CallEdge, Together, Anew, Reopened, Member}
+use Rattle.callgraph.specs.Parts.{Joined}
+use Rattle.components.specs.TurnParts.{DropOf, Ranks, turnOf, Working}
+use Rattle.callgraph.proofs.Members.{member-small, member-dec}
+use Rattle.callgraph.proofs.Graphed.{together-sym, together-trans, called-small}
 use Rattle.components.proofs.Worked.{Dropped, Untouched, root-old, anew-old, untouched-kept}
 
 -- what one routine of a component is, all are
@@ -35,13 +36,6 @@ reopened-together t o =
 -- whether a configuration is marked
 pub dec-marked : (marks : List ℕ) (f n r q : ℕ) → InRange f n r q → Dec (Marked marks f n r q)
 dec-marked marks f n r q i = elim (ℕ-discrete (getD marks (number f n r q) 0) 0) [ yes e ↦ no (λ m. m .1 e) | no e ↦ yes (i, e) ]
-
--- a member is below the length
-pub member-small : (flags : List ℕ) (f : ℕ) → length flags ≡ 16 → Member flags f → f < 16
-member-small flags f e m = let z = on-lt flags f (record { on = m }) in omega arith
-
-pub member-dec : (flags : List ℕ) (f : ℕ) → Dec (Member flags f)
-member-dec flags f = elim (ℕ-discrete (getD flags f 0) 0) [ yes e ↦ no (λ m. m e) | no e ↦ yes e ]
 
 -- ---- the program before and the one after
 
@@ -63,7 +57,7 @@ module _ {p p′ : Program} {edited : ℕ} (h : DropOf p p′ edited) where
 
   module _ {rank : ℕ → ℕ} (k : Ranks p′ rank) {i : ℕ} {marks done reopened : List ℕ} (w : Working p p′ edited rank i marks done reopened) where
     -- ---- a turn without work: nobody has it, or who has it is done
-    pub skipped : ((f : ℕ) → f < 16 → turnOf rank f ≡ i → Member done f) → Working p p′ edited rank (i + 1) marks done reopened
+    pub skipped : ((f : ℕ) → f < maxRoutines → turnOf rank f ≡ i → Member done f) → Working p p′ edited rank (i + 1) marks done reopened
     skipped s =
         record {
           marks-length = w .marks-length;
@@ -79,14 +73,14 @@ module _ {p p′ : Program} {edited : ℕ} (h : DropOf p p′ edited) where
         }
 
     -- ---- the turn of a routine f that is not done, with its component
-    module _ (f : ℕ) (hf : f < 16) (turn : turnOf rank f ≡ i) (not-done : ¬ (Member done f)) (members : List ℕ)
-        (members-length : length members ≡ 16) (is-member : (g : ℕ) → g < 16 → Member members g ↔ Together p′ f g) where
+    module _ (f : ℕ) (hf : f < maxRoutines) (turn : turnOf rank f ≡ i) (not-done : ¬ (Member done f)) (members : List ℕ)
+        (members-length : length members ≡ maxRoutines) (is-member : (g : ℕ) → g < maxRoutines → Member members g ↔ Together p′ f g) where
       -- no routine of the component is done
-      pub member-waits : (g : ℕ) → g < 16 → Member members g → ¬ (Member done g)
+      pub member-waits : (g : ℕ) → g < maxRoutines → Member members g → ¬ (Member done g)
       member-waits g hg m x = not-done (w .whole g f hg hf x (together-sym (is-member g hg .0 m)))
 
       -- what is called outside is done
-      pub called-done : {g c : ℕ} → g < 16 → Member members g → CallEdge p′ g c → ¬ (Member members c) → Member done c
+      pub called-done : {g c : ℕ} → g < maxRoutines → Member members g → CallEdge p′ g c → ¬ (Member members c) → Member done c
       called-done {g} {c} hg m e x =
           let hc = called-small p′ (h .well-formed) e in
           let t = is-member g hg .0 m in
@@ -95,7 +89,7 @@ module _ {p p′ : Program} {edited : ℕ} (h : DropOf p p′ edited) where
 
       -- ---- the sets of routines, after the turn
       module _ {done′ : List ℕ} (j : Joined done members done′) where
-        member-of : (g : ℕ) → Member done′ g → Member done g ⊎ ((g < 16) × Member members g)
+        member-of : (g : ℕ) → Member done′ g → Member done g ⊎ ((g < maxRoutines) × Member members g)
         member-of g x = let hg = member-small done′ g (j .len ∙ w .done-length) x in elim (j .joined g hg .0 x) [ inl y ↦ inl y | inr y ↦ inr (hg, y) ]
 
         stays : (g : ℕ) → Member done g → Member done′ g
@@ -104,17 +98,17 @@ module _ {p p′ : Program} {edited : ℕ} (h : DropOf p p′ edited) where
         joins : (g : ℕ) → Member members g → Member done′ g
         joins g x = j .joined g (member-small members g members-length x) .1 (inr x)
 
-        earlier : (g : ℕ) → g < 16 → turnOf rank g < i + 1 → Member done′ g
+        earlier : (g : ℕ) → g < maxRoutines → turnOf rank g < i + 1 → Member done′ g
         earlier g hg lt =
             elim (ℕ-discrete (turnOf rank g) i) [
               | yes e ↦ joins g (is-member g hg .1 (inl (same-turn g hg e)))
               | no ne ↦ stays g (w .earlier g hg (omega arith))
             ]
           where
-            same-turn : (g : ℕ) → g < 16 → turnOf rank g ≡ i → f ≡ g
+            same-turn : (g : ℕ) → g < maxRoutines → turnOf rank g ≡ i → f ≡ g
             same-turn g hg e = omega arith
 
-        whole : (a b : ℕ) → a < 16 → b < 16 → Member done′ a → Together p′ a b → Member done′ b
+        whole : (a b : ℕ) → a < maxRoutines → b < maxRoutines → Member done′ a → Together p′ a b → Member done′ b
         whole a b ha hb x t =
             elim (j .joined a ha .0 x) [
               | inl y ↦ stays b (w .whole a b ha hb y t)
@@ -123,12 +117,12 @@ module _ {p p′ : Program} {edited : ℕ} (h : DropOf p p′ edited) where
 
       -- ---- the component need not be reanalyzed
       module _ (unless : ¬ (Reopened p p′ edited f)) where
-        kept : (g n r q : ℕ) → g < 16 → Member members g → Marked marks g n r q ↔ Anew p p′ g n r q
+        kept : (g n r q : ℕ) → g < maxRoutines → Member members g → Marked marks g n r q ↔ Anew p p′ g n r q
         kept g n r q hg m =
             let old = w .old g n r q (member-waits g hg m) in
             (λ x. untouched-kept dropped untouched (hg, m) (old .0 x), λ x. old .1 (anew-old dropped x))
           where
-            untouched : Untouched dropped (λ (g : ℕ). (g < 16) × Member members g)
+            untouched : Untouched dropped (λ (g : ℕ). (g < maxRoutines) × Member members g)
             untouched =
                 record {
                   steps = λ {f = g} c e. h .others (λ z. unless (record { member = g; together = is-member g (c .0) .0 (c .1); reason = inl z })) e;
@@ -141,7 +135,7 @@ module _ {p p′ : Program} {edited : ℕ} (h : DropOf p p′ edited) where
                       ];
                 }
               where
-                unchanged : {g y : ℕ} → (g < 16) × Member members g → CallEdge p′ g y → y < 16 → ¬ (Together p′ f y) → (s x : ℕ) → Reachable p y 1 s x
+                unchanged : {g y : ℕ} → (g < maxRoutines) × Member members g → CallEdge p′ g y → y < maxRoutines → ¬ (Together p′ f y) → (s x : ℕ) → Reachable p y 1 s x
                     → Anew p p′ y 1 s x
                 unchanged {g} {y} c e hy t s x o =
                     let m = called-done (c .0) (c .1) e (λ u. t (is-member y hy .0 u)) in
@@ -184,7 +178,7 @@ module _ {p p′ : Program} {edited : ℕ} (h : DropOf p p′ edited) where
 
       -- ---- the component is worked anew
       pub worked-turn : Reopened p p′ edited f → (marks′ done′ reopened′ : List ℕ) → Joined done members done′ → Joined reopened members reopened′
-          → length marks′ ≡ 16384 → ((x : ℕ) → getD marks′ x 0 ≤ 1)
+          → length marks′ ≡ marksSize → ((x : ℕ) → getD marks′ x 0 ≤ 1)
           → ((g n r q : ℕ) → Member members g → Marked marks′ g n r q ↔ Anew p p′ g n r q)
           → ((g n r q : ℕ) → ¬ (Member members g) → Marked marks′ g n r q ↔ Marked marks g n r q)
           → Working p p′ edited rank (i + 1) marks′ done′ reopened′

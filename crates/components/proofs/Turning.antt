@@ -5,23 +5,28 @@ use mathlib.Core.List.{List}
 use Prim.Native.Nat.{ℕ, _+_, _/_, _%_, _≤_, _<_}
 use native.Mathlib.Omega.{arith}
 use lib.ListN.{length, getD, replicate, length-replicate}
-use borrow.Author.Tests.{leb-true, le-leb}
-use Rattle.program.specs.Program.{Program}
+use Rattle.automaton.specs.Sizes.{maxStates}
+use Rattle.program.specs.Sizes.{maxRoutines, marksSize}
+use Rattle.program.specs.Program.{Program, calledBy}
 use Rattle.reach.specs.Configurations.{none-set}
 use Rattle.reach.specs.Reachable.{Reachable}
+use Rattle.reach.specs.Worklist.{summary}
 use Rattle.reach.specs.Marks.{Marked, Shows, freshMarks}
 use Rattle.base.proofs.SetFlags.{zeros}
 use Rattle.reach.proofs.Kept.{marks-length}
 use Rattle.reach.proofs.Exact.{analysis-exact}
 use Rattle.worklist.specs.Parts.{Learnt}
-use Rattle.components.specs.Components.{Leads, Together, Anew, Reopened}
-use Rattle.components.specs.Passes.{Live}
-use Rattle.components.specs.Parts.{Flagged, Member, Passable, Passed}
-use Rattle.components.specs.Graphs.{callerOf, sourceOf, calledBy, rankOf}
-use Rattle.components.specs.Turns.{DropOf, Ranks, turnOf, Working, Turning, Joined, CallsDiffering, SomeDiffering}
-use Rattle.components.proofs.Graphed.{called-small, rank-positive, rank-limited, rank-same, rank-less, dec-together}
-use Rattle.components.proofs.Keyed.{KeysOf, key-step, step-key}
-use Rattle.components.proofs.Occurring.{exits-flagged}
+use Rattle.worklist.proofs.Known.{exit-byte}
+use Rattle.callgraph.specs.Components.{Leads, Together, Anew, Reopened, Member}
+use Rattle.callgraph.specs.Parts.{LeadFlags, rankOf, Joined}
+use Rattle.roots.specs.Roots.{LiveMarked}
+use Rattle.roots.specs.Parts.{RootFlags}
+use Rattle.components.specs.Passes.{Passed}
+use Rattle.components.specs.PassParts.{Passable}
+use Rattle.components.specs.TurnParts.{DropOf, Ranks, turnOf, firstTurn, endTurn, Working, Turning, CallsDiffering, SomeDiffering}
+use Rattle.callgraph.proofs.Graphed.{called-small, rank-positive, rank-limited, rank-same, rank-less, dec-together}
+use Rattle.callgraph.proofs.Keyed.{edgeAt, KeysOf, key-step, step-key}
+use Rattle.roots.proofs.Occurring.{byte-tells}
 use Rattle.components.proofs.Turned.{skipped, kept-turn, worked-turn}
 use Rattle.components.proofs.Finished.{pass-is, passable, reopened-is, first-turn, all-right, cut-fresh}
 
@@ -31,12 +36,12 @@ module _ {p : Program} {members before marks keys : List ℕ} {count : ℕ} (o :
   pub differing-call : SomeDiffering members before marks keys count → CallsDiffering p members before marks
   differing-call s =
       let d = s .differing in
-      let k = getD keys (s .at) 0 in
+      let e = edgeAt keys (s .at) in
       record {
-        member = callerOf k;
-        called = calledBy k;
+        member = e .routine;
+        called = calledBy (e .label);
         is-member = d .is-member;
-        calls = record { source = sourceOf k; target = k % 256; edge = key-step o (s .at) (s .below) (le-leb 64 (k / 0x100 % 256) (d .is-call)) };
+        calls = record { source = e .source; target = e .target; edge = key-step o (s .at) (s .below) (d .is-call) };
         outside = d .outside;
         differing = d .differing;
       }
@@ -44,15 +49,13 @@ module _ {p : Program} {members before marks keys : List ℕ} {count : ℕ} (o :
   pub call-differing : CallsDiffering p members before marks → SomeDiffering members before marks keys count
   call-differing c =
       let z = step-key o (c .calls .edge) in
-      let k = getD keys (z .place) 0 in
-      let low = leb-true 64 (k / 0x100 % 256) (z .is-call) in
       record {
         at = z .place;
         below = z .within;
         differing = record {
           is-member = rw (z .caller) at (c .is-member);
-          is-call = low;
-          small = omega (arith, called-small p (o .well-formed) (c .calls), z .called, low);
+          is-call = z .is-call;
+          small = rw (z .called) at (called-small p (o .well-formed) (c .calls));
           outside = rw (z .called) at (c .outside);
           differing = rw (z .called) at (c .differing);
         };
@@ -60,7 +63,7 @@ module _ {p : Program} {members before marks keys : List ℕ} {count : ℕ} (o :
 
 -- ---- the order of the components
 
-ranks : {p : Program} {leads : List ℕ} → Flagged 16 16 (Leads p) leads → Ranks p (rankOf leads)
+ranks : {p : Program} {leads : List ℕ} → LeadFlags (Leads p) leads → Ranks p (rankOf leads)
 ranks l =
     record {
       low = λ f hf. rank-positive l hf;
@@ -78,39 +81,39 @@ module _ {p p′ : Program} {edited i : ℕ} {leads roots before marks done reop
   next w = record { drop = t .drop; graph = t .graph; old-roots = t .old-roots; old-summaries = t .old-summaries; working = w }
 
   -- the routine whose turn it may be is done
-  pub done-skipped : getD done (i % 16) 0 ≢ 0 → Turning p p′ edited leads roots before (i + 1) marks done reopened
+  pub done-skipped : getD done (i % maxRoutines) 0 ≢ 0 → Turning p p′ edited leads roots before (i + 1) marks done reopened
   done-skipped m =
-      next (skipped (t .drop) (ranks (t .graph)) (t .working) (λ f hf e. let z : i % 16 ≡ f = omega arith in subst (Member done) z m))
+      next (skipped (t .drop) (ranks (t .graph)) (t .working) (λ f hf e. let z : i % maxRoutines ≡ f = omega arith in subst (Member done) z m))
 
   -- or has another rank
-  pub rank-skipped : {n : ℕ} → n ≡ rankOf leads (i % 16) → n ≢ i / 16 → Turning p p′ edited leads roots before (i + 1) marks done reopened
+  pub rank-skipped : {n : ℕ} → n ≡ rankOf leads (i % maxRoutines) → n ≢ i / maxRoutines → Turning p p′ edited leads roots before (i + 1) marks done reopened
   rank-skipped e x =
       next (skipped (t .drop) (ranks (t .graph)) (t .working) (λ f hf z.
-      let same : i % 16 ≡ f = omega arith in
-      let rank : rankOf leads f ≡ i / 16 = omega arith in
+      let same : i % maxRoutines ≡ f = omega arith in
+      let rank : rankOf leads f ≡ i / maxRoutines = omega arith in
       absurd (x (e ∙ ap (rankOf leads) same ∙ rank))))
 
   -- it is the turn of this routine
-  module _ {n : ℕ} (e : n ≡ rankOf leads (i % 16)) (x : n ≡ i / 16) where
-    its-turn : turnOf (rankOf leads) (i % 16) ≡ i
+  module _ {n : ℕ} (e : n ≡ rankOf leads (i % maxRoutines)) (x : n ≡ i / maxRoutines) where
+    its-turn : turnOf (rankOf leads) (i % maxRoutines) ≡ i
     its-turn = omega (arith, e, x)
 
-    pub at-turn : Turning p p′ edited leads roots before (turnOf (rankOf leads) (i % 16)) marks done reopened
+    pub at-turn : Turning p p′ edited leads roots before (turnOf (rankOf leads) (i % maxRoutines)) marks done reopened
     at-turn = subst (λ (j : ℕ). Turning p p′ edited leads roots before j marks done reopened) (sym its-turn) t
 
-    pub from-turn : {marks′ done′ reopened′ : List ℕ} → Turning p p′ edited leads roots before (turnOf (rankOf leads) (i % 16) + 1) marks′ done′ reopened′
+    pub from-turn : {marks′ done′ reopened′ : List ℕ} → Turning p p′ edited leads roots before (turnOf (rankOf leads) (i % maxRoutines) + 1) marks′ done′ reopened′
         → Turning p p′ edited leads roots before (i + 1) marks′ done′ reopened′
     from-turn {marks′} {done′} {reopened′} y = subst (λ (j : ℕ). Turning p p′ edited leads roots before (j + 1) marks′ done′ reopened′) its-turn y
 
   -- after the last turn
-  pub turning-end : i ≤ 272 → 272 ≤ i → Turning p p′ edited leads roots before 272 marks done reopened
-  turning-end a b = let e : i ≡ 272 = omega arith in subst (λ (j : ℕ). Turning p p′ edited leads roots before j marks done reopened) e t
+  pub turning-end : i ≤ endTurn → endTurn ≤ i → Turning p p′ edited leads roots before endTurn marks done reopened
+  turning-end a b = let e : i ≡ endTurn = omega arith in subst (λ (j : ℕ). Turning p p′ edited leads roots before j marks done reopened) e t
 
 -- ---- the turn of routine f, with its component
 
 module _ {p p′ : Program} {edited : ℕ} (f : ℕ) {leads roots before marks done reopened : List ℕ}
-    (t : Turning p p′ edited leads roots before (turnOf (rankOf leads) f) marks done reopened) (hf : f < 16) (waits : getD done f 0 ≡ 0)
-    {members : List ℕ} (len : length members ≡ 16) (is : (g : ℕ) → g < 16 → (getD members g 0 ≢ 0) ↔ Together p′ f g) where
+    (t : Turning p p′ edited leads roots before (turnOf (rankOf leads) f) marks done reopened) (hf : f < maxRoutines) (waits : getD done f 0 ≡ 0)
+    {members : List ℕ} (len : length members ≡ maxRoutines) (is : (g : ℕ) → g < maxRoutines → (getD members g 0 ≢ 0) ↔ Together p′ f g) where
   pub may-pass : Passable p′ members roots marks
   may-pass = passable (t .drop) (ranks (t .graph)) (t .working) f hf refl (λ m. m waits) members len is roots (t .old-roots)
 
@@ -137,20 +140,25 @@ module _ {p p′ : Program} {edited : ℕ} (f : ℕ) {leads roots before marks d
 
 -- ---- before the first turn, and after the last
 
-pub fresh-length : (p : Program) {marks : List ℕ} → marks ≡ freshMarks p → length marks ≡ 16384
+pub fresh-length : (p : Program) {marks : List ℕ} → marks ≡ freshMarks p → length marks ≡ marksSize
 fresh-length p e = ap length e ∙ marks-length p
 
-pub all-cleared : {n : ℕ} {l : List ℕ} → n ≡ 16384 → l ≡ replicate n 0 → l ≡ none-set
+pub all-cleared : {n : ℕ} {l : List ℕ} → n ≡ marksSize → l ≡ replicate n 0 → l ≡ none-set
 unfolding none-set
 all-cleared e z = z ∙ ap (λ (n : ℕ). replicate n 0) e
+
+exits-flagged : (marks : List ℕ) {flags : List ℕ} → Learnt marks flags
+    → (f x q : ℕ) → f < maxRoutines → x < maxStates → q < maxStates → (getD flags (summary f x q) 0 ≢ 0) ↔ Marked marks f 1 x q
+exits-flagged marks w f x q hf hx hq =
+    byte-tells marks (record { routine = hf; node = omega arith; root = hx; state = hq }) (exit-byte marks w f x q hf hx hq)
 
 module _ {p p′ : Program} {edited : ℕ} (h : DropOf p p′ edited) where
   fresh-marked : {marks : List ℕ} → marks ≡ freshMarks p → (f n r q : ℕ) → Marked marks f n r q ↔ Reachable p f n r q
   fresh-marked e f n r q = subst (λ (l : List ℕ). Marked l f n r q ↔ Reachable p f n r q) (sym e) (analysis-exact p (h .old-well-formed) f n r q)
 
-  pub turning-start : {leads roots before marks : List ℕ} → marks ≡ freshMarks p → Flagged 16 16 (Leads p′) leads
-      → Flagged 16 8 (λ (f x : ℕ). Marked marks f 0 x x) roots
-      → Learnt marks before → Turning p p′ edited leads roots before 16 marks (replicate 16 0) (replicate 16 0)
+  pub turning-start : {leads roots before marks : List ℕ} → marks ≡ freshMarks p → LeadFlags (Leads p′) leads
+      → RootFlags (λ (f x : ℕ). Marked marks f 0 x x) roots
+      → Learnt marks before → Turning p p′ edited leads roots before firstTurn marks (replicate maxRoutines 0) (replicate maxRoutines 0)
   turning-start {marks = marks} e l r b =
       record {
         drop = h;
@@ -169,12 +177,12 @@ module _ {p p′ : Program} {edited : ℕ} (h : DropOf p p′ edited) where
               let z = fresh-marked e f 1 x q in
               (λ o. z .0 (y .0 o), λ o. y .1 (z .1 o));
         };
-        working = rw e (first-turn h (ranks l) (replicate 16 0) (replicate 16 0) (length-replicate {A = ℕ} 16 0) (length-replicate {A = ℕ} 16 0) (zeros 16) (zeros 16));
+        working = rw e (first-turn h (ranks l) (replicate maxRoutines 0) (replicate maxRoutines 0) (length-replicate {A = ℕ} maxRoutines 0) (length-replicate {A = ℕ} maxRoutines 0) (zeros maxRoutines) (zeros maxRoutines));
       }
 
-module _ {p p′ : Program} {edited : ℕ} {leads roots before marks done reopened : List ℕ} (t : Turning p p′ edited leads roots before 272 marks done reopened) where
-  pub turning-marks : {marks′ : List ℕ} → Shows (λ (f n r q : ℕ). Live p′ (Marked marks) f r × Marked marks f n r q) marks′ → marks′ ≡ freshMarks p′
+module _ {p p′ : Program} {edited : ℕ} {leads roots before marks done reopened : List ℕ} (t : Turning p p′ edited leads roots before endTurn marks done reopened) where
+  pub turning-marks : {marks′ : List ℕ} → Shows (LiveMarked p′ marks) marks′ → marks′ ≡ freshMarks p′
   turning-marks {marks′} s = cut-fresh (t .drop) (ranks (t .graph)) (t .working) marks′ s
 
-  pub turning-reopened : (f : ℕ) → f < 16 → Member reopened f ↔ Reopened p p′ edited f
+  pub turning-reopened : (f : ℕ) → f < maxRoutines → Member reopened f ↔ Reopened p p′ edited f
   turning-reopened f hf = all-right (t .drop) (ranks (t .graph)) (t .working) f hf

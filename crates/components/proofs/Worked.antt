@@ -7,12 +7,13 @@ use native.Mathlib.Omega.{arith}
 use Rattle.automaton.specs.declared.Event.{Event}
 use Rattle.automaton.specs.declared.Event.the-variants.{Call}
 use Rattle.program.specs.Program.{Program}
-use Rattle.reach.specs.Configurations.{Set}
+use Rattle.reach.specs.Configurations.{Set, Sub}
 use Rattle.reach.specs.Runs.{HasStep, Moves}
 use Rattle.reach.specs.Reachable.{Derivable, seeded, by-action, by-call, by-return, Initial, initial, Roots, root, Any, Reachable}
-use Rattle.reach.proofs.Laws.{Sub, Within, grows, Rooted, entry-of, anew}
-use Rattle.components.specs.Components.{CallEdge, OldRoot, Anew}
-use Rattle.components.specs.Passes.{PassSeeds, entry, summary, Live, begun, called}
+use Rattle.reach.proofs.Laws.{Within, Rooted, entry-of, anew}
+use Rattle.callgraph.specs.Components.{OldRoot, Anew}
+use Rattle.roots.specs.Roots.{Live, begun, called}
+use Rattle.components.specs.Passes.{PassSeeds, entry, summary}
 
 -- p′ has no step more than p, and the same automaton
 pub record Dropped (p p′ : Program) : Type 0 where

@@ -1,6 +1,3 @@
-pub mod Components
 pub mod Passes
-pub mod Parts
 pub mod PassParts
-pub mod Graphs
-pub mod Turns
+pub mod TurnParts

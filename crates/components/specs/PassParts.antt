@@ -1,25 +1,48 @@
 -- What the functions of the pass over a component promise of each other; nothing here has to be believed.
-use Prim.Native.Nat.{ℕ, _+_, _*_, _/_, _%_, _≤_, _<_}
+use Prim.Native.Nat.{ℕ, _≤_, _<_}
 use mathlib.Core.Path.{_≡_}
-use mathlib.Core.Bool.{Bool, cond}
+use mathlib.Core.Bool.{Bool, cond, _&&_}
 use mathlib.Core.List.{List}
 use lib.Dec.{eqb}
 use lib.ListN.{length, getD}
+use Rattle.base.specs.Flags.{isSet}
+use Rattle.automaton.specs.declared.Event.the-variants.{Call}
 use Rattle.program.specs.Sizes.{marksSize}
 use Rattle.program.specs.Program.{Program}
 use Rattle.program.specs.WellFormed.{WellFormed}
-use Rattle.reach.specs.Configurations.{Set}
+use Rattle.reach.specs.Configurations.{Set, Sub, routineOf, nodeOf, rootOf, stateOf, rootPlace}
+use Rattle.reach.specs.Runs.{HasStep}
 use Rattle.reach.specs.Reachable.{Derivable, Any}
 use Rattle.reach.specs.Marks.{Marked}
-use Rattle.reach.proofs.Laws.{Sub}
-use Rattle.components.specs.Passes.{onlyOf}
-use Rattle.components.specs.Parts.{memberOf, Member}
+use Rattle.callgraph.specs.Components.{memberOf, Member}
+use Rattle.roots.specs.Roots.{RootOf}
+use Rattle.components.specs.Passes.{onlyOf, PassOf}
 
--- the mark of number i at the start of a pass: of these routines, only their entries in their roots are marked
+-- a pass may begin: what is marked and the roots are in states of the automaton, and the entries that the routines call
+-- outside are marked
+pub record Passable (p : Program) (members roots marks : List ℕ) : Type 0 where
+  pub marks-length : length marks ≡ marksSize
+  pub marks-bits : (i : ℕ) → getD marks i 0 ≤ 1
+  pub states : {f n r q : ℕ} → Marked marks f n r q → q < p .automaton .states
+  pub root-states : {f r : ℕ} → RootOf roots f r → r < p .automaton .states
+  pub covered : {f n r q g m : ℕ} → Member members f → PassOf p members roots marks f n r q → HasStep p f n (Call g) m
+      → ¬ (Member members g) → Marked marks g 0 q q
+
+-- 1 at the entry of a routine with one of its roots
+abbrev pub rootMark : List ℕ → ℕ → ℕ → ℕ → ℕ → ℕ
+rootMark roots f n r q = cond (eqb n 0 && eqb r q && isSet roots (rootPlace f q)) 1 0
+
+-- the mark of a configuration at the start of a pass: of these routines, only their entries with their roots are marked
+abbrev pub firstOf : List ℕ → List ℕ → ℕ → ℕ → ℕ → ℕ → ℕ → ℕ
+firstOf members roots old f n r q = cond (memberOf members f) (rootMark roots f n r q) old
+
+-- that of number i
 abbrev pub firstMark : List ℕ → List ℕ → ℕ → ℕ → ℕ
-firstMark members roots old i =
-    cond (eqb (getD members (i / 1024) 0) 0) old
-    (cond (eqb (i / 64 % 16) 0) (cond (eqb (i / 8 % 8) (i % 8)) (cond (eqb (getD roots (i / 1024 * 8 + i % 8) 0) 0) 0 1) 0) 0)
+firstMark members roots old i = firstOf members roots old (routineOf i) (nodeOf i) (rootOf i) (stateOf i)
+
+-- those of all numbers, by the marks before
+abbrev pub firstMarks : List ℕ → List ℕ → List ℕ → ℕ → ℕ
+firstMarks members roots marks i = firstMark members roots (getD marks i 0) i
 
 abbrev pub is : ℕ → ℕ → Bool
 is f g = eqb g f
@@ -49,7 +72,8 @@ pub record Grows (p : Program) (members marks marks′ : List ℕ) : Type 0 wher
 -- if nothing was marked, the marks are closed under the edges of these routines below n
 pub record Round (p : Program) (members : List ℕ) (n : ℕ) (marks marks′ : List ℕ) : Type 0 where
   pub grows : Grows p members marks marks′
-  pub closed : Sub (Marked marks′) (Marked marks) → (f : ℕ) → f < n → Member members f → Sub (ByRoutine p f marks) (Marked marks)
+  pub closed : Sub (Marked marks′) (Marked marks) → (f : ℕ) → f < n → Member members f
+      → Sub (ByRoutine p f marks) (Marked marks)
 
 -- the turn of routine f, if it is one of these
 pub record Turn (p : Program) (members : List ℕ) (f : ℕ) (marks marks′ : List ℕ) : Type 0 where

@@ -1,14 +1,17 @@
--- What the inside-out repair does after a drop: components are worked anew, and then what has no root that occurs goes.
-use Prim.Native.Nat.{ℕ}
-use mathlib.Core.List.{List, [], _∷_, List·Memᴰ}
+-- The pass over a component (paper: working a group anew): what it derives, and what it leaves on the sheet.
+use Prim.Native.Nat.{ℕ, _≤_}
+use mathlib.Core.Path.{_≡_}
+use mathlib.Core.Logic.{_↔_}
+use mathlib.Core.List.{List, [], _∷_}
 use mathlib.Core.Bool.{Bool, cond}
-use Rattle.automaton.specs.declared.Event.the-variants.{Call}
+use lib.ListN.{length, getD}
+use Rattle.program.specs.Sizes.{marksSize}
 use Rattle.program.specs.Program.{Edge, Program}
 use Rattle.reach.specs.Configurations.{Set}
-use Rattle.reach.specs.Runs.{HasStep, Moves}
 use Rattle.reach.specs.Reachable.{Derivable, Any}
-
--- ---- the pass over a component
+use Rattle.reach.specs.Marks.{Marked}
+use Rattle.callgraph.specs.Components.{memberOf, Member}
+use Rattle.roots.specs.Roots.{RootOf}
 
 -- the edges of the routines that pass a test, in their order
 unfoldable pub edgesOf : (ℕ → Bool) → List Edge → List Edge
@@ -24,10 +27,18 @@ pub data PassSeeds (C : ℕ → Type 0) (R : ℕ → ℕ → Type 0) (K : ℕ �
   entry : {f r : ℕ} → C f → R f r → PassSeeds C R K f 0 r r
   summary : {g r q : ℕ} → ¬ (C g) → K g r q → PassSeeds C R K g 1 r q
 
--- ---- roots that occur
+-- the summaries on a sheet
+abbrev pub ExitOf : List ℕ → ℕ → ℕ → ℕ → Type 0
+ExitOf marks g r q = Marked marks g 1 r q
 
--- the roots that occur, by the configurations of M: an initial state is one of the main routine, and so is the state of a call of g, by a configuration whose
--- own root occurs, one of g
-pub data Live (p : Program) (M : Set) : ℕ → ℕ → Type 0 where
-  begun : {q : ℕ} → List·Memᴰ q (p .automaton .initial) → Live p M 0 q
-  called : {f n r q g m s : ℕ} → Live p M f r → M f n r q → HasStep p f n (Call g) m → Moves p q (Call g) s → Live p M g s
+-- what a pass over these routines derives: by their own edges, from their roots and the summaries of the others
+abbrev pub PassOf : Program → List ℕ → List ℕ → List ℕ → Set
+PassOf p members roots marks =
+    Derivable (onlyOf (memberOf members) p) (PassSeeds (Member members) (RootOf roots) (ExitOf marks)) Any
+
+-- a pass is done: its routines have what it derives, and the others have what they had
+pub record Passed (p : Program) (members roots marks marks′ : List ℕ) : Type 0 where
+  pub marks-length : length marks′ ≡ marksSize
+  pub marks-bits : (i : ℕ) → getD marks′ i 0 ≤ 1
+  pub inside : (f n r q : ℕ) → Member members f → Marked marks′ f n r q ↔ PassOf p members roots marks f n r q
+  pub outside : (f n r q : ℕ) → ¬ (Member members f) → Marked marks′ f n r q ↔ Marked marks f n r q

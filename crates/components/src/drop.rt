@@ -1,28 +1,40 @@
 // The inside-out repair after a drop: component by component, callees first, each worked anew only if it has to be.
 use crate::decide::is_reopened;
-use crate::graph::call_graph;
-use crate::graph::component;
-use crate::graph::rank;
 use crate::pass::component_pass;
-use crate::roots::cut_to_live;
-use crate::roots::old_roots;
-use crate::routines::Routines;
-use crate::routines::join;
+use base::flags::clear;
+use callgraph::graph::call_graph;
+use callgraph::graph::component;
+use callgraph::graph::rank;
+use callgraph::routines::Routines;
+use callgraph::routines::join;
 use program::DecodedProgram;
-use worklist::clear;
+use program::sizes::MAX_ROUTINES;
+use roots::cut::cut_to_live;
+use roots::old_roots;
 use worklist::exits::summaries_of;
 ghost use mathlib.Core.Path.{_≡_};
-ghost use mathlib.Core.Logic.{_↔_, _≢_};
+ghost use mathlib.Core.Logic.{_↔_};
 ghost use Prim.Native.Nat.{ℕ, _<_, _+_};
 ghost use lib.ListN.{length, getD};
-ghost use Rattle.program.specs.Sizes.{marksSize};
+ghost use Rattle.program.specs.Sizes.{maxRoutines, marksSize};
 ghost use Rattle.program.specs.Program.{Program};
 ghost use Rattle.program.specs.Decoded.{programOf};
 ghost use Rattle.reach.specs.Configurations.{none-set};
 ghost use Rattle.reach.specs.Marks.{freshMarks};
-ghost use Rattle.components.specs.Components.{Reopened};
-ghost use Rattle.components.specs.Graphs.{rankOf};
-ghost use Rattle.components.specs.Turns.{DropOf, turnOf, Turning};
+ghost use Rattle.callgraph.specs.Components.{Reopened, Member};
+ghost use Rattle.callgraph.specs.Parts.{rankOf};
+ghost use Rattle.components.specs.TurnParts.{DropOf, turnOf, firstTurn, endTurn, Comes, Advances};
+
+// Ranks are from 1 to the count of routines: the turns from this one up to that one.
+const FIRST_TURN: usize = MAX_ROUTINES;
+
+const END_TURN: usize = MAX_ROUTINES * MAX_ROUTINES + MAX_ROUTINES;
+
+// The routines that are done, and those of them that were reanalyzed.
+pub struct Progress {
+    pub done: Routines,
+    pub reopened: Routines,
+}
 
 // The turn of routine f: its component is worked anew if it is to be, and then it is done.
 fn work_component(
@@ -30,53 +42,56 @@ fn work_component(
     leads: &[u8],
     roots: &[u8],
     before: &[u8],
-    edited: usize,
-    f: usize,
+    edited: u8,
+    f: u8,
+    progress: Progress,
     marks: &mut [u8],
     pending: &mut [u8],
-    done: &mut [u8],
-    reopened: &mut [u8],
-)
-    requires { ⌜ (f < 16) × (edited < 16) × (length (now pending) ≡ marksSize) × (getD (now done) f 0 ≡ 0) ⌝ }
-    requires { ⌜ ((old : Program) × Turning old (programOf p) edited (now leads) (now roots) (now before) (turnOf (rankOf (now leads)) f) (now marks) (now done) (now reopened)) ⌝ }
-    ensures { λ _. ⌜ ((old : Program) → Turning old (programOf p) edited (now (leads .entry)) (now (roots .entry)) (now (before .entry)) (turnOf (rankOf (now (leads .entry))) f) (now (marks .entry)) (now (done .entry)) (now (reopened .entry))
-        → Turning old (programOf p) edited (now (leads .entry)) (now (roots .entry)) (now (before .entry)) (turnOf (rankOf (now (leads .entry))) f + 1) (now (marks .exit)) (now (done .exit)) (now (reopened .exit))) ⌝ }
+) -> Progress
+    requires { ⌜ (f < maxRoutines) × (length (now pending) ≡ marksSize) × (getD (progress .done .flags) f 0 ≡ 0) ⌝ }
+    requires { ⌜ Comes (programOf p) edited (now leads) (now roots) (now before)
+        (turnOf (rankOf (now leads)) f) (now marks) progress ⌝ }
+    ensures { λ r. ⌜ Advances (programOf p) edited (now (leads .entry)) (now (roots .entry)) (now (before .entry))
+        (turnOf (rankOf (now (leads .entry))) f) (now (marks .entry)) progress
+        (turnOf (rankOf (now (leads .entry))) f + 1) (now (marks .exit)) r ⌝ }
 {
     let c = component(leads, f);
     let members = c.flags;
+    let done = join(progress.done, c);
     if is_reopened(p, &members, before, marks, edited) {
         component_pass(p, &members, roots, marks, pending);
-        join(reopened, &members);
-        join(done, &members);
-        return;
+        let reopened = join(progress.reopened, c);
+        return Progress { done, reopened };
     }
-    join(done, &members);
+    let reopened = progress.reopened;
+    Progress { done, reopened }
 }
 
-// Turn i: that of routine i % 16, if its rank is i / 16 and it is not done yet.
+// Turn i: that of the routine that it is the turn of by its rank, if it is not done yet.
 fn visit(
     p: DecodedProgram,
     leads: &[u8],
     roots: &[u8],
     before: &[u8],
-    edited: usize,
+    edited: u8,
     i: usize,
+    progress: Progress,
     marks: &mut [u8],
     pending: &mut [u8],
-    done: &mut [u8],
-    reopened: &mut [u8],
-)
-    requires { ⌜ (edited < 16) × (length (now pending) ≡ marksSize) ⌝ }
-    requires { ⌜ ((old : Program) × Turning old (programOf p) edited (now leads) (now roots) (now before) i (now marks) (now done) (now reopened)) ⌝ }
-    ensures { λ _. ⌜ ((old : Program) → Turning old (programOf p) edited (now (leads .entry)) (now (roots .entry)) (now (before .entry)) i (now (marks .entry)) (now (done .entry)) (now (reopened .entry))
-        → Turning old (programOf p) edited (now (leads .entry)) (now (roots .entry)) (now (before .entry)) (i + 1) (now (marks .exit)) (now (done .exit)) (now (reopened .exit))) ⌝ }
+) -> Progress
+    requires { ⌜ length (now pending) ≡ marksSize ⌝ }
+    requires { ⌜ Comes (programOf p) edited (now leads) (now roots) (now before) i (now marks) progress ⌝ }
+    ensures { λ r. ⌜ Advances (programOf p) edited (now (leads .entry)) (now (roots .entry)) (now (before .entry))
+        i (now (marks .entry)) progress (i + 1) (now (marks .exit)) r ⌝ }
 {
-    let f = i % 16;
-    if done[f] != 0 {
-        return;
+    let f = i % MAX_ROUTINES;
+    let done = progress.done;
+    let flags = done.flags;
+    if flags[f] != 0 {
+        return progress;
     }
-    if rank(leads, f) != i / 16 {
-        return;
+    if rank(leads, f as u8) != i / MAX_ROUTINES {
+        return progress;
     }
     work_component(
         p,
@@ -84,63 +99,51 @@ fn visit(
         roots,
         before,
         edited,
-        f,
+        f as u8,
+        progress,
         marks,
         pending,
-        done,
-        reopened,
-    );
+    )
 }
 
-// Ranks are from 1 to 16: turns 16 to 271.
 fn visit_all(
     p: DecodedProgram,
     leads: &[u8],
     roots: &[u8],
     before: &[u8],
-    edited: usize,
+    edited: u8,
+    start: Progress,
     marks: &mut [u8],
     pending: &mut [u8],
-    done: &mut [u8],
-    reopened: &mut [u8],
-)
-    requires { ⌜ (edited < 16) × (length (now pending) ≡ marksSize) ⌝ }
-    requires { ⌜ ((old : Program) × Turning old (programOf p) edited (now leads) (now roots) (now before) 16 (now marks) (now done) (now reopened)) ⌝ }
-    ensures { λ _. ⌜ ((old : Program) → Turning old (programOf p) edited (now (leads .entry)) (now (roots .entry)) (now (before .entry)) 16 (now (marks .entry)) (now (done .entry)) (now (reopened .entry))
-        → Turning old (programOf p) edited (now (leads .entry)) (now (roots .entry)) (now (before .entry)) 272 (now (marks .exit)) (now (done .exit)) (now (reopened .exit))) ⌝ }
+) -> Progress
+    requires { ⌜ length (now pending) ≡ marksSize ⌝ }
+    requires { ⌜ Comes (programOf p) edited (now leads) (now roots) (now before) firstTurn (now marks) start ⌝ }
+    ensures { λ r. ⌜ Advances (programOf p) edited (now (leads .entry)) (now (roots .entry)) (now (before .entry))
+        firstTurn (now (marks .entry)) start endTurn (now (marks .exit)) r ⌝ }
 {
-    let mut i: usize = 16;
-    while i < 272 {
-        visit(
-            p,
-            leads,
-            roots,
-            before,
-            edited,
-            i,
-            marks,
-            pending,
-            done,
-            reopened,
-        );
+    let mut progress = start;
+    let mut i: usize = FIRST_TURN;
+    while i < END_TURN {
+        progress = visit(p, leads, roots, before, edited, i, progress, marks, pending);
         i = i + 1;
     }
+    progress
 }
 
-// The fresh marks of the program before a drop become those of the program after it, and the routines that were reanalyzed
-// are told. The caller has the marks of the program before, has measured the buffers (refusal 9), and has a routine in range:
-// hence the `requires`.
+// The fresh marks of the program before a drop become those of the program after it, and the routines that were
+// reanalyzed are told. The caller has the marks of the program before, and has measured the buffers (refusal 9): hence
+// the `requires`.
 pub fn drop_inside_out(
     p: DecodedProgram,
     edited: u8,
     marks: &mut [u8],
     pending: &mut [u8],
 ) -> Routines
-    requires { ⌜ (length (now pending) ≡ marksSize) × (edited < 16) ⌝ }
+    requires { ⌜ length (now pending) ≡ marksSize ⌝ }
     requires { ⌜ ((old : Program) × DropOf old (programOf p) edited × (now marks ≡ freshMarks old)) ⌝ }
     ensures { λ r. ⌜ ((old : Program) → DropOf old (programOf p) edited → now (marks .entry) ≡ freshMarks old
         → (now (marks .exit) ≡ freshMarks (programOf p)) × (now (pending .exit) ≡ none-set)
-        × ((f : ℕ) → f < 16 → (getD (r .flags) f 0 ≢ 0) ↔ Reopened old (programOf p) edited f)) ⌝ }
+        × ((f : ℕ) → f < maxRoutines → Member (r .flags) f ↔ Reopened old (programOf p) edited f)) ⌝ }
 {
     let graph = call_graph(p);
     let leads = graph.leads;
@@ -148,20 +151,15 @@ pub fn drop_inside_out(
     let roots = entries.flags;
     let exits = summaries_of(marks);
     let before = exits.flags;
-    let mut done = [0u8; 16];
-    let mut reopened = [0u8; 16];
-    visit_all(
-        p,
-        &leads,
-        &roots,
-        &before,
-        edited as usize,
-        marks,
-        pending,
-        &mut done,
-        &mut reopened,
-    );
+    let none = Routines {
+        flags: [0u8; MAX_ROUTINES],
+    };
+    let start = Progress {
+        done: none,
+        reopened: none,
+    };
+    let end = visit_all(p, &leads, &roots, &before, edited, start, marks, pending);
     cut_to_live(p, marks);
     clear(pending);
-    Routines { flags: reopened }
+    end.reopened
 }

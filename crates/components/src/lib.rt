@@ -1,7 +1,4 @@
 // The inside-out repair of the marks after a drop.
 mod decide;
 pub mod drop;
-mod graph;
 mod pass;
-mod roots;
-pub mod routines;

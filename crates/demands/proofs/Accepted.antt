@@ -1,10 +1,8 @@
 -- Which files are accepted, and what comes back of them.
 use mathlib.Core.Path.{_≡_, refl, sym, ap, _∙_}
-use mathlib.Core.Bool.{Bool, true, false, cond}
-use mathlib.Core.List.{List, _++_}
+use mathlib.Core.List.{List}
 use Prim.Native.Nat.{ℕ}
 use native.Mathlib.Omega.{arith}
-use lib.Dec.{ltb}
 use lib.ListN.{length, take, drop}
 use lib.Seq.{take-append-seam}
 use Rattle.program.specs.Program.{Program}
@@ -12,10 +10,10 @@ use Rattle.program.specs.Writing.{written}
 use Rattle.program.specs.Reading.{Outcome, accepted, readFile, refusal}
 use Rattle.program.specs.declared.Verdict.{Verdict}
 use Rattle.program.specs.declared.Verdict.the-variants.{Accepted, Refused}
+use Rattle.program.specs.declared.Length.the-variants.{NotAsked, Of}
 use Rattle.program.proofs.Theorems.{accepted-well-formed, written-back, read-again, written-limited}
-use Rattle.program.specs.Sizes.{outputSize}
-use Rattle.writer.specs.Answers.{answerBy, outputBy, writeAnswer, outputAfter, refusal as writeRefusal, writtenLength}
-use Rattle.writer.specs.declared.WriteAnswer.the-variants as answer
+use Rattle.program.proofs.Checked.{passes, few-checks}
+use Rattle.writer.specs.Answers.{answerBy, outputBy, checkedOutput, writeAnswer, outputAfter, refusal as writeRefusal, writtenLength}
 use Rattle.desk.specs.Entries.{read, write, Lent, Back, programIn, Gives}
 use Rattle.demands.specs.Demands.{FileOf, Acceptance}
 use Rattle.demands.specs.Refusals.{rows}
@@ -49,16 +47,11 @@ file-acceptance b a g =
 
 pub comes-back : (b : Lent) (a : Back) → Gives write b a → a .refusal ≡ 0 → wrote a ≡ b .file
 unfolding writeAnswer outputAfter
-comes-back b a g z =
-    ap wrote g ∙ go (readFile (b .file) .verdict) (programIn b) (file-judged write b) (λ h. written-back (b .file) h) (sym (ap (λ (x : Back). x .refusal) g) ∙ z)
+comes-back b a g z = ap wrote g ∙ go (checkedOutput (b .file) (b .output)) refl (sym (ap (λ (x : Back). x .refusal) g) ∙ z)
   where
-    short : (t : Bool) (p : Program) → written p ≡ b .file → writeRefusal (cond t (answer.Refused 10 0) (answer.Written (length (written p)))) ≡ 0
-        → take (writtenLength (cond t (answer.Refused 10 0) (answer.Written (length (written p))))) (cond t (b .output) (written p ++ drop (length (written p)) (b .output)))
-        ≡ b .file
-    short true p e y = absurd (omega arith)
-    short false p e y = take-append-seam (written p) (drop (length (written p)) (b .output)) ∙ e
-
-    go : (v : Verdict) (p : Program) → Judged write b (rows write b) v → (v ≡ Accepted → written p ≡ b .file) → writeRefusal (answerBy v p (length (b .output))) ≡ 0
-        → take (writtenLength (answerBy v p (length (b .output)))) (outputBy v p (b .output)) ≡ b .file
-    go Accepted p j h y = short (ltb (length (b .output)) outputSize) p (h refl) y
-    go (Refused n line) p x h y = absurd (x .some-number y)
+    go : (v : Verdict) → checkedOutput (b .file) (b .output) ≡ v → writeRefusal (answerBy v (programIn b)) ≡ 0
+        → take (writtenLength (answerBy v (programIn b))) (outputBy v (programIn b) (b .output)) ≡ b .file
+    go Accepted h y =
+        take-append-seam (written (programIn b)) (drop (length (written (programIn b))) (b .output))
+        ∙ written-back (b .file) (passes (b .file) NotAsked (Of (length (b .output))) NotAsked h .file-accepted)
+    go (Refused n line) h y = absurd (omega (arith, few-checks (b .file) NotAsked (Of (length (b .output))) NotAsked h))

@@ -1,7 +1,7 @@
 -- A full analysis that is not refused: its marks, its counts, its iterations; and the next violation.
 use mathlib.Core.Path.{_≡_, refl, sym, ap, subst, _∙_}
 use mathlib.Core.Logic.{_↔_}
-use mathlib.Core.Bool.{Bool, true, false, cond}
+use mathlib.Core.Bool.{Bool, true, false}
 use mathlib.Core.Option.{Option, none, some}
 use mathlib.Core.List.{List, [], _∷_, List·Memᴰ, List·Memᴰ·head, List·Memᴰ·not-nil}
 use Prim.Native.Nat.{ℕ}
@@ -10,10 +10,10 @@ use lib.ListN.{length, getD}
 use Rattle.automaton.specs.Automaton.{isRejecting}
 use Rattle.program.specs.Program.{Program}
 use Rattle.program.specs.WellFormed.{WellFormed}
-use Rattle.program.specs.Reading.{readFile}
 use Rattle.program.specs.declared.Verdict.{Verdict}
 use Rattle.program.specs.declared.Verdict.the-variants.{Accepted, Refused}
-use Rattle.program.proofs.Theorems.{accepted-well-formed}
+use Rattle.program.specs.declared.Length.the-variants.{NotAsked, Of}
+use Rattle.program.proofs.Checked.{passes, few-checks}
 use Rattle.reach.specs.Configurations.{InRange, number, stateOf}
 use Rattle.reach.specs.Runs.{Activation, Run, Occurs}
 use Rattle.reach.specs.Worklist.{analysis}
@@ -25,18 +25,20 @@ use Rattle.reach.proofs.Bound.{iterations-taken, most-times}
 use Rattle.reach.proofs.Exact.{pending-clear}
 use Rattle.reach.proofs.Shown.{every-byte, fresh-shows, occurs-in-range}
 use Rattle.reach.proofs.Violations.{listed-iff, next-violation, violations-ascend}
-use Rattle.analysis.specs.Answers.{checked, analyzeBy, analyzeAnswer, analyzeRefusal, configurationCount, violationCount, iterationCount, onSuccess, marksAfter, same, foundOf, nextBy, nextAnswer, nextRefusal, nextFound}
-use Rattle.analysis.specs.declared.NextAnswer.the-variants as next
-use Rattle.analysis.proofs.Answered.{passed}
+use Rattle.analysis.specs.Answers.{checkedMarks, analyzeBy, analyzeAnswer, analyzeRefusal, configurationCount, violationCount, iterationCount, onSuccess, marksAfter, owned, foundOf, foundBy, nextBy, nextAnswer, nextRefusal, nextFound}
+use Rattle.analysis.specs.declared.NextAnswer.{NextAnswer}
+use Rattle.analysis.proofs.Answered.{by-marks}
 use Rattle.desk.specs.Entries.{Entry, analyze, next-violation as next-entry, Lent, Values, counts, Back, programIn, Gives}
 use Rattle.demands.specs.Demands.{Demand2, Safe, Next, least, nothing, Procedure}
-use Rattle.demands.specs.Refusals.{foreignRow}
-use Rattle.demands.proofs.Returning.{both-ways, Judged, checked-judged}
+use Rattle.demands.proofs.Returning.{both-ways}
 
 -- a call whose checks are passed has a well-formed program
-checked-well-formed : (b : Lent) → checked (b .file) (length (b .marks)) (length (b .work)) ≡ Accepted → WellFormed (programIn b)
-unfolding checked
-checked-well-formed b e = accepted-well-formed (b .file) (passed (readFile (b .file) .verdict) (length (b .marks)) (length (b .work)) e .file)
+checked-well-formed : (b : Lent) → checkedMarks (b .file) (b .marks) (b .work) ≡ Accepted → WellFormed (programIn b)
+checked-well-formed b e = passes (b .file) (Of (length (b .marks))) NotAsked (Of (length (b .work))) e .well-formed
+
+-- and a refusal has a number
+not-none : (b : Lent) {n line : ℕ} {A : Type 0} → checkedMarks (b .file) (b .marks) (b .work) ≡ Refused n line → n ≡ 0 → A
+not-none b e z = absurd (omega (arith, few-checks (b .file) (Of (length (b .marks))) NotAsked (Of (length (b .work))) e))
 
 -- ---- what is given back
 
@@ -51,13 +53,13 @@ record Analyzed (b : Lent) (a : Back) : Type 0 where
 analyzed : (b : Lent) (a : Back) → Gives analyze b a → a .refusal ≡ 0 → Analyzed b a
 unfolding analyzeAnswer marksAfter
 analyzed b a g z =
-    go (checked (b .file) (length (b .marks)) (length (b .work))) refl (checked-judged analyze b [] refl)
+    go (checkedMarks (b .file) (b .marks) (b .work)) refl
     (ap (λ (x : Back). x .values) g) (ap (λ (x : Back). x .marks) g) (sym (ap (λ (x : Back). x .refusal) g) ∙ z)
   where
-    go : (v : Verdict) → checked (b .file) (length (b .marks)) (length (b .work)) ≡ v → Judged analyze b [] v → a .values ≡ numbersBy v (programIn b)
+    go : (v : Verdict) → checkedMarks (b .file) (b .marks) (b .work) ≡ v → a .values ≡ numbersBy v (programIn b)
         → a .marks ≡ onSuccess v (freshMarks (programIn b)) (b .marks) → analyzeRefusal (analyzeBy v (programIn b)) ≡ 0 → Analyzed b a
-    go Accepted e r n m y = record { well-formed = checked-well-formed b e; marks = m; values = n }
-    go (Refused n line) e x i m y = absurd (x .some-number y)
+    go Accepted e n m y = record { well-formed = checked-well-formed b e; marks = m; values = n }
+    go (Refused n line) e i m y = not-none b e y
 
 -- ---- demand 2
 
@@ -137,19 +139,24 @@ pub next-given : (b : Lent) (a : Back) → Gives next-entry b a → a .refusal �
 unfolding nextAnswer
 next-given b a g z =
     subst (Next (programIn b) (b .from)) (sym (ap (λ (x : Back). x .values .found) g))
-    (go (checked (b .file) (length (b .marks)) (length (b .work))) refl (checked-judged next-entry b (foreignRow b ∷ []) refl)
-    (sym (ap (λ (x : Back). x .refusal) g) ∙ z))
+    (go (checkedMarks (b .file) (b .marks) (b .work)) refl (sym (ap (λ (x : Back). x .refusal) g) ∙ z))
   where
-    found : (o : Option ℕ) → First (Violation (programIn b)) (b .from) o → Next (programIn b) (b .from) (nextFound (foundOf o))
+    p : Program
+    p = programIn b
+
+    found : (o : Option ℕ) → First (Violation p) (b .from) o → Next p (b .from) (nextFound (foundOf o))
     found none (nowhere h) = nothing h
     found (some i) (at x h y) = least x h y
 
-    own : (t : Bool) → WellFormed (programIn b) → nextRefusal (cond t (foundOf (firstFrom (b .from) (violations (programIn b)))) (next.Refused 17 0)) ≡ 0
-        → Next (programIn b) (b .from) (nextFound (cond t (foundOf (firstFrom (b .from) (violations (programIn b)))) (next.Refused 17 0)))
-    own true w y = found (firstFrom (b .from) (violations (programIn b))) (next-violation (fresh-shows (programIn b) w) (b .from))
-    own false w y = absurd (omega arith)
+    by : Verdict → NextAnswer
+    by v = foundBy v (firstFrom (b .from) (violations p))
 
-    go : (v : Verdict) → checked (b .file) (length (b .marks)) (length (b .work)) ≡ v → Judged next-entry b (foreignRow b ∷ []) v
-        → nextRefusal (nextBy v (programIn b) (b .marks) (b .from)) ≡ 0 → Next (programIn b) (b .from) (nextFound (nextBy v (programIn b) (b .marks) (b .from)))
-    go Accepted e r y = own (same (b .marks) (freshMarks (programIn b))) (checked-well-formed b e) y
-    go (Refused n line) e x y = absurd (x .some-number y)
+    own : WellFormed p → nextRefusal (by (owned p (b .marks))) ≡ 0 → Next p (b .from) (nextFound (by (owned p (b .marks))))
+    own w =
+        by-marks p (b .marks) (λ v. nextRefusal (by v) ≡ 0 → Next p (b .from) (nextFound (by v)))
+        (λ t y. found (firstFrom (b .from) (violations p)) (next-violation (fresh-shows p w) (b .from))) (λ t y. absurd (omega arith))
+
+    go : (v : Verdict) → checkedMarks (b .file) (b .marks) (b .work) ≡ v → nextRefusal (nextBy v p (b .marks) (b .from)) ≡ 0
+        → Next p (b .from) (nextFound (nextBy v p (b .marks) (b .from)))
+    go Accepted e y = own (checked-well-formed b e) y
+    go (Refused n line) e y = not-none b e y

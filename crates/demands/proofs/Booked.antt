@@ -9,7 +9,8 @@ use lib.ListN.{length}
 use borrow.Author.Tests.{ltb-true, ltb-false, leb-true, lt-ltb, le-leb}
 use Rattle.program.specs.Program.{Edge, Program}
 use Rattle.program.specs.Frames.{edgeKey}
-use Rattle.program.specs.WellFormed.{All, Ascending, WellFormed}
+use Rattle.program.specs.WellFormed.{All, WellFormed}
+use Rattle.tables.specs.Keys.{Ascending}
 use Rattle.edit.specs.Edits.{oldEdge, newEdge}
 use Rattle.edit.specs.EditLines.{editFrom, readEdit}
 use Rattle.edit.specs.Editing.{sameEdge, hasEdge, without, inserted, withEdges, editRefusal, editedEdges, editedProgram, wantedBy, wantedEdit}

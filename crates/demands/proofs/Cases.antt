@@ -5,17 +5,19 @@ use lib.Dec.{eqb}
 use mathlib.Core.List.{List, _∷_, List·Memᴰ, List·Memᴰ·head, List·Memᴰ·tail, List·Memᴰ·not-nil}
 use Rattle.text.specs.Hex.{hex}
 use Rattle.text.specs.Lines.{lines, numbers}
-use Rattle.automaton.specs.Automaton.{listed, moves, member}
+use Rattle.automaton.specs.Automaton.{listed, moves}
+use Rattle.tables.specs.Keys.{member}
 use Rattle.program.specs.Reading.{judgeAs, judge, afterAs, after, readFrom, readFile}
+use Rattle.program.specs.Checks.{firstMet, checked}
 use Rattle.program.specs.Writing.{nodesFrames, framesOf, text, written}
 use Rattle.reach.specs.Configurations.{number, routineOf, nodeOf, rootOf, stateOf, none-set}
 use Rattle.reach.specs.Worklist.{lowest, mark, wake, markWhen, summary, onAction, onReturns, onLabel, labelWhen, onSteps, wakeRoots, calls, wakeWhen, wakeCallers, learn, takeFrom, takeAt, work, opened, analysis}
 use Rattle.reach.specs.Marks.{violationsFrom}
-use Rattle.analysis.specs.Answers.{same, checked, analyzeAnswer, marksAfter, workAfter}
+use Rattle.analysis.specs.Answers.{same, analyzeAnswer, marksAfter, workAfter}
 use Rattle.edit.specs.EditLines.{editFrom, readEdit}
 use Rattle.edit.specs.Editing.{hasEdge, without, inserted, editedProgram, wantedEdit}
 use Rattle.repair.specs.Reanalyzed.{insideOutNumber}
-use Rattle.repair.specs.Repairs.{measured, repaired}
+use Rattle.repair.specs.Repairs.{repaired}
 use Rattle.program.specs.Sample.{lineBytes}
 use Rattle.desk.specs.Entries.{analyze, repair-inside-out, Back, analyzeBack, repairBack, programIn, Gives}
 use Rattle.demands.specs.Cases.{Fresh, Edited, Case, Said, lentFresh, Analyzed, lentEdit, Repaired, RepairedBoth, Holds, P1, P2, P3, P4, P5, P6, P7, P8, P9, P10, table}
@@ -24,7 +26,7 @@ use Rattle.demands.proofs.Reopened.{p5-reopened, p6-reopened}
 
 -- what the rows compute with: to unfold one of these two is to unfold all that it names
 editing : Unit {0}
-unfolding lines numbers judgeAs judge afterAs after readFrom readFile editFrom readEdit hasEdge without inserted editedProgram wantedEdit measured repaired same checked analyzeAnswer marksAfter workAfter written framesOf nodesFrames text hex
+unfolding lines numbers judgeAs judge afterAs after readFrom readFile editFrom readEdit hasEdge without inserted editedProgram wantedEdit firstMet checked repaired same analyzeAnswer marksAfter workAfter written framesOf nodesFrames text hex
 editing = tt
 
 analyzing : Unit {0}

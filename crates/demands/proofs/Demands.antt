@@ -14,7 +14,8 @@ use Rattle.edit.specs.declared.Step.{Step}
 use Rattle.edit.specs.declared.Edit.the-variants.{Drop}
 use Rattle.edit.specs.declared.EditRead.the-variants.{Read}
 use Rattle.repair.specs.Desk.{started}
-use Rattle.components.specs.Parts.{Member, Passed}
+use Rattle.callgraph.specs.Components.{Member}
+use Rattle.components.specs.Passes.{Passed}
 use Rattle.report.specs.Report.{tooLong, benchText}
 use Rattle.transcript.specs.Transcript.{TurnGives, begun, Turns}
 use Rattle.transcript.specs.declared.Turn.{Turn}

@@ -14,12 +14,11 @@ use Rattle.reach.specs.Runs.{stepOf, HasStep}
 use Rattle.reach.specs.Reachable.{seeded, by-action, by-call, by-return}
 use Rattle.reach.specs.Marks.{Marked}
 use Rattle.reach.proofs.Laws.{Within}
-use Rattle.components.specs.Components.{CallEdge}
-use Rattle.components.specs.Passes.{edgesOf, onlyOf, entry, summary}
-use Rattle.components.specs.Parts.{memberOf, Member, ExitOf, PassOf, Passed}
+use Rattle.callgraph.specs.Components.{CallEdge, memberOf, Member}
+use Rattle.components.specs.Passes.{edgesOf, onlyOf, entry, summary, ExitOf, PassOf, Passed}
 use Rattle.demands.specs.Inputs.{SameInputs}
 use Rattle.components.proofs.Only.{only-step, only-routine, step-only}
-use Rattle.components.proofs.Rounds.{member-true, true-member}
+use Rattle.callgraph.proofs.Members.{member-true, true-member}
 
 -- ---- the same the other way round
 

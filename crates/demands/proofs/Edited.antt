@@ -9,6 +9,7 @@ use lib.Dec.{leb, eqb}
 use lib.ListN.{length}
 use borrow.Author.Tests.{eqb-false}
 use Rattle.program.specs.Program.{Edge, Program}
+use Rattle.program.specs.Checks.{Row, firstMet}
 use Rattle.edit.specs.Edits.{oldEdge, newEdge}
 use Rattle.edit.specs.EditLines.{onlyLine, badLine, outOfRange, editIn, editFrom, readEdit}
 use Rattle.edit.specs.Editing.{hasEdge, wantedBy, wantedEdit}
@@ -16,7 +17,7 @@ use Rattle.edit.specs.declared.Edit.{Edit}
 use Rattle.edit.specs.declared.Edit.the-variants.{Add, Drop, Replace}
 use Rattle.edit.specs.declared.EditRead.{EditRead}
 use Rattle.edit.specs.declared.EditRead.the-variants.{Read, Refused}
-use Rattle.demands.specs.Refusals.{Row, firstMet, adds, drops, editRows}
+use Rattle.demands.specs.Refusals.{adds, drops, editRows}
 
 -- the refusal of an edit line, or what the rows after it give
 abbrev pub numberThen : EditRead → ℕ → ℕ

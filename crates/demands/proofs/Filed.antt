@@ -10,9 +10,10 @@ use borrow.Author.Tests.{ltb-true, ltb-false}
 use Rattle.text.specs.Lines.{lines, numbers, lineFrom}
 use Rattle.text.specs.declared.Line.{Line}
 use Rattle.program.specs.Reading.{Progress, start, accepted, refused, judgeAs, judge, after, readFrom, readFile}
+use Rattle.program.specs.Checks.{firstMet}
 use Rattle.program.specs.declared.Verdict.{Verdict}
 use Rattle.program.specs.declared.Verdict.the-variants.{Accepted, Refused}
-use Rattle.demands.specs.Refusals.{firstMet, lineRows, lineNumber, Faulty, unended, after-end, here, later, FaultyFile}
+use Rattle.demands.specs.Refusals.{lineRows, lineNumber, Faulty, unended, after-end, here, later, FaultyFile}
 
 -- what a verdict says: this refusal, or none
 abbrev pub Says : Progress → List (List ℕ) → Verdict → Type 0

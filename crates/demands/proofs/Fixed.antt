@@ -7,19 +7,18 @@ use mathlib.Core.List.{List}
 use native.Mathlib.Omega.{arith}
 use native.Mathlib.Nat.{pow-succ', div-div-eq-div-mul}
 use lib.Dec.{eqb}
-use lib.ListN.{length}
 use Rattle.program.specs.Program.{Program}
 use Rattle.program.specs.declared.Verdict.{Verdict}
 use Rattle.program.specs.declared.Verdict.the-variants.{Accepted, Refused}
 use Rattle.reach.proofs.Shown.{one-list}
-use Rattle.analysis.specs.Answers.{checked, workAfter}
+use Rattle.analysis.specs.Answers.{checkedMarks, workAfter}
 use Rattle.prune.specs.Keeping.{Pruned}
-use Rattle.components.specs.Components.{Bits}
+use Rattle.callgraph.specs.Components.{Bits}
 use Rattle.edit.specs.Editing.{wantedEdit}
 use Rattle.edit.specs.declared.EditRead.{EditRead}
 use Rattle.edit.specs.declared.EditRead.the-variants as read
 use Rattle.repair.specs.Reanalyzed.{insideOutNumber}
-use Rattle.repair.specs.Repairs.{After, repaired}
+use Rattle.repair.specs.Repairs.{repaired}
 use Rattle.desk.specs.Entries.{Entry, read as reads, write, analyze, next-violation, prune, repair-forward, repair-inside-out, Lent, Back, pruneBack, repairBack, programIn, Gives}
 
 -- ---- a set of routines has one number
@@ -76,7 +75,7 @@ given-once write b a c g h = g ∙ sym h
 given-once analyze b a c g h = g ∙ sym h
 given-once next-violation b a c g h = g ∙ sym h
 given-once prune b a c g h =
-    let v = checked (b .file) (length (b .marks)) (length (b .work)) in
+    let v = checkedMarks (b .file) (b .marks) (b .work) in
     g .0 ∙ ap (λ (l : List ℕ). pruneBack b v l (workAfter (b .file) (b .marks) (b .work))) (marks-once v (programIn b) (b .marks) (a .marks) (c .marks) (g .1) (h .1))
     ∙ sym (h .0)
 given-once repair-forward b a c g h = g ∙ sym h

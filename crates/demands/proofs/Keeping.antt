@@ -1,7 +1,6 @@
 -- The keeping: which marks `prune` leaves, and that a forward drop leaves what the keeping does.
 use mathlib.Core.Path.{_≡_, refl, sym, ap, subst, _∙_}
-use mathlib.Core.Bool.{Bool, true, false, cond}
-use mathlib.Core.List.{List, [], _∷_}
+use mathlib.Core.List.{List}
 use Prim.Native.Nat.{ℕ, _<_}
 use native.Mathlib.Omega.{arith}
 use lib.ListN.{length, drop}
@@ -10,14 +9,16 @@ use Rattle.program.specs.Program.{Program}
 use Rattle.program.specs.WellFormed.{WellFormed}
 use Rattle.program.specs.Writing.{written}
 use Rattle.program.specs.Reading.{Outcome, accepted, readFile, refusal}
+use Rattle.program.specs.Checks.{firstMet, checked}
 use Rattle.program.specs.declared.Verdict.{Verdict}
 use Rattle.program.specs.declared.Verdict.the-variants.{Accepted, Refused}
-use Rattle.program.proofs.Theorems.{accepted-well-formed, read-again}
-use Rattle.writer.specs.Answers.{refusal as writeRefusal}
+use Rattle.program.specs.declared.Length.the-variants.{NotAsked, Of}
+use Rattle.program.proofs.Theorems.{read-again}
+use Rattle.program.proofs.Checked.{passes, few-checks}
 use Rattle.reach.specs.Marks.{Shows, freshMarks}
 use Rattle.reach.proofs.Kept.{marks-length}
-use Rattle.analysis.specs.Answers.{checkedBy, checked, same}
-use Rattle.analysis.proofs.Answered.{same-equal}
+use Rattle.analysis.specs.Answers.{checkedMarks}
+use Rattle.analysis.proofs.Answered.{same-equal, by-marks}
 use Rattle.prune.specs.Keeping.{Kept, Pruned}
 use Rattle.prune.proofs.Theorems.{kept-fresh}
 use Rattle.edit.specs.Editing.{editedProgram, wantedEdit, Applies}
@@ -27,24 +28,22 @@ use Rattle.edit.specs.declared.Edit.the-variants.{Drop}
 use Rattle.edit.specs.declared.EditRead.{EditRead}
 use Rattle.edit.specs.declared.EditRead.the-variants as read
 use Rattle.edit.proofs.Theorems.{wanted-applies, applied-well-formed}
-use Rattle.repair.specs.Repairs.{After, measuredBy, foreign, repairedTo, wantedBy, repairedBy, measured, repaired}
-use Rattle.repair.proofs.Answered.{Measured, passed}
-use Rattle.repair.proofs.Numbers.{refused-positive}
+use Rattle.repair.specs.Repairs.{checkedRepair, repairedTo, ownedBy, editedBy, wantedBy, repairedBy, repaired}
 use Rattle.repair.proofs.Steps.{drop-within, drop-initial}
 use Rattle.desk.specs.Entries.{prune, repair-forward, Lent, Back, repairBack, programIn, Gives}
 use Rattle.demands.specs.Demands.{keepingOf}
 use Rattle.demands.specs.Lists.{wrote}
-use Rattle.demands.proofs.Returning.{Judged, checked-judged}
 
 -- ---- which marks are left
 
 pub pruned : (b : Lent) (a : Back) → Gives prune b a → a .refusal ≡ 0 → Shows (Kept (programIn b) (b .marks)) (a .marks)
 pruned b a g z =
-    go (checked (b .file) (length (b .marks)) (length (b .work))) (checked-judged prune b [] refl) (g .1) (sym (ap (λ (x : Back). x .refusal) (g .0)) ∙ z)
+    go (checkedMarks (b .file) (b .marks) (b .work)) refl (g .1) (sym (ap (λ (x : Back). x .refusal) (g .0)) ∙ z)
   where
-    go : (v : Verdict) → Judged prune b [] v → Pruned v (programIn b) (b .marks) (a .marks) → refusal v ≡ 0 → Shows (Kept (programIn b) (b .marks)) (a .marks)
-    go Accepted r k y = k
-    go (Refused n line) x k y = absurd (x .some-number y)
+    go : (v : Verdict) → checkedMarks (b .file) (b .marks) (b .work) ≡ v → Pruned v (programIn b) (b .marks) (a .marks) → refusal v ≡ 0
+        → Shows (Kept (programIn b) (b .marks)) (a .marks)
+    go Accepted h k y = k
+    go (Refused n line) h k y = absurd (omega (arith, few-checks (b .file) (Of (length (b .marks))) NotAsked (Of (length (b .work))) h))
 
 -- ---- a forward repair that is accepted
 
@@ -55,29 +54,24 @@ record Mended (e : Edit) (b : Lent) (a : Back) : Type 0 where
   is : a ≡ repairBack (repairedTo (editedProgram e (programIn b)) (b .output)) 0
 
 mended : (e : Edit) (b : Lent) (a : Back) → Gives repair-forward b a → a .refusal ≡ 0 → wantedEdit (programIn b) (b .edit) ≡ read.Read e → Mended e b a
-unfolding repaired measured
-mended e b a g z w =
-    go (measuredBy (readFile (b .file) .verdict) (length (b .marks)) (length (b .output)) (length (b .work))) refl g
+unfolding repaired
+mended e b a g z w = go (checkedRepair (b .file) (b .marks) (b .output) (b .work)) refl g
   where
-    own : Measured (readFile (b .file) .verdict) (length (b .marks)) (length (b .output)) (length (b .work)) → (t : Bool) → same (b .marks) (freshMarks (programIn b)) ≡ t
-        → a ≡ repairBack (cond t (repairedTo (editedProgram e (programIn b)) (b .output)) (foreign (b .marks) (b .output))) 0 → Mended e b a
-    own m true t x =
-        record {
-          well-formed = accepted-well-formed (b .file) (m .file);
-          own = same-equal (b .marks) (freshMarks (programIn b)) t;
-          work-length = m .work-length;
-          is = x;
-        }
-    own m false t x = absurd (let y : _≡_ {A = ℕ} 17 0 = sym (ap (λ (k : Back). k .refusal) x) ∙ z in omega arith)
+    own : WellFormed (programIn b) → length (b .work) ≡ 16384 → a ≡ repairBack (editedBy e (programIn b) (b .marks) (b .output)) 0 → Mended e b a
+    own f l =
+        by-marks (programIn b) (b .marks) (λ v. a ≡ repairBack (ownedBy v (editedProgram e (programIn b)) (b .marks) (b .output)) 0 → Mended e b a)
+        (λ t y. record { well-formed = f; own = same-equal (b .marks) (freshMarks (programIn b)) t; work-length = l; is = y })
+        (λ t y. absurd (let c : _≡_ {A = ℕ} 17 0 = sym (ap (λ (k : Back). k .refusal) y) ∙ z in omega arith))
 
-    go : (v : Verdict) → measuredBy (readFile (b .file) .verdict) (length (b .marks)) (length (b .output)) (length (b .work)) ≡ v
+    go : (v : Verdict) → checkedRepair (b .file) (b .marks) (b .output) (b .work) ≡ v
         → a ≡ repairBack (repairedBy v (programIn b) (b .marks) (b .edit) (b .output) (b .work)) 0 → Mended e b a
     go Accepted h x =
-        own (passed (readFile (b .file) .verdict) (length (b .marks)) (length (b .output)) (length (b .work)) h) (same (b .marks) (freshMarks (programIn b))) refl
+        let c = passes (b .file) (Of (length (b .marks))) (Of (length (b .output))) (Of (length (b .work))) h in
+        own (c .well-formed) (c .sized .work-length)
         (subst (λ (r : EditRead). a ≡ repairBack (wantedBy r (programIn b) (b .marks) (b .output) (b .work)) 0) w x)
     go (Refused n line) h x =
         absurd (let y : n ≡ 0 = sym (ap (λ (k : Back). k .refusal) x) ∙ z in
-        omega (arith, refused-positive (b .file) (length (b .marks)) (length (b .output)) (length (b .work)) n line h))
+        omega (arith, few-checks (b .file) (Of (length (b .marks))) (Of (length (b .output))) (Of (length (b .work))) h))
 
 -- ---- a forward drop is the keeping on the old marks
 
@@ -98,8 +92,8 @@ module _ (b : Lent) (a k : Back) (s : Step) (g : Gives repair-forward b a) (z : 
       ap (λ (x : Back). readFile (wrote x)) (m .is) ∙ ap readFile (take-append-seam (written p′) (drop (length (written p′)) (b .output)))
       ∙ read-again p′ w′
 
-  is-checked : checked (wrote a) (length (b .marks)) (length (b .work)) ≡ Accepted
-  unfolding checked
+  is-checked : checkedMarks (wrote a) (b .marks) (b .work) ≡ Accepted
+  unfolding checked firstMet
   is-checked =
       let l : length (b .marks) ≡ 16384 = ap length (m .own) ∙ marks-length (programIn b) in
       rw (is-read, l, m .work-length) refl

@@ -4,26 +4,28 @@ use mathlib.Core.Bool.{Bool, true, false, cond}
 use mathlib.Core.List.{List, [], _∷_, map}
 use Prim.Native.Nat.{ℕ}
 use native.Mathlib.Omega.{arith}
-use lib.Dec.{ltb, eqb}
+use lib.Dec.{eqb}
 use lib.ListN.{length, drop}
 use lib.Seq.{take-append-seam}
 use borrow.Author.Tests.{ne-eqb}
 use Rattle.program.specs.Program.{Program}
 use Rattle.program.specs.WellFormed.{WellFormed}
 use Rattle.program.specs.Reading.{Outcome, accepted, readFile}
+use Rattle.program.specs.Checks.{firstMet, bufferRows, checked}
 use Rattle.program.specs.Writing.{written}
 use Rattle.program.specs.declared.Verdict.the-variants as verdict
+use Rattle.program.specs.declared.Length.the-variants.{NotAsked, Of}
 use Rattle.program.proofs.Theorems.{accepted-well-formed}
 use Rattle.reach.specs.Marks.{freshMarks}
 use Rattle.reach.proofs.Kept.{marks-length}
 use Rattle.analysis.specs.Answers.{same}
-use Rattle.analysis.proofs.Answered.{same-self}
+use Rattle.analysis.proofs.Answered.{same-self, own-accepted}
 use Rattle.edit.specs.Editing.{withEdges, editedProgram, wantedEdit, Applies}
 use Rattle.edit.specs.declared.Edit.{Edit}
 use Rattle.edit.specs.declared.EditRead.{EditRead}
 use Rattle.edit.specs.declared.EditRead.the-variants as read
 use Rattle.edit.proofs.Theorems.{wanted-applies, applied-well-formed, edited-read}
-use Rattle.repair.specs.Repairs.{After, untouched, repairedTo, wantedBy, repairedBy, measured, repaired}
+use Rattle.repair.specs.Repairs.{untouched, repairedTo, wantedBy, repairedBy, repaired}
 use Rattle.repair.specs.Desk.{Desk, started}
 use Rattle.repair.specs.Reanalyzed.{insideOutNumber}
 use Rattle.repair.proofs.Numbers.{wanted-number}
@@ -86,7 +88,7 @@ module _ (d : Desk) (b : Program) (g : Agrees d b) (k : ℕ) where
   wanted (read.Read e) line output work h =
       let t : same (d .marks) (freshMarks p) ≡ true =
       subst (λ (l : List ℕ). same l (freshMarks (bookProgram b)) ≡ true) (sym (g .marks)) (same-self (freshMarks (bookProgram b))) in
-      rw t (goes e output (wanted-applies p line e h))
+      rw (← own-accepted p (d .marks) t) (goes e output (wanted-applies p line e h))
   wanted (read.Refused n) line output work h = stays n 0 output work (ne-eqb n 0 (λ z. absurd (omega (arith, wanted-number p line n h))))
 
   zero-when : (w : EditRead) (line : List ℕ) → wantedEdit p line ≡ w → unlessRefused (editReadRefusal w) (bookEdited w b) b ≡ bookEdited w b
@@ -94,20 +96,22 @@ module _ (d : Desk) (b : Program) (g : Agrees d b) (k : ℕ) where
   zero-when (read.Refused n) line h = rw (ne-eqb n 0 (λ z. absurd (omega (arith, wanted-number p line n h))))
 
   one-call : (c : Call) → Step d (repairBack (repaired (d .file) (d .marks) (c .line) (c .output) (c .work)) k) (bookRefuses b c) (bookCall b c)
-  unfolding repaired measured bookRefusal bookAfter
-  one-call c =
-      rw (g .file, m) (go (ltb (length (c .output)) 5328) (eqb (length (c .work)) 16384) (wantedEdit b (c .line)) (wanted-sorted b (c .line)))
+  unfolding repaired checked bookRefusal bookAfter
+  one-call c = rw (g .file, m) (go lengths (eqb lengths 0) refl (wantedEdit b (c .line)) (wanted-sorted b (c .line)))
     where
       m : length (d .marks) ≡ 16384
       m = ap length (g .marks) ∙ marks-length (bookProgram b)
 
-      go : (t u : Bool) (w : EditRead) → wantedEdit p (c .line) ≡ w
-          → Step d (repairBack (repairedBy (cond t (verdict.Refused 10 0) (cond u verdict.Accepted (verdict.Refused 11 0))) p (d .marks) (c .line) (c .output) (c .work)) k)
-          (cond t 10 (cond u (editReadRefusal w) 11))
-          (unlessRefused (cond t 10 (cond u (editReadRefusal w) 11)) (bookEdited w b) b)
-      go true u w h = stays 10 0 (c .output) (c .work) refl
-      go false false w h = stays 11 0 (c .output) (c .work) refl
-      go false true w h = rw (h, zero-when w (c .line) h) (wanted w (c .line) (c .output) (c .work) h)
+      -- what the lengths of output and working buffer meet
+      lengths : ℕ
+      lengths = firstMet (bufferRows NotAsked (Of (length (c .output))) (Of (length (c .work))))
+
+      go : (n : ℕ) (t : Bool) → eqb n 0 ≡ t → (w : EditRead) → wantedEdit p (c .line) ≡ w
+          → Step d (repairBack (repairedBy (cond t verdict.Accepted (verdict.Refused n 0)) p (d .marks) (c .line) (c .output) (c .work)) k)
+          (cond t (editReadRefusal w) n)
+          (unlessRefused (cond t (editReadRefusal w) n) (bookEdited w b) b)
+      go n true e w h = rw (h, zero-when w (c .line) h) (wanted w (c .line) (c .output) (c .work) h)
+      go n false e w h = rw e (stays n 0 (c .output) (c .work) e)
 
 -- ---- one call, by what its function promises
 

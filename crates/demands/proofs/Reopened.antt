@@ -14,7 +14,7 @@ use Rattle.program.specs.Reading.{judgeAs, judge, afterAs, after, readFrom, rea
 use Rattle.program.specs.Sample.{bytes, F}
 use Rattle.reach.specs.Runs.{Step, HasStep}
 use Rattle.reach.specs.Reachable.{seeded, by-action, by-call, by-return, initial, root, Reachable}
-use Rattle.components.specs.Components.{CallEdge, Leads, directly, through, Together, Anew, Changed, CallsChanged, Reopened, Bits}
+use Rattle.callgraph.specs.Components.{CallEdge, Leads, directly, through, Together, Anew, Changed, CallsChanged, Reopened, Bits}
 use Rattle.edit.specs.Editing.{without, editedProgram}
 use Rattle.edit.specs.declared.Label.the-variants as label
 use Rattle.edit.specs.declared.Edit.the-variants.{Drop}

@@ -6,32 +6,32 @@ use mathlib.Core.Option.{Option, some, none}
 use mathlib.Core.List.{List, [], _∷_, _++_}
 use Prim.Native.Nat.{ℕ}
 use native.Mathlib.Omega.{arith}
-use lib.Dec.{ltb, eqb}
-use lib.ListN.{length, drop}
+use lib.Dec.{eqb}
+use lib.ListN.{length}
 use borrow.Author.Tests.{eqb-false, ne-eqb}
 use Rattle.program.specs.Program.{Program}
-use Rattle.program.specs.Reading.{refusal, refusalLine, readFile}
+use Rattle.program.specs.Reading.{readFile}
+use Rattle.program.specs.Checks.{Row, firstMet, verdictOf, bufferRows, checked}
 use Rattle.program.specs.declared.Verdict.{Verdict}
 use Rattle.program.specs.declared.Verdict.the-variants.{Accepted, Refused}
+use Rattle.program.specs.declared.Length.{Length}
+use Rattle.program.specs.declared.Length.the-variants.{NotAsked, Of}
 use Rattle.program.proofs.Theorems.{few-lines}
-use Rattle.writer.specs.Answers.{answerBy, outputBy, writeAnswer, outputAfter, refusal as writeRefusal, refusalLine as writeLine}
-use Rattle.writer.specs.declared.WriteAnswer.the-variants as answer
-use Rattle.program.specs.Writing.{written}
+use Rattle.program.proofs.Checked.{CheckedAs, passed, by-file, by-length, checked-file}
+use Rattle.writer.specs.Answers.{answerBy, outputBy, checkedOutput, writeAnswer, outputAfter, refusal as writeRefusal}
 use Rattle.reach.specs.Configurations.{none-set}
 use Rattle.reach.specs.Marks.{freshMarks, firstFrom, violations}
-use Rattle.analysis.specs.Answers.{checkedBy, checked, analyzeBy, analyzeAnswer, onSuccess, marksAfter, workAfter, analyzeRefusal, analyzeLine, same, foundOf, nextBy, nextAnswer, nextRefusal, nextLine}
-use Rattle.analysis.specs.declared.NextAnswer.the-variants as next
+use Rattle.analysis.specs.Answers.{checkedMarks, analyzeBy, analyzeAnswer, onSuccess, marksAfter, workAfter, same, foreignRow, foundOf, foundBy, nextBy, nextAnswer}
 use Rattle.prune.specs.Keeping.{Pruned}
 use Rattle.edit.specs.EditLines.{onlyLine}
 use Rattle.edit.specs.Editing.{editedProgram, wantedEdit}
-use Rattle.edit.specs.declared.Edit.{Edit}
 use Rattle.edit.specs.declared.EditRead.{EditRead}
 use Rattle.edit.specs.declared.EditRead.the-variants as read
 use Rattle.repair.specs.Reanalyzed.{insideOutNumber}
-use Rattle.repair.specs.Repairs.{After, measuredBy, foreign, repairedTo, wantedBy, repairedBy, measured, repaired}
-use Rattle.desk.specs.Entries.{Entry, read as reads, write, analyze, next-violation, prune, repair-forward, repair-inside-out, Lent, Back, hasWork, Values, noValues, repairing, readBack, writeBack, analyzeBack, nextBack, pruneBack, repairBack, Gives}
+use Rattle.repair.specs.Repairs.{checkedRepair, ownedBy, wantedBy, repairedBy, repaired}
+use Rattle.desk.specs.Entries.{Entry, read as reads, write, analyze, next-violation, prune, repair-forward, repair-inside-out, Lent, Back, hasWork, Values, noValues, repairing, readBack, writeBack, analyzeBack, nextBack, pruneBack, repairBack, programIn, Gives}
 use Rattle.demands.specs.Demands.{Demand1}
-use Rattle.demands.specs.Refusals.{Row, firstMet, FaultyFile, editRows, marksRow, outputRow, workRow, foreignRow, repairRows, rows, Returned, of-the-file, of-the-rest}
+use Rattle.demands.specs.Refusals.{editRows, repairRows, marksRows, rows, Returned, of-the-file, of-the-rest}
 use Rattle.demands.proofs.Filed.{SaysFile, file-told, faulty-number, faulty-once}
 use Rattle.demands.proofs.Edited.{numberThen, edit-told, edit-numbers}
 
@@ -125,24 +125,25 @@ file-judged e b = go (readFile (b .file) .verdict) refl (file-told (b .file))
     go : (v : Verdict) → readFile (b .file) .verdict ≡ v → SaysFile (b .file) v → Judged e b (rows e b) v
     go Accepted h t = of-the-rest t
     go (Refused n line) h t =
-        let x = few-lines (b .file) n line h .0 in
+        let x = few-lines (b .file) n line h in
         record { returned = of-the-file t; some-number = faulty-number t; before-17 = λ z. absurd (omega arith) }
 
--- a row that is checked next: it is met, or the check goes on
-row-judged : (e : Entry) (b : Lent) (n : ℕ) (met : Bool) (left final : List Row) (rest : Verdict) → n ≢ 0 → n ≢ 17
-    → (Returned e b (firstMet left) 0 → Judged e b final rest)
-    → Returned e b (firstMet (record { number = n; met = met } ∷ left)) 0 → Judged e b final (cond met (Refused n 0) rest)
-unfolding firstMet
-row-judged e b n true left final rest z y k r = record { returned = r; some-number = z; before-17 = y }
-row-judged e b n false left final rest z y k r = k r
+-- the file and the lengths, whatever was asked, and whatever comes after them
+pub checked-judged : (e : Entry) (b : Lent) (marks output work : Length) (final : List Row) → rows e b ≡ bufferRows marks output work ++ final
+    → Judged e b final (checked (b .file) marks output work)
+checked-judged e b marks output work final h = go (checked (b .file) marks output work) (checked-file (b .file) marks output work)
+  where
+    by : (v : Verdict) → readFile (b .file) .verdict ≡ v → Judged e b (rows e b) v
+    by v a = subst (Judged e b (rows e b)) a (file-judged e b)
 
--- so for a row whose test says that it is not met
-length-judged : (e : Entry) (b : Lent) (n : ℕ) (fits : Bool) (left final : List Row) (rest : Verdict) → n ≢ 0 → n ≢ 17
-    → (Returned e b (firstMet left) 0 → Judged e b final rest)
-    → Returned e b (firstMet (record { number = n; met = not fits } ∷ left)) 0 → Judged e b final (cond fits rest (Refused n 0))
-unfolding firstMet
-length-judged e b n true left final rest z y k r = k r
-length-judged e b n false left final rest z y k r = record { returned = r; some-number = z; before-17 = y }
+    left : {n : ℕ} → readFile (b .file) .verdict ≡ Accepted → firstMet (bufferRows marks output work ++ final) ≡ n → Returned e b n 0
+    left a f = subst (λ n. Returned e b n 0) (ap firstMet h ∙ f) (by Accepted a)
+
+    go : (v : Verdict) → CheckedAs (readFile (b .file) .verdict) marks output work v → Judged e b final v
+    go v (passed a s f) = left a (f final)
+    go v (by-file a) = by v a
+    go v (by-length a low high f) =
+        record { returned = left a (f final); some-number = λ z. absurd (omega arith); before-17 = λ z. absurd (omega arith) }
 
 not-equal : {n m : ℕ} → eqb n m ≡ false → n ≢ m
 not-equal {n} {m} e = eqb-false n m e
@@ -159,81 +160,54 @@ read-good b = go (readFile (b .file) .verdict) (file-judged reads b)
 
 write-good : (b : Lent) → Demand1 write b (writeBack b (writeAnswer (b .file) (b .output)) (outputAfter (b .file) (b .output)))
 unfolding writeAnswer outputAfter firstMet
-write-good b = go (readFile (b .file) .verdict) (file-judged write b) (readFile (b .file) .program)
+write-good b = go (checkedOutput (b .file) (b .output)) (checked-judged write b NotAsked (Of (length (b .output))) NotAsked [] refl)
   where
-    short : (t : Bool) (size : ℕ) (new : List ℕ) → Returned write b (cond t 10 0) 0
-        → Demand1 write b (writeBack b (cond t (answer.Refused 10 0) (answer.Written size)) (cond t (b .output) new))
-    short true size new r = early (record { returned = r; some-number = not-equal refl; before-17 = not-equal refl })
-    short false size new r = done refl r
-
-    go : (v : Verdict) → Judged write b (outputRow b ∷ []) v → (p : Program) → Demand1 write b (writeBack b (answerBy v p (length (b .output))) (outputBy v p (b .output)))
-    go Accepted r p = short (ltb (length (b .output)) 5328) (length (written p)) (written p ++ drop (length (written p)) (b .output)) r
-    go (Refused n line) x p = early x
+    go : (v : Verdict) → Judged write b [] v → Demand1 write b (writeBack b (answerBy v (programIn b)) (outputBy v (programIn b) (b .output)))
+    go Accepted r = done refl r
+    go (Refused n line) x = early x
 
 -- ---- analyze, prune and next_violation
 
-pub checked-judged : (e : Entry) (b : Lent) (final : List Row) → rows e b ≡ marksRow b ∷ workRow b ∷ final
-    → Judged e b final (checked (b .file) (length (b .marks)) (length (b .work)))
-unfolding checked
-checked-judged e b final h = go (readFile (b .file) .verdict) (file-judged e b)
-  where
-    go : (v : Verdict) → Judged e b (rows e b) v → Judged e b final (checkedBy v (length (b .marks)) (length (b .work)))
-    go Accepted r =
-        length-judged e b 9 (eqb (length (b .marks)) 16384) (workRow b ∷ final) final (cond (eqb (length (b .work)) 16384) Accepted (Refused 11 0)) (not-equal refl) (not-equal refl)
-        (length-judged e b 11 (eqb (length (b .work)) 16384) final final Accepted (not-equal refl) (not-equal refl) (λ x. x))
-        (subst (λ rs. Returned e b (firstMet rs) 0) h r)
-    go (Refused n line) x = x
+marks-judged : (e : Entry) (b : Lent) (final : List Row) → rows e b ≡ marksRows b ++ final
+    → Judged e b final (checkedMarks (b .file) (b .marks) (b .work))
+marks-judged e b = checked-judged e b (Of (length (b .marks))) NotAsked (Of (length (b .work)))
 
 analyze-good : (b : Lent) → Demand1 analyze b (analyzeBack b (analyzeAnswer (b .file) (b .marks) (b .work)) (marksAfter (b .file) (b .marks) (b .work)) (workAfter (b .file) (b .marks) (b .work)))
 unfolding analyzeAnswer marksAfter workAfter firstMet
-analyze-good b = go (checked (b .file) (length (b .marks)) (length (b .work))) (checked-judged analyze b [] refl)
+analyze-good b = go (checkedMarks (b .file) (b .marks) (b .work)) (marks-judged analyze b [] refl)
   where
     go : (v : Verdict) → Judged analyze b [] v
-        → Demand1 analyze b (analyzeBack b (analyzeBy v (readFile (b .file) .program)) (onSuccess v (freshMarks (readFile (b .file) .program)) (b .marks)) (onSuccess v none-set (b .work)))
+        → Demand1 analyze b (analyzeBack b (analyzeBy v (programIn b)) (onSuccess v (freshMarks (programIn b)) (b .marks)) (onSuccess v none-set (b .work)))
     go Accepted r = late r (inl refl)
     go (Refused n line) x = early x
 
-prune-good : (b : Lent) (marks : List ℕ) → Pruned (checked (b .file) (length (b .marks)) (length (b .work))) (readFile (b .file) .program) (b .marks) marks
-    → Demand1 prune b (pruneBack b (checked (b .file) (length (b .marks)) (length (b .work))) marks (workAfter (b .file) (b .marks) (b .work)))
+prune-good : (b : Lent) (marks : List ℕ) → Pruned (checkedMarks (b .file) (b .marks) (b .work)) (programIn b) (b .marks) marks
+    → Demand1 prune b (pruneBack b (checkedMarks (b .file) (b .marks) (b .work)) marks (workAfter (b .file) (b .marks) (b .work)))
 unfolding workAfter firstMet
-prune-good b marks = go (checked (b .file) (length (b .marks)) (length (b .work))) (checked-judged prune b [] refl)
+prune-good b marks = go (checkedMarks (b .file) (b .marks) (b .work)) (marks-judged prune b [] refl)
   where
-    go : (v : Verdict) → Judged prune b [] v → Pruned v (readFile (b .file) .program) (b .marks) marks → Demand1 prune b (pruneBack b v marks (onSuccess v none-set (b .work)))
+    go : (v : Verdict) → Judged prune b [] v → Pruned v (programIn b) (b .marks) marks → Demand1 prune b (pruneBack b v marks (onSuccess v none-set (b .work)))
     go Accepted r k = late r (inl refl)
     go (Refused n line) x k = subst (λ m. Demand1 prune b (pruneBack b (Refused n line) m (b .work))) (sym k) (early x)
 
 next-good : (b : Lent) → Demand1 next-violation b (nextBack b (nextAnswer (b .file) (b .marks) (b .work) (b .from)) (workAfter (b .file) (b .marks) (b .work)))
 unfolding nextAnswer workAfter firstMet
-next-good b = go (checked (b .file) (length (b .marks)) (length (b .work))) (checked-judged next-violation b (foreignRow b ∷ []) refl)
+next-good b = go (checkedMarks (b .file) (b .marks) (b .work)) (marks-judged next-violation b (foreignRow (programIn b) (b .marks) ∷ []) refl)
   where
     found : (o : Option ℕ) → Returned next-violation b 0 0 → Demand1 next-violation b (nextBack b (foundOf o) none-set)
     found none r = late r (inl refl)
     found (some i) r = late r (inl refl)
 
-    own : (t : Bool) (o : Option ℕ) → Returned next-violation b (cond (not t) 17 0) 0 → Demand1 next-violation b (nextBack b (cond t (foundOf o) (next.Refused 17 0)) none-set)
+    own : (t : Bool) (o : Option ℕ) → Returned next-violation b (cond (not t) 17 0) 0 → Demand1 next-violation b (nextBack b (foundBy (verdictOf (cond (not t) 17 0)) o) none-set)
     own true o r = found o r
     own false o r = late r (inr (refl, refl, refl, refl))
 
-    go : (v : Verdict) → Judged next-violation b (foreignRow b ∷ []) v
-        → Demand1 next-violation b (nextBack b (nextBy v (readFile (b .file) .program) (b .marks) (b .from)) (onSuccess v none-set (b .work)))
-    go Accepted r = own (same (b .marks) (freshMarks (readFile (b .file) .program))) (firstFrom (b .from) (violations (readFile (b .file) .program))) r
+    go : (v : Verdict) → Judged next-violation b (foreignRow (programIn b) (b .marks) ∷ []) v
+        → Demand1 next-violation b (nextBack b (nextBy v (programIn b) (b .marks) (b .from)) (onSuccess v none-set (b .work)))
+    go Accepted r = own (same (b .marks) (freshMarks (programIn b))) (firstFrom (b .from) (violations (programIn b))) r
     go (Refused n line) x = early x
 
 -- ---- the repairs
-
-measured-judged : (e : Entry) (b : Lent) (final : List Row) → rows e b ≡ marksRow b ∷ outputRow b ∷ workRow b ∷ final
-    → Judged e b final (measured (b .file) (length (b .marks)) (length (b .output)) (length (b .work)))
-unfolding measured
-measured-judged e b final h = go (readFile (b .file) .verdict) (file-judged e b)
-  where
-    go : (v : Verdict) → Judged e b (rows e b) v → Judged e b final (measuredBy v (length (b .marks)) (length (b .output)) (length (b .work)))
-    go Accepted r =
-        length-judged e b 9 (eqb (length (b .marks)) 16384) (outputRow b ∷ workRow b ∷ final) final
-        (cond (ltb (length (b .output)) 5328) (Refused 10 0) (cond (eqb (length (b .work)) 16384) Accepted (Refused 11 0))) (not-equal refl) (not-equal refl)
-        (row-judged e b 10 (ltb (length (b .output)) 5328) (workRow b ∷ final) final (cond (eqb (length (b .work)) 16384) Accepted (Refused 11 0)) (not-equal refl) (not-equal refl)
-        (length-judged e b 11 (eqb (length (b .work)) 16384) final final Accepted (not-equal refl) (not-equal refl) (λ x. x)))
-        (subst (λ rs. Returned e b (firstMet rs) 0) h r)
-    go (Refused n line) x = x
 
 -- whatever routines are answered, if none are on a refusal
 repair-good : (e : Entry) (b : Lent) (routines : ℕ) → rows e b ≡ repairRows b
@@ -241,8 +215,9 @@ repair-good : (e : Entry) (b : Lent) (routines : ℕ) → rows e b ≡ repairRow
     → Demand1 e b (repairBack (repaired (b .file) (b .marks) (b .edit) (b .output) (b .work)) routines)
 unfolding repaired firstMet
 repair-good e b routines h =
-    go (measured (b .file) (length (b .marks)) (length (b .output)) (length (b .work)))
-    (measured-judged e b (editRows (readFile (b .file) .program) (onlyLine (b .edit)) ++ foreignRow b ∷ []) h)
+    go (checkedRepair (b .file) (b .marks) (b .output) (b .work))
+    (checked-judged e b (Of (length (b .marks))) (Of (length (b .output))) (Of (length (b .work)))
+    (editRows (programIn b) (onlyLine (b .edit)) ++ foreignRow (programIn b) (b .marks) ∷ []) h)
   where
     no-routines : routines ≡ 0 → repairing 0 routines ≡ noValues
     no-routines z = ap (repairing 0) z
@@ -253,24 +228,24 @@ repair-good e b routines h =
         subst (λ v. Demand1 e b (record { refusal = n; line = line; values = v; marks = b .marks; output = b .output; work = b .work }))
         (sym (no-routines (z (x .some-number)))) (early x)
 
-    edited : (d : Edit) (t : Bool) → Returned e b (cond (not t) 17 0) 0
-        → (writeRefusal (cond t (repairedTo (editedProgram d (readFile (b .file) .program)) (b .output)) (foreign (b .marks) (b .output)) .answer) ≢ 0 → routines ≡ 0)
-        → Demand1 e b (repairBack (cond t (repairedTo (editedProgram d (readFile (b .file) .program)) (b .output)) (foreign (b .marks) (b .output))) routines)
-    edited d true r z = late r (inl refl)
-    edited d false r z = late r (inr (refl, no-routines (z (not-equal refl)), refl, refl))
+    edited : (p : Program) (t : Bool) → Returned e b (cond (not t) 17 0) 0
+        → (writeRefusal (ownedBy (verdictOf (cond (not t) 17 0)) p (b .marks) (b .output) .answer) ≢ 0 → routines ≡ 0)
+        → Demand1 e b (repairBack (ownedBy (verdictOf (cond (not t) 17 0)) p (b .marks) (b .output)) routines)
+    edited p true r z = late r (inl refl)
+    edited p false r z = late r (inr (refl, no-routines (z (not-equal refl)), refl, refl))
 
-    wanted : (w : EditRead) → wantedEdit (readFile (b .file) .program) (b .edit) ≡ w → Returned e b (numberThen w (firstMet (foreignRow b ∷ []))) 0
-        → (writeRefusal (wantedBy w (readFile (b .file) .program) (b .marks) (b .output) (b .work) .answer) ≢ 0 → routines ≡ 0)
-        → Demand1 e b (repairBack (wantedBy w (readFile (b .file) .program) (b .marks) (b .output) (b .work)) routines)
-    wanted (read.Read d) k r z = edited d (same (b .marks) (freshMarks (readFile (b .file) .program))) r z
-    wanted (read.Refused n) k r z = let x = edit-numbers (readFile (b .file) .program) (b .edit) n k in refuses (record { returned = r; some-number = x .0; before-17 = x .1 }) z
+    wanted : (w : EditRead) → wantedEdit (programIn b) (b .edit) ≡ w → Returned e b (numberThen w (firstMet (foreignRow (programIn b) (b .marks) ∷ []))) 0
+        → (writeRefusal (wantedBy w (programIn b) (b .marks) (b .output) (b .work) .answer) ≢ 0 → routines ≡ 0)
+        → Demand1 e b (repairBack (wantedBy w (programIn b) (b .marks) (b .output) (b .work)) routines)
+    wanted (read.Read d) k r z = edited (editedProgram d (programIn b)) (same (b .marks) (freshMarks (programIn b))) r z
+    wanted (read.Refused n) k r z = let x = edit-numbers (programIn b) (b .edit) n k in refuses (record { returned = r; some-number = x .0; before-17 = x .1 }) z
 
-    go : (v : Verdict) → Judged e b (editRows (readFile (b .file) .program) (onlyLine (b .edit)) ++ foreignRow b ∷ []) v
-        → (writeRefusal (repairedBy v (readFile (b .file) .program) (b .marks) (b .edit) (b .output) (b .work) .answer) ≢ 0 → routines ≡ 0)
-        → Demand1 e b (repairBack (repairedBy v (readFile (b .file) .program) (b .marks) (b .edit) (b .output) (b .work)) routines)
+    go : (v : Verdict) → Judged e b (editRows (programIn b) (onlyLine (b .edit)) ++ foreignRow (programIn b) (b .marks) ∷ []) v
+        → (writeRefusal (repairedBy v (programIn b) (b .marks) (b .edit) (b .output) (b .work) .answer) ≢ 0 → routines ≡ 0)
+        → Demand1 e b (repairBack (repairedBy v (programIn b) (b .marks) (b .edit) (b .output) (b .work)) routines)
     go Accepted r z =
-        wanted (wantedEdit (readFile (b .file) .program) (b .edit)) refl
-        (subst (λ n. Returned e b n 0) (edit-told (readFile (b .file) .program) (b .edit) (foreignRow b)) r) z
+        wanted (wantedEdit (programIn b) (b .edit)) refl
+        (subst (λ n. Returned e b n 0) (edit-told (programIn b) (b .edit) (foreignRow (programIn b) (b .marks))) r) z
     go (Refused n line) x z = refuses x z
 
 -- the inside-out repair answers no routine on a refusal
@@ -289,5 +264,5 @@ gives-demanded repair-forward b a g = subst (Demand1 repair-forward b) (sym g) (
 gives-demanded repair-inside-out b a g =
     subst (Demand1 repair-inside-out b) (sym (g .0))
     (repair-good repair-inside-out b (a .values .reanalyzed) refl
-    (λ h. no-number (a .refusal) (wantedEdit (readFile (b .file) .program) (b .edit)) (readFile (b .file) .program) (a .values .reanalyzed) (g .1)
+    (λ h. no-number (a .refusal) (wantedEdit (programIn b) (b .edit)) (programIn b) (a .values .reanalyzed) (g .1)
     (λ z. h (sym (ap (λ (x : Back). x .refusal) (g .0)) ∙ z))))

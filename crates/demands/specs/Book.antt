@@ -1,12 +1,13 @@
--- The reference model (paper: the plain book). It holds a program whose edges are a set: a list without repeats, whose order says nothing. It is
--- fed an edit line and the lengths of the output and of the working buffer; it knows nothing of marks, of files that were written, or of which repair
--- is called.
+-- The reference model (paper: the plain book). It holds a program whose edges are a set: a list without repeats, whose
+-- order says nothing. It is fed an edit line and the lengths of the output and of the working buffer; it knows nothing
+-- of marks, of files that were written, or of which repair is called.
 use Prim.Native.Nat.{ℕ}
 use mathlib.Core.Bool.{cond}
 use mathlib.Core.List.{List, [], _∷_}
-use lib.Dec.{ltb, eqb}
-use Rattle.program.specs.Sizes.{marksSize, outputSize}
+use lib.Dec.{eqb}
 use Rattle.program.specs.Program.{Edge, Program}
+use Rattle.program.specs.Checks.{firstMet, bufferRows}
+use Rattle.program.specs.declared.Length.the-variants.{NotAsked, Of}
 use Rattle.edit.specs.Edits.{oldEdge, newEdge}
 use Rattle.edit.specs.Editing.{without, inserted, withEdges, wantedEdit}
 use Rattle.edit.specs.declared.Edit.{Edit}
@@ -24,10 +25,16 @@ abbrev pub editReadRefusal : EditRead → ℕ
 editReadRefusal (Read e) = 0
 editReadRefusal (Refused n) = n
 
--- the first refusal after 9 and before 17 that a call meets, or 0: a short output (10), a working buffer of another length than the marks (11), then those
--- of the edit line (12 to 16); whether an edge is there, and how many there are, is read off the set
+-- the first number, or the second where that is 0
+abbrev pub firstOf : ℕ → ℕ → ℕ
+firstOf n m = cond (eqb n 0) m n
+
+-- the first refusal after 9 and before 17 that a call meets, or 0: those of the lengths of output and working buffer
+-- (10, 11), then those of the edit line (12 to 16); whether an edge is there, and how many there are, is read off the
+-- set
 unfoldable pub bookRefusal : Program → List ℕ → ℕ → ℕ → ℕ
-bookRefusal b line output work = cond (ltb output outputSize) 10 (cond (eqb work marksSize) (editReadRefusal (wantedEdit b line)) 11)
+bookRefusal b line output work =
+    firstOf (firstMet (bufferRows NotAsked (Of output) (Of work))) (editReadRefusal (wantedEdit b line))
 
 -- the set after a call: a refused one leaves it
 abbrev pub bookEdited : EditRead → Program → Program

@@ -13,16 +13,17 @@ use Rattle.desk.specs.Entries.{analyze, repair-forward, repair-inside-out, Lent
 
 -- ---- what a row says
 
--- a file, by its lines, that is analyzed in full, and what is expected: these configurations and no others are marked, these are the violations, and so
--- many iterations are made; none where the row says nothing of it
+-- a file, by its lines, that is analyzed in full, and what is expected: these configurations and no others are marked,
+-- these are the violations, and so many iterations are made; none where the row says nothing of it
 pub record Fresh : Type 0 where
   pub file : List String
   pub configurations : Option (List ℕ)
   pub violating : Option (List ℕ)
   pub iterations : Option ℕ
 
--- a file, by its lines, the configurations of its own marks, and an edit line; and what is expected: the refusal's number, 0 for none, the configurations
--- that are marked afterwards, the lines that are written, and the reanalyzed routines, a bit each; none where the row says nothing of them
+-- a file, by its lines, the configurations of its own marks, and an edit line; and what is expected: the refusal's
+-- number, 0 for none, the configurations that are marked afterwards, the lines that are written, and the reanalyzed
+-- routines, a bit each; none where the row says nothing of them
 pub record Edited : Type 0 where
   pub file : List String
   pub before : List ℕ
@@ -50,7 +51,14 @@ Said P (some x) = P x
 
 -- what is lent: a file by its lines, marks, an edit line, an output and a working buffer of zeros
 abbrev pub lentWith : List String → List ℕ → List ℕ → Lent
-lentWith file marks line = record { file = bytes file; marks = marks; edit = line; output = replicate outputSize 0; work = none-set; from = 0 }
+lentWith file marks line = record {
+  file = bytes file;
+  marks = marks;
+  edit = line;
+  output = replicate outputSize 0;
+  work = none-set;
+  from = 0;
+}
 
 abbrev pub lentFresh : Fresh → Lent
 lentFresh c = lentWith (c .file) none-set []
@@ -59,13 +67,15 @@ lentFresh c = lentWith (c .file) none-set []
 pub record Analyzed (c : Fresh) (a : Back) : Type 0 where
   pub accepted : a .refusal ≡ 0
   pub marks : Said (λ is. a .marks ≡ marksAt is) (c .configurations)
-  pub violating : Said (λ is. (violations (programIn (lentFresh c)) ≡ is) × (a .values .violations ≡ length is)) (c .violating)
+  pub violating : Said (λ is. (violations (programIn (lentFresh c)) ≡ is)
+      × (a .values .violations ≡ length is)) (c .violating)
   pub iterations : Said (λ n. a .values .iterations ≡ n) (c .iterations)
 
 abbrev pub lentEdit : Edited → Lent
 lentEdit c = lentWith (c .file) (marksAt (c .before)) (lineBytes (c .line))
 
--- what a repair gives back is as expected: the refusal and the marks; the lines that are written stand at the start of the output, whose other bytes stay
+-- what a repair gives back is as expected: the refusal and the marks; the lines that are written stand at the start of
+-- the output, whose other bytes stay
 pub record Repaired (c : Edited) (a : Back) : Type 0 where
   pub refused : a .refusal ≡ c .refused
   pub marks : a .marks ≡ marksAt (c .after)
@@ -76,7 +86,8 @@ pub record Repaired (c : Edited) (a : Back) : Type 0 where
 pub record RepairedBoth (c : Edited) : Type 0 where
   pub forward : (a : Back) → Gives repair-forward (lentEdit c) a → Repaired c a
   pub inside-out : (a : Back) → Gives repair-inside-out (lentEdit c) a → Repaired c a
-  pub reopened : (a : Back) → Gives repair-inside-out (lentEdit c) a → Said (λ n. a .values .reanalyzed ≡ n) (c .reopened)
+  pub reopened : (a : Back) → Gives repair-inside-out (lentEdit c) a
+      → Said (λ n. a .values .reanalyzed ≡ n) (c .reopened)
 
 abbrev pub Holds : Case → Type 0
 Holds (fresh c) = (a : Back) → Gives analyze (lentFresh c) a → Analyzed c a
@@ -102,7 +113,12 @@ P2 = record { file = F; configurations = none; violating = none; iterations = so
 
 -- P3: F with no initial state: no mark, 0 iterations
 abbrev pub P3 : Fresh
-P3 = record { file = with edges ("4602" ∷ "45000B" ∷ []); configurations = some []; violating = some []; iterations = some 0 }
+P3 = record {
+  file = with edges ("4602" ∷ "45000B" ∷ []);
+  configurations = some [];
+  violating = some [];
+  iterations = some 0;
+}
 
 -- P4: F with state 0 rejecting too: the violations are 0 and 1024 only
 abbrev pub P4 : Fresh
@@ -142,7 +158,12 @@ P6 =
 
 -- P7: F with the single step 00 00 40 01, main calling itself: configuration 0 alone
 abbrev pub P7 : Fresh
-P7 = record { file = with ("5300004001" ∷ []) ("4900" ∷ "4602" ∷ "45000A" ∷ []); configurations = some (0 ∷ []); violating = some []; iterations = some 1 }
+P7 = record {
+  file = with ("5300004001" ∷ []) ("4900" ∷ "4602" ∷ "45000A" ∷ []);
+  configurations = some (0 ∷ []);
+  violating = some [];
+  iterations = some 1;
+}
 
 -- P8: adding 01 00 01 01 to what P6 leaves changes no mark
 abbrev pub P8 : Edited
@@ -168,4 +189,5 @@ P10 = record { file = F; before = ofF; line = "2D00000102"; refused = 14; after 
 -- ---- the table
 
 abbrev pub table : List Case
-table = fresh P1 ∷ fresh P2 ∷ fresh P3 ∷ fresh P4 ∷ edited P5 ∷ edited P6 ∷ fresh P7 ∷ edited P8 ∷ edited P9 ∷ edited P10 ∷ []
+table = fresh P1 ∷ fresh P2 ∷ fresh P3 ∷ fresh P4 ∷ edited P5 ∷ edited P6 ∷ fresh P7 ∷ edited P8 ∷ edited P9
+    ∷ edited P10 ∷ []

@@ -1,4 +1,5 @@
--- What is promised of the whole, in the user's words: of what is lent to the functions that are called from outside, and of what they give back.
+-- What is promised of the whole, in the user's words: of what is lent to the functions that are called from outside,
+-- and of what they give back.
 use mathlib.Core.Path.{_≡_}
 use mathlib.Core.Logic.{_↔_, _≢_, _⊎_}
 use mathlib.Core.Bool.{true, false}
@@ -51,7 +52,8 @@ pub record Acceptance (b : Lent) (a : Back) : Type 0 where
   pub its-program : (p : Program) → FileOf p (b .file) → programIn b ≡ p
   pub its-size : (p : Program) → FileOf p (b .file) → length (b .file) ≤ outputSize
 
--- ---- demand 2: the sheet marks a standing exactly when some run, each return going back to its own call, arrives there
+-- ---- demand 2: the sheet marks a standing exactly when some run, each return going back to its own call, arrives
+-- there
 
 -- of a program, and what a full analysis of its file gives back
 pub record Demand2 (p : Program) (a : Back) : Type 0 where
@@ -67,7 +69,8 @@ pub record Demand2 (p : Program) (a : Back) : Type 0 where
       ⊎ ((getD (a .marks) i 0 ≡ 0) × (¬ (Occurs p (routineOf i) (nodeOf i) (rootOf i) (stateOf i))))
   -- so many configurations are marked
   pub configurations : a .values .configurations ≡ countSet (a .marks)
-  -- and so many violations are there: exactly the configurations that occur with a state that is rejecting now, ascending
+  -- and so many violations are there: exactly the configurations that occur with a state that is rejecting now,
+  -- ascending
   pub violation-count : a .values .violations ≡ length (violations p)
   pub violating : (i : ℕ) → List·Memᴰ i (violations p) ↔ Violation p i
   pub ascending : Ascends 0 (violations p)
@@ -81,27 +84,32 @@ pub data Next (p : Program) (low : ℕ) : ℕ → Type 0 where
   least : {v : ℕ} → Violation p v → low ≤ v → ((w : ℕ) → Violation p w → low ≤ w → v ≤ w) → Next p low v
   nothing : ((w : ℕ) → Violation p w → w < low) → Next p low 4294967295
 
--- the full analysis ends with nothing pending, its iterations are the takings of the procedure, and no configuration is taken more than 129 times
+-- the full analysis ends with nothing pending, its iterations are the takings of the procedure, and no configuration is
+-- taken more than 129 times
 pub record Procedure (p : Program) (a : Back) : Type 0 where
   pub ends : analysis p .pending ≡ none-set
   pub iterations : a .values .iterations ≡ length (takenIn p)
   pub at-most : (i : ℕ) → times i (takenIn p) ≤ 129
 
--- ---- demand 3: for every list of forward and inside-out repair calls, refused ones among them, the sheet is byte for byte the one worked afresh from the
--- program as a plain reference model has it, and the refusals are the model's; and an edit that keeps a routine's pairs and calls leaves the other routines
--- alone
+-- ---- demand 3: for every list of forward and inside-out repair calls, refused ones among them, the sheet is byte for
+-- byte the one worked afresh from the
+-- program as a plain reference model has it, and the refusals are the model's; and an edit that keeps a routine's pairs
+-- and calls leaves the other routines alone
 
 -- of a file that the list begins with, the calls, and what they gave back
 pub record Demand3 (file : List ℕ) (cs : List Call) (gs : List Back) : Type 0 where
-  -- after every call of the list the refusal's number, or that there is none, is the model's; the marks are the fresh ones of the model's program; and an
-  -- accepted call has that program, written, at the start of its output and the length in its answer
+  -- after every call of the list the refusal's number, or that there is none, is the model's; the marks are the fresh
+  -- ones of the model's program; and an accepted call has that program, written, at the start of its output and the
+  -- length in its answer
   pub seen : map seen gs ≡ bookPlayed cs (readFile file .program)
-  -- the routines that an inside-out call says it has reanalyzed are those that the rules give for this edit of the program that the model had before the call
+  -- the routines that an inside-out call says it has reanalyzed are those that the rules give for this edit of the
+  -- program that the model had before the call
   pub reanalyzed : BookRoutines cs gs (readFile file .program)
-  -- where an accepted edit leaves the edited routine with the same pairs, calling each other routine in the same states, no configuration of any other
-  -- routine differs
+  -- where an accepted edit leaves the edited routine with the same pairs, calling each other routine in the same
+  -- states, no configuration of any other routine differs
   pub others : BookLeaves cs (readFile file .program)
 
--- the keeping's call that does what a forward drop did: for the file that the drop wrote, on the marks that were lent to it
+-- the keeping's call that does what a forward drop did: for the file that the drop wrote, on the marks that were lent
+-- to it
 abbrev pub keepingOf : Lent → Back → Lent
 keepingOf b a = record { file = wrote a; marks = b .marks; edit = []; output = []; work = b .work; from = 0 }

@@ -1,12 +1,13 @@
--- What the pass over a component is given (paper: a group pass depends only on its own steps, old roots, the rule and the pairs of routines it calls).
+-- What the pass over a component is given (paper: a group pass depends only on its own steps, old roots, the rule and
+-- the pairs of routines it calls).
 use Prim.Native.Nat.{ℕ}
 use mathlib.Core.Path.{_≡_}
 use mathlib.Core.Logic.{_↔_}
 use mathlib.Core.List.{List}
 use Rattle.program.specs.Program.{Program}
-use Rattle.components.specs.Components.{CallEdge}
-use Rattle.components.specs.Passes.{edgesOf}
-use Rattle.components.specs.Parts.{memberOf, Member, RootOf, ExitOf}
+use Rattle.callgraph.specs.Components.{CallEdge, memberOf, Member}
+use Rattle.components.specs.Passes.{edgesOf, ExitOf}
+use Rattle.roots.specs.Roots.{RootOf}
 
 -- two passes over the same routines, of any two programs and sheets, that are given the same
 pub record SameInputs (members : List ℕ) (p p′ : Program) (old old′ marks marks′ : List ℕ) : Type 0 where
@@ -17,4 +18,5 @@ pub record SameInputs (members : List ℕ) (p p′ : Program) (old old′ marks 
   -- the old roots of the routines of the group
   pub roots : (f r : ℕ) → Member members f → RootOf old f r ↔ RootOf old′ f r
   -- the pairs of the routines outside the group that a step of the group calls
-  pub pairs : (f g r q : ℕ) → Member members f → CallEdge p f g → ¬ (Member members g) → ExitOf marks g r q ↔ ExitOf marks′ g r q
+  pub pairs : (f g r q : ℕ) → Member members f → CallEdge p f g → ¬ (Member members g) → ExitOf marks g r q
+      ↔ ExitOf marks′ g r q

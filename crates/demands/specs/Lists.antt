@@ -1,4 +1,5 @@
--- Lists of repair calls: what each call is lent and gives back, one after the other, and what the reference model says of the list.
+-- Lists of repair calls: what each call is lent and gives back, one after the other, and what the reference model says
+-- of the list.
 use Prim.Native.Nat.{ℕ}
 use mathlib.Core.Path.{_≡_}
 use mathlib.Core.Logic.{_↔_, _≢_}
@@ -47,7 +48,8 @@ lentTo d c = record { file = d .file; marks = d .marks; edit = c .line; output =
 abbrev pub wrote : Back → List ℕ
 wrote a = take (a .values .written) (a .output)
 
--- what is kept for the next call: the marks as this one left them, and as its file a copy of what an accepted call wrote; a refused one leaves the file
+-- what is kept for the next call: the marks as this one left them, and as its file a copy of what an accepted call
+-- wrote; a refused one leaves the file
 abbrev pub after : Desk → Back → Desk
 after d a = record { file = cond (eqb (a .refusal) 0) (wrote a) (d .file); marks = a .marks }
 
@@ -90,7 +92,8 @@ bookPlayed (c ∷ cs) b = foreseen (bookRefuses b c) (bookProgram (bookCall b c)
 
 -- ---- the reanalyzed routines (paper: reopened)
 
--- by the rules, for the edit that a line says for the program that the model has; 0 where the call is refused, and for a forward one
+-- by the rules, for the edit that a line says for the program that the model has; 0 where the call is refused, and for
+-- a forward one
 abbrev pub RoutinesBy : Repair → ℕ → Program → List ℕ → ℕ → Type 0
 RoutinesBy forward n b line routines = routines ≡ 0
 RoutinesBy inside-out n b line routines = insideOutNumber (eqb n 0) (wantedEdit b line) (bookProgram b) routines
@@ -100,7 +103,8 @@ unfoldable pub BookRoutines : List Call → List Back → Program → Type 0
 BookRoutines [] [] b = Unit
 BookRoutines [] (a ∷ gs) b = ⊥
 BookRoutines (c ∷ cs) [] b = ⊥
-BookRoutines (c ∷ cs) (a ∷ gs) b = RoutinesBy (c .repair) (bookRefuses b c) b (c .line) (a .values .reanalyzed) × BookRoutines cs gs (bookCall b c)
+BookRoutines (c ∷ cs) (a ∷ gs) b = RoutinesBy (c .repair) (bookRefuses b c) b (c .line) (a .values .reanalyzed)
+    × BookRoutines cs gs (bookCall b c)
 
 -- ---- what edits leave alone
 
@@ -113,14 +117,17 @@ pub record KeepsRoutine (f : ℕ) (p p′ : Program) : Type 0 where
   pub pairs : (r q : ℕ) → Occurs p f 1 r q ↔ Occurs p′ f 1 r q
   pub calls : (g s : ℕ) → g ≢ f → Calls p (Occurs p) f g s ↔ Calls p′ (Occurs p′) f g s
 
--- where this edit leaves the edited routine with the same pairs, calling each other routine in the same states, no configuration of another routine differs
+-- where this edit leaves the edited routine with the same pairs, calling each other routine in the same states, no
+-- configuration of another routine differs
 abbrev pub LeavesOthers : EditRead → Program → Program → Type 0
 LeavesOthers (Read e) p p′ =
-    KeepsRoutine (oldEdge e .routine) p p′ → (g n r q : ℕ) → g ≢ oldEdge e .routine → Occurs p g n r q ↔ Occurs p′ g n r q
+    KeepsRoutine (oldEdge e .routine) p p′ → (g n r q : ℕ) → g ≢ oldEdge e .routine → Occurs p g n r q
+    ↔ Occurs p′ g n r q
 LeavesOthers (Refused n) p p′ = Unit
 
 -- so for each call of a list, in the model's program before the call and after it; a refused call is no edit
 unfoldable pub BookLeaves : List Call → Program → Type 0
 BookLeaves [] b = Unit
 BookLeaves (c ∷ cs) b =
-    LeavesOthers (editOf (bookRefuses b c) (wantedEdit b (c .line))) (bookProgram b) (bookProgram (bookCall b c)) × BookLeaves cs (bookCall b c)
+    LeavesOthers (editOf (bookRefuses b c) (wantedEdit b (c .line))) (bookProgram b) (bookProgram (bookCall b c))
+    × BookLeaves cs (bookCall b c)

@@ -1,38 +1,27 @@
 -- The table of refusals (paper: "Refusals by place"): for each row its case, for each function its rows in their order.
+-- The rows of the lengths (`bufferRows`) and of the marks (`foreignRow`) stand where the answers are defined.
 use Prim.Native.Nat.{ℕ, _+_}
 use mathlib.Core.Path.{_≡_}
 use mathlib.Core.Logic.{_≢_}
-use mathlib.Core.Bool.{Bool, true, false, cond, _&&_, not}
+use mathlib.Core.Bool.{Bool, true, false, _&&_, not}
 use mathlib.Core.List.{List, [], _∷_, _++_}
-use lib.Dec.{ltb, leb, eqb}
+use lib.Dec.{leb, eqb}
 use lib.ListN.{length}
-use Rattle.program.specs.Sizes.{marksSize, outputSize}
 use Rattle.text.specs.Lines.{lines, numbers, lineFrom}
 use Rattle.text.specs.declared.Line.{Line}
 use Rattle.program.specs.Program.{Program}
 use Rattle.program.specs.Frames.{size, kind}
-use Rattle.program.specs.Reading.{Progress, start, ordered, ranged, full, miscounted, after, readFile}
-use Rattle.reach.specs.Marks.{freshMarks}
-use Rattle.analysis.specs.Answers.{same}
+use Rattle.program.specs.Reading.{Progress, start, ordered, ranged, full, miscounted, after}
+use Rattle.program.specs.Checks.{Row, row, firstMet, bufferRows}
+use Rattle.program.specs.declared.Length.the-variants.{NotAsked, Of}
+use Rattle.analysis.specs.Answers.{foreignRow}
 use Rattle.edit.specs.Edits.{oldEdge, newEdge}
 use Rattle.edit.specs.EditLines.{onlyLine, badLine, outOfRange, editIn}
 use Rattle.edit.specs.Editing.{hasEdge}
 use Rattle.edit.specs.declared.Edit.{Edit}
 use Rattle.edit.specs.declared.Edit.the-variants.{Add, Drop, Replace}
-use Rattle.desk.specs.Entries.{Entry, read, write, analyze, next-violation, prune, repair-forward, repair-inside-out, Lent}
-
--- a row of the table: its number, and whether its case is met
-pub record Row : Type 0 where
-  pub number : ℕ
-  pub met : Bool
-
-abbrev row : ℕ → Bool → Row
-row n t = record { number = n; met = t }
-
--- the number of the first row that is met; 0 where none is
-unfoldable pub firstMet : List Row → ℕ
-firstMet [] = 0
-firstMet (r ∷ rs) = cond (r .met) (r .number) (firstMet rs)
+use Rattle.desk.specs.Entries.{Entry, read, write, analyze, next-violation, prune, repair-forward, repair-inside-out}
+use Rattle.desk.specs.Entries.{Lent, programIn}
 
 -- ---- a file
 
@@ -58,14 +47,16 @@ lineRows s l =
 abbrev pub lineNumber : Progress → List ℕ → ℕ
 lineNumber s l = firstMet (lineRows s (lineFrom (numbers l)))
 
--- the refusal of a file, after some frames: a number at a line. The first faulty line decides, in it the lowest number; a line after the end is 8, before 1 to 7
+-- the refusal of a file, after some frames: a number at a line. The first faulty line decides, in it the lowest number;
+-- a line after the end is 8, before 1 to 7
 pub data Faulty : Progress → List (List ℕ) → ℕ → ℕ → Type 0 where
   -- the input ends without an end frame
   unended : {s : Progress} → s .ended ≡ false → Faulty s [] 8 (s .frames + 1)
   -- a line follows the end frame
   after-end : {s : Progress} {l : List ℕ} {ls : List (List ℕ)} → s .ended ≡ true → Faulty s (l ∷ ls) 8 (s .frames + 1)
   -- this line meets a row
-  here : {s : Progress} {l : List ℕ} {ls : List (List ℕ)} → s .ended ≡ false → lineNumber s l ≢ 0 → Faulty s (l ∷ ls) (lineNumber s l) (s .frames + 1)
+  here : {s : Progress} {l : List ℕ} {ls : List (List ℕ)} → s .ended ≡ false → lineNumber s l ≢ 0
+      → Faulty s (l ∷ ls) (lineNumber s l) (s .frames + 1)
   -- it meets none, and a later line decides
   later : {s : Progress} {l : List ℕ} {ls : List (List ℕ)} {n line : ℕ} → s .ended ≡ false → lineNumber s l ≡ 0
       → Faulty (after s (lineFrom (numbers l))) ls n line → Faulty s (l ∷ ls) n line
@@ -99,34 +90,24 @@ editRows p l =
     ∷ row 16 (adds (editIn l) && leb 256 (length (p .edges)))
     ∷ []
 
--- ---- the other rows
-
--- the marks do not have 16,384 bytes
-abbrev pub marksRow : Lent → Row
-marksRow b = row 9 (not (eqb (length (b .marks)) marksSize))
-
--- the output has under 5,328 bytes
-abbrev pub outputRow : Lent → Row
-outputRow b = row 10 (ltb (length (b .output)) outputSize)
-
--- the working buffer does not have 16,384 bytes
-abbrev pub workRow : Lent → Row
-workRow b = row 11 (not (eqb (length (b .work)) marksSize))
-
--- any byte differs from the program's own marks
-abbrev pub foreignRow : Lent → Row
-foreignRow b = row 17 (not (same (b .marks) (freshMarks (readFile (b .file) .program))))
+-- ---- what a function checks after the file: the lengths of its buffers (9 to 11), an edit line (12 to 16), the marks
+-- (17)
 
 abbrev pub repairRows : Lent → List Row
-repairRows b = marksRow b ∷ outputRow b ∷ workRow b ∷ (editRows (readFile (b .file) .program) (onlyLine (b .edit)) ++ foreignRow b ∷ [])
+repairRows b =
+    bufferRows (Of (length (b .marks))) (Of (length (b .output))) (Of (length (b .work)))
+    ++ (editRows (programIn b) (onlyLine (b .edit)) ++ foreignRow (programIn b) (b .marks) ∷ [])
 
--- what a function checks after the file
+-- of functions that are lent marks and a working buffer
+abbrev pub marksRows : Lent → List Row
+marksRows b = bufferRows (Of (length (b .marks))) NotAsked (Of (length (b .work)))
+
 abbrev pub rows : Entry → Lent → List Row
 rows read b = []
-rows write b = outputRow b ∷ []
-rows analyze b = marksRow b ∷ workRow b ∷ []
-rows prune b = marksRow b ∷ workRow b ∷ []
-rows next-violation b = marksRow b ∷ workRow b ∷ foreignRow b ∷ []
+rows write b = bufferRows NotAsked (Of (length (b .output))) NotAsked
+rows analyze b = marksRows b
+rows prune b = marksRows b
+rows next-violation b = marksRows b ++ foreignRow (programIn b) (b .marks) ∷ []
 rows repair-forward b = repairRows b
 rows repair-inside-out b = repairRows b
 

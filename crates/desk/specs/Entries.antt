@@ -4,12 +4,14 @@ use mathlib.Core.Path.{_≡_}
 use mathlib.Core.Bool.{Bool, true, false}
 use mathlib.Core.List.{List}
 use lib.Dec.{eqb}
-use lib.ListN.{length}
 use Rattle.program.specs.Program.{Program}
 use Rattle.program.specs.Reading.{refusal, refusalLine, readFile}
 use Rattle.program.specs.declared.Verdict.{Verdict}
-use Rattle.writer.specs.Answers.{writeAnswer, outputAfter, refusal as writeRefusal, refusalLine as writeLine, writtenLength}
-use Rattle.analysis.specs.Answers.{checked, analyzeAnswer, marksAfter, workAfter, analyzeRefusal, analyzeLine, configurationCount, violationCount, iterationCount, nextAnswer, nextRefusal, nextLine, nextFound}
+use Rattle.writer.specs.Answers.{writeAnswer, outputAfter, refusal as writeRefusal, refusalLine as writeLine}
+use Rattle.writer.specs.Answers.{writtenLength}
+use Rattle.analysis.specs.Answers.{checkedMarks, analyzeAnswer, marksAfter, workAfter, analyzeRefusal, analyzeLine}
+use Rattle.analysis.specs.Answers.{configurationCount, violationCount, iterationCount, nextAnswer, nextRefusal}
+use Rattle.analysis.specs.Answers.{nextLine, nextFound}
 use Rattle.writer.specs.declared.WriteAnswer.{WriteAnswer}
 use Rattle.analysis.specs.declared.AnalyzeAnswer.{AnalyzeAnswer}
 use Rattle.analysis.specs.declared.NextAnswer.{NextAnswer}
@@ -49,7 +51,8 @@ pub record Values : Type 0 where
   -- the reanalyzed routines (paper: reopened), bit f for routine f
   pub reanalyzed : ℕ
 
--- what is given back: the refusal's number (0: none) and line, the other numbers, and the lent buffers that may change, as they are afterwards
+-- what is given back: the refusal's number (0: none) and line, the other numbers, and the lent buffers that may change,
+-- as they are afterwards
 pub record Back : Type 0 where
   pub refusal : ℕ
   pub line : ℕ
@@ -80,7 +83,14 @@ abbrev pub finding : ℕ → Values
 finding i = record { written = 0; configurations = 0; violations = 0; iterations = 0; found = i; reanalyzed = 0 }
 
 abbrev pub repairing : ℕ → ℕ → Values
-repairing size routines = record { written = size; configurations = 0; violations = 0; iterations = 0; found = 0; reanalyzed = routines }
+repairing size routines = record {
+  written = size;
+  configurations = 0;
+  violations = 0;
+  iterations = 0;
+  found = 0;
+  reanalyzed = routines;
+}
 
 abbrev pub writing : ℕ → Values
 writing size = repairing size 0
@@ -88,10 +98,24 @@ writing size = repairing size 0
 -- ---- what each function promises: every number and every lent byte; a buffer that it does not have is not changed
 
 abbrev pub readBack : Lent → Verdict → Back
-readBack b v = record { refusal = refusal v; line = refusalLine v; values = noValues; marks = b .marks; output = b .output; work = b .work }
+readBack b v = record {
+  refusal = refusal v;
+  line = refusalLine v;
+  values = noValues;
+  marks = b .marks;
+  output = b .output;
+  work = b .work;
+}
 
 abbrev pub writeBack : Lent → WriteAnswer → List ℕ → Back
-writeBack b r output = record { refusal = writeRefusal r; line = writeLine r; values = writing (writtenLength r); marks = b .marks; output = output; work = b .work }
+writeBack b r output = record {
+  refusal = writeRefusal r;
+  line = writeLine r;
+  values = writing (writtenLength r);
+  marks = b .marks;
+  output = output;
+  work = b .work;
+}
 
 abbrev pub analyzeBack : Lent → AnalyzeAnswer → List ℕ → List ℕ → Back
 analyzeBack b r marks work =
@@ -105,10 +129,24 @@ analyzeBack b r marks work =
     }
 
 abbrev pub nextBack : Lent → NextAnswer → List ℕ → Back
-nextBack b r work = record { refusal = nextRefusal r; line = nextLine r; values = finding (nextFound r); marks = b .marks; output = b .output; work = work }
+nextBack b r work = record {
+  refusal = nextRefusal r;
+  line = nextLine r;
+  values = finding (nextFound r);
+  marks = b .marks;
+  output = b .output;
+  work = work;
+}
 
 abbrev pub pruneBack : Lent → Verdict → List ℕ → List ℕ → Back
-pruneBack b v marks work = record { refusal = refusal v; line = refusalLine v; values = noValues; marks = marks; output = b .output; work = work }
+pruneBack b v marks work = record {
+  refusal = refusal v;
+  line = refusalLine v;
+  values = noValues;
+  marks = marks;
+  output = b .output;
+  work = work;
+}
 
 abbrev pub repairBack : After → ℕ → Back
 repairBack a routines =
@@ -128,11 +166,14 @@ abbrev pub Gives : Entry → Lent → Back → Type 0
 Gives read b a = a ≡ readBack b (readFile (b .file) .verdict)
 Gives write b a = a ≡ writeBack b (writeAnswer (b .file) (b .output)) (outputAfter (b .file) (b .output))
 Gives analyze b a =
-    a ≡ analyzeBack b (analyzeAnswer (b .file) (b .marks) (b .work)) (marksAfter (b .file) (b .marks) (b .work)) (workAfter (b .file) (b .marks) (b .work))
-Gives next-violation b a = a ≡ nextBack b (nextAnswer (b .file) (b .marks) (b .work) (b .from)) (workAfter (b .file) (b .marks) (b .work))
+    a ≡ analyzeBack b (analyzeAnswer (b .file) (b .marks) (b .work)) (marksAfter (b .file) (b .marks) (b .work))
+    (workAfter (b .file) (b .marks) (b .work))
+Gives next-violation b a = a ≡ nextBack b (nextAnswer (b .file) (b .marks) (b .work) (b .from))
+    (workAfter (b .file) (b .marks) (b .work))
 Gives prune b a =
-    (a ≡ pruneBack b (checked (b .file) (length (b .marks)) (length (b .work))) (a .marks) (workAfter (b .file) (b .marks) (b .work)))
-    × Pruned (checked (b .file) (length (b .marks)) (length (b .work))) (programIn b) (b .marks) (a .marks)
+    (a ≡ pruneBack b (checkedMarks (b .file) (b .marks) (b .work)) (a .marks)
+    (workAfter (b .file) (b .marks) (b .work)))
+    × Pruned (checkedMarks (b .file) (b .marks) (b .work)) (programIn b) (b .marks) (a .marks)
 Gives repair-forward b a = a ≡ repairBack (repaired (b .file) (b .marks) (b .edit) (b .output) (b .work)) 0
 Gives repair-inside-out b a =
     (a ≡ repairBack (repaired (b .file) (b .marks) (b .edit) (b .output) (b .work)) (a .values .reanalyzed))

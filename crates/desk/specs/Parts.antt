@@ -1,4 +1,5 @@
--- What the private functions of the desk ask: that the numbers of an answer fit 32 bits. Nothing here has to be believed.
+-- What the private functions of the desk ask: that the numbers of an answer fit 32 bits. Nothing here has to be
+-- believed.
 use Prim.Native.Nat.{_<_, _^_}
 use Rattle.program.specs.Reading.{refusalLine}
 use Rattle.program.specs.declared.Verdict.{Verdict}
@@ -15,7 +16,8 @@ abbrev pub WriteFits : WriteAnswer → Type 0
 WriteFits a = (writeLine a < 2 ^ 32) × (writtenLength a < 2 ^ 32)
 
 abbrev pub AnalyzeFits : AnalyzeAnswer → Type 0
-AnalyzeFits a = (analyzeLine a < 2 ^ 32) × (configurationCount a < 2 ^ 32) × (violationCount a < 2 ^ 32) × (iterationCount a < 2 ^ 32)
+AnalyzeFits a = (analyzeLine a < 2 ^ 32) × (configurationCount a < 2 ^ 32) × (violationCount a < 2 ^ 32)
+    × (iterationCount a < 2 ^ 32)
 
 abbrev pub NextFits : NextAnswer → Type 0
 NextFits a = (nextLine a < 2 ^ 32) × (nextFound a < 2 ^ 32)

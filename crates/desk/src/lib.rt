@@ -8,9 +8,11 @@ ghost use mathlib.Core.Path.{_≡_};
 ghost use mathlib.Core.List.{[]};
 ghost use Rattle.program.specs.Reading.{refusal, refusalLine};
 ghost use Rattle.writer.specs.Answers.{refusal as writeRefusal, refusalLine as writeLine, writtenLength};
-ghost use Rattle.analysis.specs.Answers.{analyzeRefusal, analyzeLine, configurationCount, violationCount, iterationCount, nextRefusal, nextLine, nextFound};
+ghost use Rattle.analysis.specs.Answers.{analyzeRefusal, analyzeLine, configurationCount, violationCount};
+ghost use Rattle.analysis.specs.Answers.{iterationCount, nextRefusal, nextLine, nextFound};
 ghost use Rattle.repair.specs.Repairs.{reanalyzed as reanalyzedNumber};
-ghost use Rattle.desk.specs.Entries.{Gives, read, write, analyze, next-violation, prune, repair-forward, repair-inside-out, noValues, writing, counts, finding, repairing};
+ghost use Rattle.desk.specs.Entries.{Gives, read, write, analyze, next-violation, prune, repair-forward};
+ghost use Rattle.desk.specs.Entries.{repair-inside-out, noValues, writing, counts, finding, repairing};
 ghost use Rattle.desk.specs.Parts.{VerdictFits, WriteFits, AnalyzeFits, NextFits};
 
 struct VerdictNumbers {
@@ -38,7 +40,14 @@ fn verdict_numbers(v: Verdict) -> VerdictNumbers
 // Is this file accepted? The line of its refusal is set.
 #[no_mangle]
 pub extern "C" fn palthrenni_read(file: &[u8], line: &mut u32) -> u32
-    ensures { λ r. ⌜ Gives read (record { file = now (file .entry); marks = []; edit = []; output = []; work = []; from = 0 })
+    ensures { λ r. ⌜ Gives read (record {
+      file = now (file .entry);
+      marks = [];
+      edit = [];
+      output = [];
+      work = [];
+      from = 0;
+    })
         (record { refusal = r; line = now (line .exit); values = noValues; marks = []; output = []; work = [] }) ⌝ }
 {
     let r = reader::read(file);
@@ -73,7 +82,8 @@ fn write_numbers(a: WriteAnswer) -> WriteNumbers
     }
 }
 
-// Writes the program of a file at the start of the output. The line of a refusal and the count of bytes written are set.
+// Writes the program of a file at the start of the output. The line of a refusal and the count of bytes written are
+// set.
 #[no_mangle]
 pub extern "C" fn palthrenni_write(
     file: &[u8],
@@ -81,8 +91,22 @@ pub extern "C" fn palthrenni_write(
     line: &mut u32,
     written: &mut u32,
 ) -> u32
-    ensures { λ r. ⌜ Gives write (record { file = now (file .entry); marks = []; edit = []; output = now (output .entry); work = []; from = 0 })
-        (record { refusal = r; line = now (line .exit); values = writing (now (written .exit)); marks = []; output = now (output .exit); work = [] }) ⌝ }
+    ensures { λ r. ⌜ Gives write (record {
+      file = now (file .entry);
+      marks = [];
+      edit = [];
+      output = now (output .entry);
+      work = [];
+      from = 0;
+    })
+        (record {
+          refusal = r;
+          line = now (line .exit);
+          values = writing (now (written .exit));
+          marks = [];
+          output = now (output .exit);
+          work = [];
+        }) ⌝ }
 {
     let a = writer::write(file, output);
     let numbers = write_numbers(a);
@@ -102,7 +126,9 @@ struct AnalyzeNumbers {
 // There are 16,384 configurations and at most 2,113,536 iterations, so that each count fits.
 fn analyze_numbers(a: AnalyzeAnswer) -> AnalyzeNumbers
     requires { ⌜ AnalyzeFits a ⌝ }
-    ensures { λ r. ⌜ (r .refusal ≡ analyzeRefusal a) × (r .line ≡ analyzeLine a) × (r .configurations ≡ configurationCount a) × (r .violations ≡ violationCount a) × (r .iterations ≡ iterationCount a) ⌝ }
+    ensures { λ r. ⌜ (r .refusal ≡ analyzeRefusal a) × (r .line ≡ analyzeLine a)
+        × (r .configurations ≡ configurationCount a) × (r .violations ≡ violationCount a)
+        × (r .iterations ≡ iterationCount a) ⌝ }
 {
     match a {
         AnalyzeAnswer::Counts(c, v, i) => AnalyzeNumbers {
@@ -122,7 +148,8 @@ fn analyze_numbers(a: AnalyzeAnswer) -> AnalyzeNumbers
     }
 }
 
-// Sets the marks of all reachable configurations of a file's program. The line of a refusal and the three counts are set.
+// Sets the marks of all reachable configurations of a file's program. The line of a refusal and the three counts are
+// set.
 #[no_mangle]
 pub extern "C" fn palthrenni_analyze(
     file: &[u8],
@@ -133,7 +160,14 @@ pub extern "C" fn palthrenni_analyze(
     violations: &mut u32,
     iterations: &mut u32,
 ) -> u32
-    ensures { λ r. ⌜ Gives analyze (record { file = now (file .entry); marks = now (marks .entry); edit = []; output = []; work = now (work .entry); from = 0 })
+    ensures { λ r. ⌜ Gives analyze (record {
+      file = now (file .entry);
+      marks = now (marks .entry);
+      edit = [];
+      output = [];
+      work = now (work .entry);
+      from = 0;
+    })
         (record {
           refusal = r;
           line = now (line .exit);
@@ -191,8 +225,22 @@ pub extern "C" fn palthrenni_next_violation(
     line: &mut u32,
     found: &mut u32,
 ) -> u32
-    ensures { λ r. ⌜ Gives next-violation (record { file = now (file .entry); marks = now (marks .entry); edit = []; output = []; work = now (work .entry); from = from })
-        (record { refusal = r; line = now (line .exit); values = finding (now (found .exit)); marks = now (marks .entry); output = []; work = now (work .exit) }) ⌝ }
+    ensures { λ r. ⌜ Gives next-violation (record {
+      file = now (file .entry);
+      marks = now (marks .entry);
+      edit = [];
+      output = [];
+      work = now (work .entry);
+      from = from;
+    })
+        (record {
+          refusal = r;
+          line = now (line .exit);
+          values = finding (now (found .exit));
+          marks = now (marks .entry);
+          output = [];
+          work = now (work .exit);
+        }) ⌝ }
 {
     let a = analysis::next_violation(file, marks, work, from as usize);
     let numbers = next_numbers(a);
@@ -201,7 +249,8 @@ pub extern "C" fn palthrenni_next_violation(
     numbers.refusal
 }
 
-// Of the marks those stay that have support back to a start through marked configurations. The line of a refusal is set.
+// Of the marks those stay that have support back to a start through marked configurations. The line of a refusal is
+// set.
 #[no_mangle]
 pub extern "C" fn palthrenni_prune(
     file: &[u8],
@@ -209,8 +258,22 @@ pub extern "C" fn palthrenni_prune(
     work: &mut [u8],
     line: &mut u32,
 ) -> u32
-    ensures { λ r. ⌜ Gives prune (record { file = now (file .entry); marks = now (marks .entry); edit = []; output = []; work = now (work .entry); from = 0 })
-        (record { refusal = r; line = now (line .exit); values = noValues; marks = now (marks .exit); output = []; work = now (work .exit) }) ⌝ }
+    ensures { λ r. ⌜ Gives prune (record {
+      file = now (file .entry);
+      marks = now (marks .entry);
+      edit = [];
+      output = [];
+      work = now (work .entry);
+      from = 0;
+    })
+        (record {
+          refusal = r;
+          line = now (line .exit);
+          values = noValues;
+          marks = now (marks .exit);
+          output = [];
+          work = now (work .exit);
+        }) ⌝ }
 {
     let v = prune::prune(file, marks, work);
     let numbers = verdict_numbers(v);
@@ -218,8 +281,8 @@ pub extern "C" fn palthrenni_prune(
     numbers.refusal
 }
 
-// The forward repair: the marks become those of the edited program, which is written. The line of a refusal and the count
-// of bytes written are set.
+// The forward repair: the marks become those of the edited program, which is written. The line of a refusal and the
+// count of bytes written are set.
 #[no_mangle]
 pub extern "C" fn palthrenni_repair_forward(
     file: &[u8],
@@ -230,8 +293,22 @@ pub extern "C" fn palthrenni_repair_forward(
     line: &mut u32,
     written: &mut u32,
 ) -> u32
-    ensures { λ r. ⌜ Gives repair-forward (record { file = now (file .entry); marks = now (marks .entry); edit = now (edit .entry); output = now (output .entry); work = now (work .entry); from = 0 })
-        (record { refusal = r; line = now (line .exit); values = writing (now (written .exit)); marks = now (marks .exit); output = now (output .exit); work = now (work .exit) }) ⌝ }
+    ensures { λ r. ⌜ Gives repair-forward (record {
+      file = now (file .entry);
+      marks = now (marks .entry);
+      edit = now (edit .entry);
+      output = now (output .entry);
+      work = now (work .entry);
+      from = 0;
+    })
+        (record {
+          refusal = r;
+          line = now (line .exit);
+          values = writing (now (written .exit));
+          marks = now (marks .exit);
+          output = now (output .exit);
+          work = now (work .exit);
+        }) ⌝ }
 {
     let a = repair::repair_forward(file, marks, edit, output, work);
     let numbers = write_numbers(a);
@@ -261,7 +338,14 @@ pub extern "C" fn palthrenni_repair_inside_out(
     written: &mut u32,
     reanalyzed: &mut u32,
 ) -> u32
-    ensures { λ r. ⌜ Gives repair-inside-out (record { file = now (file .entry); marks = now (marks .entry); edit = now (edit .entry); output = now (output .entry); work = now (work .entry); from = 0 })
+    ensures { λ r. ⌜ Gives repair-inside-out (record {
+      file = now (file .entry);
+      marks = now (marks .entry);
+      edit = now (edit .entry);
+      output = now (output .entry);
+      work = now (work .entry);
+      from = 0;
+    })
         (record {
           refusal = r;
           line = now (line .exit);

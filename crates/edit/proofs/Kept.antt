@@ -8,9 +8,11 @@ use lib.Dec.{ltb, leb, eqb}
 use lib.ListN.{length}
 use borrow.Author.Tests.{ltb-true, ltb-false, leb-false, eqb-true, eqb-false, eq-eqb, not-true}
 use Rattle.text.specs.Lines.{Bytes}
+use Rattle.program.specs.Sizes.{maxEdges}
 use Rattle.program.specs.Program.{Edge, Program, edgeFits}
 use Rattle.program.specs.Frames.{edgeKey, edgeFrame}
-use Rattle.program.specs.WellFormed.{All, Ascending, WellFormed}
+use Rattle.program.specs.WellFormed.{All, WellFormed}
+use Rattle.tables.specs.Keys.{Ascending}
 use Rattle.base.proofs.Bools.{both, and-false, neither, or-swap}
 use Rattle.program.proofs.Bytes.{edge-bytes}
 use Rattle.edit.specs.Edits.{oldEdge, newEdge}
@@ -189,7 +191,7 @@ module _ (p : Program) (w : WellFormed p) where
       other true k z = absurd (let s = same-key e x (edge-bytes p w e f) (edge-bytes p w x (a .0)) (eqb-true _ _ k) in let z : _≡_ {A = ℕ} 0 1 = cc in omega arith)
       other false k z = refl
 
-  with-edges : (es : List Edge) → All (edgeFits p) es → Ascending 0 (map edgeKey es) → length es ≤ 256 → WellFormed (withEdges p es)
+  with-edges : (es : List Edge) → All (edgeFits p) es → Ascending 0 (map edgeKey es) → length es ≤ maxEdges → WellFormed (withEdges p es)
   with-edges es a s n =
       record {
         counts-fit = w .counts-fit;
@@ -207,7 +209,7 @@ module _ (p : Program) (w : WellFormed p) where
         rejecting-ascend = w .rejecting-ascend;
       }
 
-  with-inserted : (e : Edge) (es : List Edge) → edgeFits p e ≡ true → hasEdge e es ≡ false → All (edgeFits p) es → Ascending 0 (map edgeKey es) → length es < 256
+  with-inserted : (e : Edge) (es : List Edge) → edgeFits p e ≡ true → hasEdge e es ≡ false → All (edgeFits p) es → Ascending 0 (map edgeKey es) → length es < maxEdges
       → WellFormed (withEdges p (inserted e es))
   with-inserted e es f h a s n =
       with-edges (inserted e es)
@@ -245,8 +247,8 @@ pub edited-well-formed : (e : Edit) (p : Program) → WellFormed p → edgeFits 
     → WellFormed (editedProgram e p)
 unfolding editedProgram
 edited-well-formed (Add s) p w f g h =
-    let z = added (hasEdge (newEdge (Add s)) (p .edges)) (leb 256 (length (p .edges))) h in
-    with-inserted p w (newEdge (Add s)) (p .edges) g (z .0) (w .edges-fit) (w .edges-ascend) (leb-false 256 (length (p .edges)) (z .1))
+    let z = added (hasEdge (newEdge (Add s)) (p .edges)) (leb maxEdges (length (p .edges))) h in
+    with-inserted p w (newEdge (Add s)) (p .edges) g (z .0) (w .edges-fit) (w .edges-ascend) (leb-false maxEdges (length (p .edges)) (z .1))
 edited-well-formed (Drop s) p w f g h = with-dropped p w (oldEdge (Drop s))
 edited-well-formed (Replace s l) p w f g h =
     let z = replaced (hasEdge (oldEdge (Replace s l)) (p .edges)) (hasEdge (newEdge (Replace s l)) (p .edges)) h in

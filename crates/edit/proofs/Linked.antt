@@ -2,50 +2,31 @@
 use mathlib.Core.Path.{_≡_, refl, ap, sym, _∙_}
 use mathlib.Core.Bool.{Bool, true, false, cond}
 use mathlib.Core.List.{List, [], _∷_, map}
-use Prim.Native.Nat.{ℕ, _/_, _%_, _<_}
+use Prim.Native.Nat.{ℕ}
 use native.Mathlib.Omega.{arith}
 use lib.Dec.{ltb, eqb}
 use borrow.Author.Tests.{ltb-true, ltb-false, eqb-true, eqb-false, lt-ltb, le-ltb, eq-eqb, ne-eqb}
-use Rattle.text.specs.Lines.{Bytes}
-use Rattle.automaton.specs.Automaton.{member}
+use Rattle.tables.specs.Keys.{member, insertedKey, withoutKey}
 use Rattle.program.specs.Program.{Edge}
-use Rattle.program.specs.Frames.{packed, edgeKey, edgeFrame}
+use Rattle.program.specs.Frames.{packed, edgeKey}
 use Rattle.program.specs.Decoded.{edgeOf}
 use Rattle.edit.specs.Editing.{sameEdge, hasEdge, without, inserted}
-use Rattle.edit.specs.Tables.{insertedKey, withoutKey, wordOf}
-use Rattle.edit.proofs.Kept.{same-self, same-equal, equal-parts}
-
--- ---- one key
-
--- the parts of a number in base 256
-parts : (k : ℕ) → packed (k / 0x1000000) (k / 0x10000 % 256) (k / 0x100 % 256) (k % 256) ≡ k
-parts k = omega arith
-
-pub word-edge : (k : ℕ) → wordOf (edgeOf k) ≡ k
-word-edge k = parts k
-
-module _ (a b c d : ℕ) (f : a < 256) (g : b < 256) (h : c < 256) (i : d < 256) where
-  edge-packed : edgeOf (packed a b c d) ≡ record { routine = a; source = b; label = c; target = d }
-  edge-packed = equal-parts _ _ _ _ _ _ _ _ (omega arith) (omega arith) (omega arith) (omega arith)
-
-  packed-small : packed a b c d < 0x100000000
-  packed-small = omega arith
-
-module _ (e : Edge) (b : Bytes (edgeFrame e)) where
-  pub edge-word : edgeOf (wordOf e) ≡ e
-  edge-word = edge-packed (e .routine) (e .source) (e .label) (e .target) (omega (arith, b)) (omega (arith, b)) (omega (arith, b)) (omega (arith, b))
-
-  -- it fits the table
-  pub word-small : wordOf e < 0x100000000
-  word-small = packed-small (e .routine) (e .source) (e .label) (e .target) (omega (arith, b)) (omega (arith, b)) (omega (arith, b)) (omega (arith, b))
+use Rattle.edit.proofs.Kept.{same-self, same-equal}
 
 -- ---- two keys
+
+-- the number of an edge's parts, in base 256
+abbrev word : Edge → ℕ
+word e = packed (e .routine) (e .source) (e .label) (e .target)
+
+word-edge : (k : ℕ) → word (edgeOf k) ≡ k
+word-edge k = omega arith
 
 same-word : (a b : ℕ) → sameEdge (edgeOf a) (edgeOf b) ≡ eqb a b
 same-word a b = go (eqb a b) refl
   where
     apart : (t : Bool) → sameEdge (edgeOf a) (edgeOf b) ≡ t → (a ≡ b → ⊥) → t ≡ false
-    apart true e n = absurd (n (sym (word-edge a) ∙ ap wordOf (same-equal (edgeOf a) (edgeOf b) e) ∙ word-edge b))
+    apart true e n = absurd (n (sym (word-edge a) ∙ ap word (same-equal (edgeOf a) (edgeOf b) e) ∙ word-edge b))
     apart false e n = refl
 
     go : (t : Bool) → eqb a b ≡ t → sameEdge (edgeOf a) (edgeOf b) ≡ t
@@ -56,8 +37,8 @@ below-word : (a b : ℕ) → ltb (edgeKey (edgeOf a)) (edgeKey (edgeOf b)) ≡ l
 below-word a b = go (ltb a b) refl
   where
     go : (t : Bool) → ltb a b ≡ t → ltb (edgeKey (edgeOf a)) (edgeKey (edgeOf b)) ≡ t
-    go true e = lt-ltb (edgeKey (edgeOf a)) (edgeKey (edgeOf b)) (omega (arith, ltb-true a b e, parts a, parts b))
-    go false e = le-ltb (edgeKey (edgeOf a)) (edgeKey (edgeOf b)) (omega (arith, ltb-false a b e, parts a, parts b))
+    go true e = lt-ltb (edgeKey (edgeOf a)) (edgeKey (edgeOf b)) (omega (arith, ltb-true a b e, word-edge a, word-edge b))
+    go false e = le-ltb (edgeKey (edgeOf a)) (edgeKey (edgeOf b)) (omega (arith, ltb-false a b e, word-edge a, word-edge b))
 
 eqb-swap : (a b : ℕ) → eqb a b ≡ eqb b a
 eqb-swap a b = go (eqb b a) refl
@@ -95,14 +76,3 @@ module _ (key : ℕ) where
           ≡ cond b (without (edgeOf key) (map edgeOf ks)) (edgeOf k ∷ without (edgeOf key) (map edgeOf ks))
       go true h = h
       go false h = rw h
-
--- the same for an edge of bytes
-module _ (e : Edge) (b : Bytes (edgeFrame e)) (ks : List ℕ) where
-  pub word-member : member (wordOf e) ks ≡ hasEdge e (map edgeOf ks)
-  word-member = edges-member (wordOf e) ks ∙ ap (λ (d : Edge). hasEdge d (map edgeOf ks)) (edge-word e b)
-
-  pub word-inserted : map edgeOf (insertedKey (wordOf e) ks) ≡ inserted e (map edgeOf ks)
-  word-inserted = edges-inserted (wordOf e) ks ∙ ap (λ (d : Edge). inserted d (map edgeOf ks)) (edge-word e b)
-
-  pub word-without : map edgeOf (withoutKey (wordOf e) ks) ≡ without e (map edgeOf ks)
-  word-without = edges-without (wordOf e) ks ∙ ap (λ (d : Edge). without d (map edgeOf ks)) (edge-word e b)

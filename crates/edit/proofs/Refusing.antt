@@ -8,6 +8,7 @@ use lib.Dec.{ltb, leb, eqb}
 use lib.ListN.{length, getD, take, length-map, length-take}
 use borrow.Author.Tests.{ltb-false, leb-true, leb-false, le-leb, lt-leb, eqb-true, not-false}
 use Rattle.text.specs.declared.Line.{Line}
+use Rattle.program.specs.Sizes.{maxEdges, firstCall}
 use Rattle.program.specs.Program.{Edge, Program, edgeFits, labelFits, placed}
 use Rattle.program.specs.Frames.{num}
 use Rattle.program.specs.Decoded.{edgeOf}
@@ -17,7 +18,7 @@ use Rattle.program.proofs.Bytes.{edge-bytes}
 use Rattle.edit.specs.Edits.{labelOf, labelNumber, labelled, edgeOfStep, oldEdge, newEdge}
 use Rattle.edit.specs.EditLines.{onlyLine, badLine, outOfRange, stepIn, editIn, editFrom, readEdit}
 use Rattle.edit.specs.Editing.{sameEdge, hasEdge, without, editRefusal, wantedBy, Applies}
-use Rattle.edit.specs.Tables.{Keyed, KeyedRead, refusalBy}
+use Rattle.edit.specs.Parts.{Keyed, KeyedRead, refusalBy}
 use Rattle.edit.specs.declared.Label.{Label}
 use Rattle.edit.specs.declared.Label.the-variants.{Action, Call}
 use Rattle.edit.specs.declared.Step.{Step}
@@ -32,11 +33,11 @@ use Rattle.base.proofs.Bools.{neither, and-false}
 
 -- the label of a number has that number
 label-number : (a : ℕ) → labelNumber (labelOf a) ≡ a
-label-number a = go (ltb a 0x40) refl
+label-number a = go (ltb a firstCall) refl
   where
-    go : (b : Bool) → ltb a 0x40 ≡ b → labelNumber (cond b (Action a) (Call (a - 0x40))) ≡ a
+    go : (b : Bool) → ltb a firstCall ≡ b → labelNumber (cond b (Action a) (Call (a - firstCall))) ≡ a
     go true e = refl
-    go false e = let h = ltb-false a 0x40 e in omega arith
+    go false e = let h = ltb-false a firstCall e in omega arith
 
 -- both edges of an edit are in range
 pub record Fits (p : Program) (e : Edit) : Type 0 where
@@ -111,18 +112,18 @@ line-keyed p w line = read-keyed p w (readEdit p line) (read-fits p line)
 
 -- ---- the refusals 14 to 16
 
-pub refusal-by : (e : Edit) (es : List Edge) → refusalBy e (hasEdge (oldEdge e) es) (hasEdge (newEdge e) es) (leb 256 (length es)) ≡ editRefusal e es
+pub refusal-by : (e : Edit) (es : List Edge) → refusalBy e (hasEdge (oldEdge e) es) (hasEdge (newEdge e) es) (leb maxEdges (length es)) ≡ editRefusal e es
 refusal-by (Add s) es = refl
 refusal-by (Drop s) es = refl
 refusal-by (Replace s l) es = refl
 
 -- a table is full where its count says so
-pub full-table : (n : ℕ) (ks : List ℕ) → length ks ≡ 256 → leb 256 n ≡ leb 256 (length (map edgeOf (take n ks)))
-full-table n ks h = rw (length-map (take n ks) edgeOf, length-take n ks, h) (go (leb 256 n) refl)
+pub full-table : (n : ℕ) (ks : List ℕ) → length ks ≡ maxEdges → leb maxEdges n ≡ leb maxEdges (length (map edgeOf (take n ks)))
+full-table n ks h = rw (length-map (take n ks) edgeOf, length-take n ks, h) (go (leb maxEdges n) refl)
   where
-    go : (b : Bool) → leb 256 n ≡ b → b ≡ leb 256 (min n 256)
-    go true e = sym (le-leb 256 (min n 256) (omega (arith, leb-true 256 n e)))
-    go false e = sym (lt-leb 256 (min n 256) (omega (arith, leb-false 256 n e)))
+    go : (b : Bool) → leb maxEdges n ≡ b → b ≡ leb maxEdges (min n maxEdges)
+    go true e = sym (le-leb maxEdges (min n maxEdges) (omega (arith, leb-true maxEdges n e)))
+    go false e = sym (lt-leb maxEdges (min n maxEdges) (omega (arith, leb-false maxEdges n e)))
 
 -- an edit that is not refused
 pub judged-applies : (p : Program) (r : EditRead) (e : Edit) → FitsRead p r → wantedBy r (p .edges) ≡ Read e → Applies e p
@@ -139,12 +140,12 @@ module _ (s : Step) (l : Label) (es : List Edge) where
   pub drop-not-refused : editRefusal (Replace s l) es ≡ 0 → editRefusal (Drop s) es ≡ 0
   drop-not-refused h = rw (replaced (hasEdge (edgeOfStep s) es) (hasEdge (labelled s l) es) h .0)
 
-  pub add-not-refused : length es ≤ 256 → editRefusal (Replace s l) es ≡ 0
+  pub add-not-refused : length es ≤ maxEdges → editRefusal (Replace s l) es ≡ 0
       → editRefusal (Add (record { routine = s .routine; source = s .source; label = l; target = s .target })) (without (edgeOfStep s) es) ≡ 0
   add-not-refused n h =
       let z = replaced (hasEdge (edgeOfStep s) es) (hasEdge (labelled s l) es) h in
-      let fewer = lt-leb 256 (length (without (edgeOfStep s) es)) (omega (arith, length-dropped (edgeOfStep s) es (z .0))) in
+      let fewer = lt-leb maxEdges (length (without (edgeOfStep s) es)) (omega (arith, length-dropped (edgeOfStep s) es (z .0))) in
       rw (has-without (labelled s l) (edgeOfStep s) es, z .1, and-false (not (sameEdge (labelled s l) (edgeOfStep s))), fewer)
 
-pub room-left : (s : Step) (es : List Edge) → editRefusal (Add s) es ≡ 0 → length es < 256
-room-left s es h = leb-false 256 (length es) (added (hasEdge (edgeOfStep s) es) (leb 256 (length es)) h .1)
+pub room-left : (s : Step) (es : List Edge) → editRefusal (Add s) es ≡ 0 → length es < maxEdges
+room-left s es h = leb-false maxEdges (length es) (added (hasEdge (edgeOfStep s) es) (leb maxEdges (length es)) h .1)

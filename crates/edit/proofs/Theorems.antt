@@ -1,9 +1,10 @@
 -- What is proved of edits.
-use mathlib.Core.Path.{_≡_, refl, ap}
+use mathlib.Core.Path.{_≡_, refl}
 use mathlib.Core.List.{List}
 use Prim.Native.Nat.{ℕ, _<_}
 use lib.ListN.{length}
 use Rattle.text.specs.Lines.{Bytes}
+use Rattle.program.specs.Sizes.{maxEdges}
 use Rattle.program.specs.Program.{Program}
 use Rattle.program.specs.Frames.{edgeFrame}
 use Rattle.program.specs.WellFormed.{WellFormed}
@@ -11,7 +12,7 @@ use Rattle.program.specs.Writing.{written}
 use Rattle.program.specs.Reading.{accepted, readFile}
 use Rattle.program.proofs.Bytes.{edge-bytes}
 use Rattle.program.proofs.Theorems.{read-again}
-use Rattle.edit.specs.Edits.{edgeOfStep}
+use Rattle.edit.specs.Edits.{edgeOfStep, relabelled}
 use Rattle.edit.specs.EditLines.{readEdit}
 use Rattle.edit.specs.Editing.{inserted, without, withEdges, editedProgram, wantedEdit, Applies}
 use Rattle.edit.specs.declared.Label.{Label}
@@ -45,10 +46,6 @@ module _ (s : Step) (p : Program) where
   unfolding editedProgram
   dropped-is = refl
 
--- The step with another label.
-abbrev pub relabelled : Step → Label → Step
-relabelled s l = record { routine = s .routine; source = s .source; label = l; target = s .target }
-
 -- A replace is a drop of the step, and then an add of the step with the new label.
 pub replaced-is : (s : Step) (l : Label) (p : Program) → editedProgram (Replace s l) p ≡ editedProgram (Add (relabelled s l)) (editedProgram (Drop s) p)
 unfolding editedProgram
@@ -68,7 +65,7 @@ add-applies s l p w a =
     }
 
 -- A step that is to be added is of bytes, and there is room for it; a step that is to be dropped is of bytes.
-pub add-ready : (s : Step) (p : Program) → WellFormed p → Applies (Add s) p → Bytes (edgeFrame (edgeOfStep s)) × (length (p .edges) < 256)
+pub add-ready : (s : Step) (p : Program) → WellFormed p → Applies (Add s) p → Bytes (edgeFrame (edgeOfStep s)) × (length (p .edges) < maxEdges)
 add-ready s p w a = (edge-bytes p w (edgeOfStep s) (a .old-fits), room-left s (p .edges) (a .not-refused))
 
 pub drop-ready : (s : Step) (p : Program) → WellFormed p → Applies (Drop s) p → Bytes (edgeFrame (edgeOfStep s))

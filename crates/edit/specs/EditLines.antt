@@ -1,4 +1,5 @@
--- An edit line: exactly one line of hexadecimal. 2B f n a m adds, 2D f n a m drops, 3D f n a m b gives the step the label b.
+-- An edit line: exactly one line of hexadecimal. 2B f n a m adds, 2D f n a m drops, 3D f n a m b gives the step the
+-- label b.
 use Prim.Native.Nat.{ℕ}
 use mathlib.Core.Bool.{Bool, cond, _&&_, _||_, not}
 use mathlib.Core.List.{List, []}
@@ -34,13 +35,15 @@ badLine l = eqb (l .count) 0 || eqb (editKind l) 0 || not (eqb (l .count) (editS
 
 -- 13: the step is out of range or leaves the exit, or the new label is out of range
 abbrev pub outOfRange : Program → Line → Bool
-outOfRange p l = not (edgeFits p (edgeIn l)) || (eqb (editKind l) 3 && not (labelFits (p .routines) (p .automaton .actions) (num l 5)))
+outOfRange p l = not (edgeFits p (edgeIn l)) || (eqb (editKind l) 3
+    && not (labelFits (p .routines) (p .automaton .actions) (num l 5)))
 
 abbrev pub stepIn : Line → Step
 stepIn l = record { routine = num l 1; source = num l 2; label = labelOf (num l 3); target = num l 4 }
 
 abbrev pub editIn : Line → Edit
-editIn l = cond (eqb (editKind l) 1) (Add (stepIn l)) (cond (eqb (editKind l) 2) (Drop (stepIn l)) (Replace (stepIn l) (labelOf (num l 5))))
+editIn l = cond (eqb (editKind l) 1) (Add (stepIn l)) (cond (eqb (editKind l) 2) (Drop (stepIn l))
+    (Replace (stepIn l) (labelOf (num l 5))))
 
 unfoldable pub editFrom : Program → Line → EditRead
 editFrom p l = cond (badLine l) (Refused 12) (cond (outOfRange p l) (Refused 13) (Read (editIn l)))

@@ -1,10 +1,11 @@
 -- A program after an edit, and the refusals 12 to 16.
 use Prim.Native.Nat.{ℕ}
 use mathlib.Core.Path.{_≡_}
-use mathlib.Core.Bool.{Bool, true, false, cond, _&&_, _||_, not}
+use mathlib.Core.Bool.{Bool, true, false, cond, _&&_, _||_}
 use mathlib.Core.List.{List, [], _∷_}
 use lib.Dec.{ltb, leb, eqb}
 use lib.ListN.{length}
+use Rattle.program.specs.Sizes.{maxEdges}
 use Rattle.program.specs.Program.{Edge, Program, edgeFits}
 use Rattle.program.specs.Frames.{edgeKey}
 use Rattle.edit.specs.Edits.{oldEdge, newEdge}
@@ -17,7 +18,8 @@ use Rattle.edit.specs.declared.EditRead.the-variants.{Read, Refused}
 -- the same edge
 abbrev pub sameEdge : Edge → Edge → Bool
 sameEdge e d =
-    eqb (e .routine) (d .routine) && eqb (e .source) (d .source) && eqb (e .label) (d .label) && eqb (e .target) (d .target)
+    eqb (e .routine) (d .routine) && eqb (e .source) (d .source) && eqb (e .label) (d .label)
+    && eqb (e .target) (d .target)
 
 unfoldable pub hasEdge : Edge → List Edge → Bool
 hasEdge e [] = false
@@ -36,11 +38,13 @@ inserted e (d ∷ ds) = cond (ltb (edgeKey e) (edgeKey d)) (e ∷ d ∷ ds) (d �
 abbrev pub withEdges : Program → List Edge → Program
 withEdges p es = record { routines = p .routines; nodes = p .nodes; edges = es; automaton = p .automaton }
 
--- 14: drop or replace, and the step is not there; 15: add or replace, and the wanted step is there; 16: add, and there are 256
+-- 14: drop or replace, and the step is not there; 15: add or replace, and the wanted step is there; 16: add, and the
+-- table is full
 abbrev pub editRefusal : Edit → List Edge → ℕ
-editRefusal (Add s) es = cond (hasEdge (newEdge (Add s)) es) 15 (cond (leb 256 (length es)) 16 0)
+editRefusal (Add s) es = cond (hasEdge (newEdge (Add s)) es) 15 (cond (leb maxEdges (length es)) 16 0)
 editRefusal (Drop s) es = cond (hasEdge (oldEdge (Drop s)) es) 0 14
-editRefusal (Replace s l) es = cond (hasEdge (oldEdge (Replace s l)) es) (cond (hasEdge (newEdge (Replace s l)) es) 15 0) 14
+editRefusal (Replace s l) es = cond (hasEdge (oldEdge (Replace s l)) es)
+    (cond (hasEdge (newEdge (Replace s l)) es) 15 0) 14
 
 -- the edges after an edit that is not refused
 abbrev pub editedEdges : Edit → List Edge → List Edge

@@ -23,14 +23,24 @@ labelled s l = record { routine = s .routine; source = s .source; label = labelN
 abbrev pub edgeOfStep : Step → Edge
 edgeOfStep s = labelled s (s .label)
 
--- the edge that an edit is about: it is added, dropped or given another label
-abbrev pub oldEdge : Edit → Edge
-oldEdge (Add s) = edgeOfStep s
-oldEdge (Drop s) = edgeOfStep s
-oldEdge (Replace s l) = edgeOfStep s
+-- the step with another label
+abbrev pub relabelled : Step → Label → Step
+relabelled s l = record { routine = s .routine; source = s .source; label = l; target = s .target }
 
--- the edge that is wanted at the end of an add or a replace
+-- the step that an edit is about, and its edge: it is added, dropped or given another label
+abbrev pub oldStep : Edit → Step
+oldStep (Add s) = s
+oldStep (Drop s) = s
+oldStep (Replace s l) = s
+
+abbrev pub oldEdge : Edit → Edge
+oldEdge e = edgeOfStep (oldStep e)
+
+-- the step that is wanted at the end of an add or a replace, and its edge
+abbrev pub newStep : Edit → Step
+newStep (Add s) = s
+newStep (Drop s) = s
+newStep (Replace s l) = relabelled s l
+
 abbrev pub newEdge : Edit → Edge
-newEdge (Add s) = edgeOfStep s
-newEdge (Drop s) = edgeOfStep s
-newEdge (Replace s l) = labelled s l
+newEdge e = edgeOfStep (newStep e)

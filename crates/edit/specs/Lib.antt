@@ -1,4 +1,4 @@
 pub mod Edits
 pub mod EditLines
 pub mod Editing
-pub mod Tables
+pub mod Parts

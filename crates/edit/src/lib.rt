@@ -3,7 +3,6 @@ pub mod apply;
 mod judge;
 mod key;
 mod line;
-mod table;
 
 use judge::wanted_by;
 use line::edit_from;

@@ -4,6 +4,8 @@ use crate::EditRead;
 use crate::Label;
 use crate::Step;
 use program::DecodedProgram;
+use program::edges::called_by;
+use program::edges::is_call;
 use reader::Limits;
 use reader::frame::number;
 use reader::judge::edge_fits;
@@ -20,7 +22,8 @@ ghost use Rattle.text.specs.Lines.{lineOf};
 ghost use Rattle.program.specs.Decoded.{programOf};
 ghost use Rattle.reader.specs.Parts.{limitsOf};
 ghost use Rattle.edit.specs.Edits.{labelOf};
-ghost use Rattle.edit.specs.EditLines.{onlyLine, editKind, editSize, badLine, outOfRange, stepIn, editIn, editFrom};
+ghost use Rattle.edit.specs.EditLines.{onlyLine, editKind, editSize, badLine, outOfRange, stepIn, editIn};
+ghost use Rattle.edit.specs.EditLines.{editFrom};
 ghost use Rattle.edit.specs.declared.Edit.the-variants.{Add, Drop, Replace};
 ghost use Rattle.edit.specs.declared.EditRead.the-variants.{Read, Refused};
 
@@ -97,14 +100,13 @@ fn is_out_of_range(p: DecodedProgram, l: Line) -> bool
     outside(limits_of(p), l)
 }
 
-// Below 40 (hexadecimal) an action, from there on a call.
 fn label_of(a: u8) -> Label
     ensures { λ r. ⌜ r ≡ labelOf a ⌝ }
 {
-    if a < 0x40 {
-        return Label::Action(a);
+    if is_call(a) {
+        return Label::Call(called_by(a));
     }
-    Label::Call(a - 0x40)
+    Label::Action(a)
 }
 
 fn step_in(l: Line) -> Step

@@ -12,7 +12,8 @@ use Rattle.text.specs.Lines.{lineOf}
 use Rattle.automaton.specs.Automaton.{Transition}
 use Rattle.program.specs.Program.{Edge, Program, within, edgeFits, transitionFits}
 use Rattle.program.specs.Frames.{packed, keyOf, headerFrame, nodesFrame, edgeFrame, transitionFrame, initialFrame, rejectingFrame, endFrame, edgeKey, transitionKey, initialKey, rejectingKey}
-use Rattle.program.specs.WellFormed.{All, Ascending, WellFormed}
+use Rattle.program.specs.WellFormed.{All, WellFormed}
+use Rattle.tables.specs.Keys.{Ascending}
 use Rattle.program.specs.Writing.{nodesFrames, framesOf}
 use Rattle.program.specs.Reading.{Progress, start, accepted, judgeAs, judge, afterAs, after}
 use Rattle.program.proofs.Judged.{at-most}

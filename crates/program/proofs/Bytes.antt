@@ -9,6 +9,7 @@ use lib.ListN.{length, getD}
 use borrow.Author.Tests.{ltb-true}
 use Rattle.text.specs.Lines.{Bytes}
 use Rattle.automaton.specs.Automaton.{Transition}
+use Rattle.program.specs.Sizes.{maxFrames}
 use Rattle.program.specs.Program.{Edge, Program, within, placed, labelFits, edgeFits, transitionFits}
 use Rattle.program.specs.Frames.{edgeFrame, transitionFrame, initialFrame, rejectingFrame, endFrame}
 use Rattle.program.specs.WellFormed.{All, WellFormed}
@@ -93,5 +94,5 @@ module _ (p : Program) (w : WellFormed p) where
   pub all-bytes : Frames (framesOf p ++ endFrame (length (framesOf p)) ∷ [])
   unfolding Frames
   all-bytes =
-      let n : length (framesOf p) ≤ 545 = omega (arith, length-frames p, limit) in
+      let n : length (framesOf p) ≤ maxFrames = omega (arith, length-frames p, limit) in
       bytes-append (framesOf p) _ sections-bytes (omega arith)

@@ -1,10 +1,10 @@
 -- What the checks of a file and of the lengths say, whatever they were asked.
-use mathlib.Core.Path.{_≡_, refl, sym, _∙_}
+use mathlib.Core.Path.{_≡_, refl, _∙_}
 use mathlib.Core.Bool.{Bool, true, false, not}
 use mathlib.Core.List.{List, [], _∷_, _++_}
 use Prim.Native.Nat.{ℕ, _≤_, _<_}
 use native.Mathlib.Omega.{arith}
-use lib.Dec.{ltb, eqb}
+use lib.Dec.{eqb}
 use borrow.Author.Tests.{eqb-true, ltb-false}
 use Rattle.program.specs.Sizes.{marksSize, outputSize}
 use Rattle.program.specs.WellFormed.{WellFormed}
@@ -37,21 +37,21 @@ module _ (v : Verdict) (marks output work : Length) where
   abbrev Then : ℕ → List Row → Type 0
   Then n final = firstMet (bufferRows marks output work ++ final) ≡ n
 
-  pub data Checked : Verdict → Type 0 where
+  pub data CheckedAs : Verdict → Type 0 where
     -- nothing is refused, and what comes after the lengths decides
-    passed : v ≡ Accepted → Sized marks output work → ((final : List Row) → Then (firstMet final) final) → Checked Accepted
+    passed : v ≡ Accepted → Sized marks output work → ((final : List Row) → Then (firstMet final) final) → CheckedAs Accepted
     -- the file is refused
-    by-file : {n line : ℕ} → v ≡ Refused n line → Checked (Refused n line)
+    by-file : {n line : ℕ} → v ≡ Refused n line → CheckedAs (Refused n line)
     -- a length is refused, whatever comes after
-    by-length : {n : ℕ} → v ≡ Accepted → 9 ≤ n → n ≤ 11 → ((final : List Row) → Then n final) → Checked (Refused n 0)
+    by-length : {n : ℕ} → v ≡ Accepted → 9 ≤ n → n ≤ 11 → ((final : List Row) → Then n final) → CheckedAs (Refused n 0)
 
-pub checks : (v : Verdict) (marks output work : Length) → Checked v marks output work (checkedBy v marks output work)
+pub checks : (v : Verdict) (marks output work : Length) → CheckedAs v marks output work (checkedBy v marks output work)
 unfolding firstMet
 checks (Refused n line) marks output work = by-file refl
 checks Accepted marks output work = go (otherThan marksSize marks) refl (under outputSize output) refl (otherThan marksSize work) refl
   where
     go : (t : Bool) → otherThan marksSize marks ≡ t → (u : Bool) → under outputSize output ≡ u → (w : Bool) → otherThan marksSize work ≡ w
-        → Checked Accepted marks output work (verdictOf (firstMet (row 9 t ∷ row 10 u ∷ row 11 w ∷ [])))
+        → CheckedAs Accepted marks output work (verdictOf (firstMet (row 9 t ∷ row 10 u ∷ row 11 w ∷ [])))
     go true t u v w x = by-length {n = 9} refl (omega arith) (omega arith) (λ final. rw t)
     go false t true v w x = by-length {n = 10} refl (omega arith) (omega arith) (λ final. rw (t, v))
     go false t false v true x = by-length {n = 11} refl (omega arith) (omega arith) (λ final. rw (t, v, x))
@@ -63,7 +63,7 @@ checks Accepted marks output work = go (otherThan marksSize marks) refl (under o
 -- ---- for a file
 
 module _ (file : List ℕ) (marks output work : Length) where
-  pub checked-file : Checked (readFile file .verdict) marks output work (checked file marks output work)
+  pub checked-file : CheckedAs (readFile file .verdict) marks output work (checked file marks output work)
   unfolding checked
   checked-file = checks (readFile file .verdict) marks output work
 
@@ -76,7 +76,7 @@ module _ (file : List ℕ) (marks output work : Length) where
   pub passes : checked file marks output work ≡ Accepted → Passed
   passes e = go (checked file marks output work) e checked-file
     where
-      go : (c : Verdict) → c ≡ Accepted → Checked (readFile file .verdict) marks output work c → Passed
+      go : (c : Verdict) → c ≡ Accepted → CheckedAs (readFile file .verdict) marks output work c → Passed
       go c e (passed h s f) = record { file-accepted = h; well-formed = accepted-well-formed file h; sized = s }
       go c e (by-file h) = absurd (let z : _≡_ {A = ℕ} 0 1 = cc in omega arith)
       go c e (by-length h a b f) = absurd (let z : _≡_ {A = ℕ} 0 1 = cc in omega arith)
@@ -85,7 +85,7 @@ module _ (file : List ℕ) (marks output work : Length) where
   pub few-checks : {n line : ℕ} → checked file marks output work ≡ Refused n line → (0 < n) × (n ≤ 11) × (line ≤ 547)
   few-checks {n} {line} e = go (checked file marks output work) e checked-file
     where
-      go : (c : Verdict) → c ≡ Refused n line → Checked (readFile file .verdict) marks output work c → (0 < n) × (n ≤ 11) × (line ≤ 547)
+      go : (c : Verdict) → c ≡ Refused n line → CheckedAs (readFile file .verdict) marks output work c → (0 < n) × (n ≤ 11) × (line ≤ 547)
       go c e (passed h s f) = absurd (let z : _≡_ {A = ℕ} 0 1 = cc in omega arith)
       go c e (by-file h) = let k = few-lines file n line (h ∙ e) in (omega arith, omega arith, omega arith)
       go c e (by-length {n = m} h a b f) =

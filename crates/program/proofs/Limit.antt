@@ -11,7 +11,8 @@ use Rattle.text.specs.Hex.{hexLine}
 use Rattle.text.proofs.RoundTrip.{length-hex}
 use Rattle.program.specs.Program.{Program, within, countsFit}
 use Rattle.program.specs.Frames.{packed, keyOf, nodesFrame, edgeFrame, transitionFrame, initialFrame, rejectingFrame, initialKey, rejectingKey}
-use Rattle.program.specs.WellFormed.{All, Ascending, WellFormed}
+use Rattle.program.specs.WellFormed.{All, WellFormed}
+use Rattle.tables.specs.Keys.{Ascending}
 use Rattle.program.specs.Writing.{nodesFrames, framesOf, text, written}
 use Rattle.program.proofs.Sections.{few}
 use Rattle.program.proofs.Judged.{at-most}

@@ -7,7 +7,8 @@ use native.Mathlib.Omega.{arith}
 use lib.Dec.{ltb}
 use lib.ListN.{length, getD, length-append}
 use borrow.Author.Tests.{ltb-true}
-use Rattle.program.specs.WellFormed.{All, Ascending}
+use Rattle.program.specs.WellFormed.{All}
+use Rattle.tables.specs.Keys.{Ascending}
 use Rattle.program.specs.Reading.{more}
 
 -- numbers that ascend, all above lo, and none above hi

@@ -8,6 +8,7 @@ use lib.Dec.{ltb, eqb}
 use lib.ListN.{length, length-append}
 use borrow.Author.Tests.{eqb-true, ne-eqb}
 use Rattle.text.specs.declared.Line.{Line}
+use Rattle.program.specs.Sizes.{maxFrames}
 use Rattle.program.specs.Program.{Program, within, countsFit, edgeFits, transitionFits}
 use Rattle.program.specs.Frames.{size, num, kind, word, packed, keyOf, edgeKey, transitionKey, initialKey, rejectingKey}
 use Rattle.program.specs.WellFormed.{All, WellFormed}
@@ -147,15 +148,15 @@ room s l pad g o j =
           };
     }
 
--- the header, and at most 16 + 256 + 256 + 8 + 8 frames and the end frame
-pub frames-few : (s : Progress) → Sound s → s .frames ≤ 546
+-- all frames, and the end frame
+pub frames-few : (s : Progress) → Sound s → s .frames ≤ maxFrames + 1
 frames-few s g = go (s .frames) refl
   where
     last-one : (t : Bool) → cond t 1 0 ≤ 1
     last-one true = omega arith
     last-one false = omega arith
 
-    go : (n : ℕ) → s .frames ≡ n → n ≤ 546
+    go : (n : ℕ) → s .frames ≡ n → n ≤ maxFrames + 1
     go zero e = omega arith
     go (suc n) e = let b = g .begun (omega arith) in omega (arith, b .counted, begun-limits s b, last-one (s .ended))
 

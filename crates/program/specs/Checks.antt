@@ -1,4 +1,5 @@
--- The checks that a call makes before it touches anything: the file, and then the lengths of the buffers that it is lent.
+-- The checks that a call makes before it touches anything: the file, and then the lengths of the buffers that it is
+-- lent.
 use Prim.Native.Nat.{ℕ, _≤_}
 use mathlib.Core.Path.{_≡_}
 use mathlib.Core.Bool.{Bool, false, cond, not}

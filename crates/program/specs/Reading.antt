@@ -9,13 +9,14 @@ use Rattle.text.specs.declared.Line.{Line}
 use Rattle.automaton.specs.Automaton.{Transition, Automaton}
 use Rattle.automaton.specs.Sizes.{maxTransitions}
 use Rattle.program.specs.Sizes.{maxEdges}
-use Rattle.program.specs.Program.{Edge, Program, noProgram, within, nodesFit, countsFit, placed, labelFits, edgeFits, transitionFits}
+use Rattle.program.specs.Program.{Edge, Program, noProgram, within, nodesFit, countsFit, placed, labelFits}
+use Rattle.program.specs.Program.{edgeFits, transitionFits}
 use Rattle.program.specs.Frames.{size, num, kind, word, keyOf}
 use Rattle.program.specs.declared.Verdict.{Verdict}
 use Rattle.program.specs.declared.Verdict.the-variants.{Accepted, Refused}
 
--- what is known after some frames: the last one's key (0 before the first), how many there were, whether the last was an
--- end frame, and the program so far
+-- what is known after some frames: the last one's key (0 before the first), how many there were, whether the last was
+-- an end frame, and the program so far
 pub record Progress : Type 0 where
   pub last : ℕ
   pub frames : ℕ

@@ -1,5 +1,6 @@
 -- The sizes of a program and of what is lent for it.
-use Prim.Native.Nat.{ℕ}
+use Prim.Native.Nat.{ℕ, _+_}
+use Rattle.automaton.specs.Sizes.{maxStates, maxTransitions}
 
 abbrev pub maxRoutines : ℕ
 maxRoutines = 16
@@ -10,6 +11,10 @@ maxNodes = 16
 
 abbrev pub maxEdges : ℕ
 maxEdges = 256
+
+-- frames before the end frame: the header, and one for each routine, edge, transition, initial and rejecting state
+abbrev pub maxFrames : ℕ
+maxFrames = 1 + maxRoutines + maxEdges + maxTransitions + maxStates + maxStates
 
 -- the label of a call of routine 0; below it are the actions
 abbrev pub firstCall : ℕ

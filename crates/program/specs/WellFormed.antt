@@ -1,10 +1,11 @@
 -- Well-formed programs: complete, in range, ascending, within the limits.
-use Prim.Native.Nat.{ℕ, _<_, _≤_}
+use Prim.Native.Nat.{_≤_}
 use mathlib.Core.Path.{_≡_}
 use mathlib.Core.Bool.{Bool, true}
 use mathlib.Core.List.{List, [], _∷_, map}
 use lib.ListN.{length}
 use lib.Dec.{ltb}
+use Rattle.tables.specs.Keys.{Ascending}
 use Rattle.automaton.specs.Sizes.{maxTransitions}
 use Rattle.program.specs.Sizes.{maxEdges}
 use Rattle.program.specs.Program.{Program, nodesFit, countsFit, edgeFits, transitionFits}
@@ -14,11 +15,6 @@ use Rattle.program.specs.Frames.{edgeKey, transitionKey, initialKey, rej
 unfoldable pub All : {A : Type 0} → (A → Bool) → List A → Type 0
 All t [] = Unit
 All t (x ∷ xs) = (t x ≡ true) × All t xs
-
--- each number is above the one before it, and the first is above this one
-unfoldable pub Ascending : ℕ → List ℕ → Type 0
-Ascending low [] = Unit
-Ascending low (k ∷ ks) = (low < k) × Ascending k ks
 
 pub record WellFormed (p : Program) : Type 0 where
   pub counts-fit : countsFit (p .routines) (p .automaton .states) (p .automaton .actions) ≡ true

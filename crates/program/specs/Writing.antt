@@ -4,7 +4,8 @@ use mathlib.Core.List.{List, [], _∷_, _++_, map}
 use lib.ListN.{length}
 use Rattle.text.specs.Hex.{hexLine}
 use Rattle.program.specs.Program.{Program}
-use Rattle.program.specs.Frames.{headerFrame, nodesFrame, edgeFrame, transitionFrame, initialFrame, rejectingFrame, endFrame}
+use Rattle.program.specs.Frames.{headerFrame, nodesFrame, edgeFrame, transitionFrame, initialFrame}
+use Rattle.program.specs.Frames.{rejectingFrame, endFrame}
 
 -- a frame for each routine, from routine f on
 unfoldable pub nodesFrames : ℕ → List ℕ → List (List ℕ)

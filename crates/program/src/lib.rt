@@ -1,21 +1,23 @@
 // The program of a file, decoded: counts, nodes, edges and the automaton, by value.
 pub mod edges;
+pub mod frames;
 pub mod sizes;
 
 use automaton::DecodedAutomaton;
-use automaton::Table;
+use edges::Edges;
+use sizes::MAX_ROUTINES;
 
 // How many nodes each routine has: the first `count` are in use.
 pub struct Nodes {
     pub count: usize,
-    pub list: [u8; 16],
+    pub list: [u8; MAX_ROUTINES],
 }
 
-// The decoded program. Edges are kept as ascending keys of four numbers.
+// The decoded program.
 pub struct DecodedProgram {
     pub routines: u8,
     pub nodes: Nodes,
-    pub edges: Table,
+    pub edges: Edges,
     pub automaton: DecodedAutomaton,
 }
 

@@ -11,13 +11,15 @@ use lib.Dec.{eqb}
 use lib.ListN.{length, getD, set, take, drop, replicate, length-set, length-replicate}
 use lib.Seq.{take-length, drop-length}
 use borrow.Author.Tests.{eqb-true, eq-eqb, not-false}
-use Rattle.automaton.specs.Automaton.{member, isInitial}
-use Rattle.automaton.specs.Decoded.{keysOf, transitionOf}
+use Rattle.automaton.specs.Automaton.{isInitial}
+use Rattle.tables.specs.Keys.{member}
+use Rattle.automaton.specs.Decoded.{transitionKeysOf, transitionOf}
 use Rattle.base.specs.Flags.{isSet, On}
-use Rattle.automaton.specs.declared.Table.{Table}
+use Rattle.automaton.specs.declared.transitions.Transitions.{Transitions}
+use Rattle.program.specs.declared.edges.Edges.{Edges}
 use Rattle.program.specs.Program.{Program}
 use Rattle.program.specs.WellFormed.{WellFormed}
-use Rattle.program.specs.Decoded.{edgeOf}
+use Rattle.program.specs.Decoded.{edgeKeysOf, edgeOf}
 use Rattle.base.proofs.Bools.{both, either, never}
 use Rattle.reach.specs.Configurations.{Set, InRange, number, routineOf, nodeOf, rootOf, stateOf, none-set, At}
 use Rattle.reach.specs.Reachable.{seeded, by-action, by-call, by-return, initial}
@@ -198,8 +200,8 @@ module _ {p : Program} {marks kept : List ℕ} (q : ℕ) (s : Started p marks ke
 
 -- ---- the tables of a program
 
-pub its-tables : (p : Program) → WellFormed p → (edges transitions : Table) → p .edges ≡ map edgeOf (keysOf edges)
-    → p .automaton .transitions ≡ map transitionOf (keysOf transitions) → length (edges .keys) ≡ 256 → length (transitions .keys) ≡ 256
+pub its-tables : (p : Program) → WellFormed p → (edges : Edges) (transitions : Transitions) → p .edges ≡ map edgeOf (edgeKeysOf edges)
+    → p .automaton .transitions ≡ map transitionOf (transitionKeysOf transitions) → length (edges .keys) ≡ 256 → length (transitions .keys) ≡ 256
     → {m k : ℕ} → m ≡ min (edges .count) 256 → k ≡ min (transitions .count) 256 → Tables p (edges .keys) m (transitions .keys) k
 its-tables p w edges transitions e f a b u v =
     record {

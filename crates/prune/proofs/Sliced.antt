@@ -12,7 +12,7 @@ use lib.ListN.{length, getD, take, drop}
 use lib.Seq.{take-length}
 use borrow.Author.Tests.{ne-eqb}
 use Rattle.program.specs.Frames.{edgeKey}
-use Rattle.program.specs.WellFormed.{Ascending}
+use Rattle.tables.specs.Keys.{Ascending}
 use Rattle.program.specs.Decoded.{edgeOf}
 use Rattle.worklist.specs.Slice.{FirstOf}
 use Rattle.worklist.proofs.Slice.{part-starts, part-in-use, part-ends, before-part, after-part}

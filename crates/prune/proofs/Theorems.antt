@@ -7,7 +7,8 @@ use Rattle.program.specs.Program.{Program}
 use Rattle.program.specs.WellFormed.{WellFormed}
 use Rattle.reach.specs.Reachable.{Initial, Any, Reachable}
 use Rattle.reach.specs.Marks.{Marked, Shows, freshMarks}
-use Rattle.reach.proofs.Laws.{Sub, Within, grows, keeping}
+use Rattle.reach.proofs.Laws.{Within, grows, keeping}
+use Rattle.reach.specs.Configurations.{Sub}
 use Rattle.reach.proofs.Sizes.{reachable-in-range}
 use Rattle.reach.proofs.Shown.{shows-same, one-list, reachable-shown}
 use Rattle.prune.specs.Keeping.{Kept}

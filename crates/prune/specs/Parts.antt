@@ -49,7 +49,8 @@ entrySupports kept e f n r q =
 unfoldable pub returnSupports : List ℕ → Edge → ℕ → ℕ → ℕ → ℕ → Bool
 returnSupports kept e f n r q =
     cond (eqb (e .routine) f && eqb (e .target) n)
-    (cond (isCall (e .label)) (returnKept kept (number f (e .source) r 0) (number (calledBy (e .label)) 1 0 q)) false) false
+    (cond (isCall (e .label)) (returnKept kept (number f (e .source) r 0) (number (calledBy (e .label)) 1 0 q)) false)
+    false
 
 unfoldable pub callSupports : List ℕ → Edge → ℕ → ℕ → ℕ → ℕ → Bool
 callSupports kept e f n r q = entrySupports kept e f n r q || returnSupports kept e f n r q
@@ -75,22 +76,25 @@ edgeSupports kept lines count f n r q e = callSupports kept e f n r q || actionS
 unfoldable pub supports : List ℕ → ℕ → List ℕ → ℕ → List ℕ → ℕ → ℕ → ℕ → ℕ → Bool
 supports keys m lines k kept f n r q = anyKey (λ key. edgeSupports kept lines k f n r q (edgeOf key)) (take m keys)
 
--- this part of the keys in use has the edges of routine f: a test that fails for every edge of another routine is met by one
--- of all just where it is met by one of these
+-- this part of the keys in use has the edges of routine f: a test that fails for every edge of another routine is met
+-- by one of all just where it is met by one of these
 pub record PartOf (keys : List ℕ) (m f : ℕ) (part : List ℕ) : Type 0 where
-  pub decides : (t : ℕ → Bool) → ((key : ℕ) → edgeOf key .routine ≢ f → t key ≡ false) → anyKey t part ≡ anyKey t (take m keys)
+  pub decides : (t : ℕ → Bool) → ((key : ℕ) → edgeOf key .routine ≢ f → t key ≡ false)
+      → anyKey t part ≡ anyKey t (take m keys)
 
 -- the configuration of number i is marked, not yet kept, and supported
 unfoldable pub keepsAt : List ℕ → ℕ → List ℕ → ℕ → List ℕ → List ℕ → ℕ → Bool
 keepsAt keys m lines k marks kept i =
-    cond (isSet marks i) (cond (isSet kept i) false (supports keys m lines k kept (routineOf i) (nodeOf i) (rootOf i) (stateOf i))) false
+    cond (isSet marks i) (cond (isSet kept i) false (supports keys m lines k kept (routineOf i) (nodeOf i) (rootOf i)
+    (stateOf i))) false
 
 -- ---- keeping one after another
 
 -- by keeping, one at a time, what a test of the kept bytes names
 pub data Keeps (test : List ℕ → ℕ → Bool) (old : List ℕ) : List ℕ → Type 0 where
   same : Keeps test old old
-  more : {kept : List ℕ} → Keeps test old kept → (i : ℕ) → i < marksSize → test kept i ≡ true → Keeps test old (set kept i 1)
+  more : {kept : List ℕ} → Keeps test old kept → (i : ℕ) → i < marksSize → test kept i ≡ true
+      → Keeps test old (set kept i 1)
 
 -- a pass over the numbers from low to below i says whether it has kept more; if not, none of these was to be kept
 pub record Passed (test : List ℕ → ℕ → Bool) (old new : List ℕ) (more : Bool) (low i : ℕ) : Type 0 where

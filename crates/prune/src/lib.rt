@@ -1,14 +1,15 @@
 // The keeping: of the marks of a sheet those stay that have support back to a start through marked configurations.
 mod support;
 
-use automaton::Table;
 use automaton::flags::initial_flags;
-use automaton::in_use;
 use automaton::sizes::MAX_STATES;
 use automaton::sizes::MAX_TRANSITIONS;
+use automaton::transitions::Transitions;
+use base::flags::clear;
 use program::DecodedProgram;
 use program::Length;
 use program::Verdict;
+use program::edges::Edges;
 use program::sizes::MARKS_SIZE;
 use program::sizes::MAX_EDGES;
 use program::sizes::MAX_ROUTINES;
@@ -17,7 +18,7 @@ use reach::configuration::parts_of;
 use reach::spans::ROUTINE_SPAN;
 use reader::checks::checked_program;
 use support::has_support;
-use worklist::clear;
+use tables::in_use;
 use worklist::part::first_of;
 ghost use mathlib.Core.Path.{_≡_};
 ghost use mathlib.Core.Bool.{cond, _&&_};
@@ -26,13 +27,14 @@ ghost use Prim.Native.Nat.{_+_, _*_, _/_, _<_, _≤_};
 ghost use lib.ListN.{length, set, take};
 ghost use Rattle.automaton.specs.Sizes.{maxStates};
 ghost use Rattle.program.specs.Sizes.{maxRoutines, marksSize};
-ghost use Rattle.automaton.specs.Decoded.{keysOf, transitionOf};
+ghost use Rattle.automaton.specs.Decoded.{transitionKeysOf, transitionOf};
 ghost use Rattle.automaton.specs.Flags.{Starts};
 ghost use Rattle.base.specs.Flags.{isSet};
 ghost use Rattle.program.specs.Program.{Program};
 ghost use Rattle.program.specs.Frames.{edgeKey};
-ghost use Rattle.program.specs.WellFormed.{Ascending, WellFormed};
-ghost use Rattle.program.specs.Decoded.{edgeOf, programOf};
+ghost use Rattle.program.specs.WellFormed.{WellFormed};
+ghost use Rattle.tables.specs.Keys.{Ascending};
+ghost use Rattle.program.specs.Decoded.{edgeKeysOf, edgeOf, programOf};
 ghost use Rattle.program.specs.Reading.{readFile};
 ghost use Rattle.reach.specs.Sizes.{routineSpan};
 ghost use Rattle.reach.specs.Configurations.{routineOf, none-set};
@@ -44,7 +46,8 @@ ghost use Rattle.prune.specs.Parts.{keepsAt, PartOf, Passed, Settled, So
 // Keeps a configuration that is marked, where the flag says so.
 fn keep_when(yes: bool, marks: &[u8], kept: &mut [u8], at: usize)
     requires { ⌜ (length (now marks) ≡ marksSize) × (length (now kept) ≡ marksSize) ⌝ }
-    ensures { λ _. ⌜ now (kept .exit) ≡ cond (yes && isSet (now (marks .entry)) at) (set (now (kept .entry)) at 1) (now (kept .entry)) ⌝ }
+    ensures { λ _. ⌜ now (kept .exit) ≡ cond (yes && isSet (now (marks .entry)) at) (set (now (kept .entry)) at 1)
+        (now (kept .entry)) ⌝ }
 {
     if yes {
         if at < MARKS_SIZE {
@@ -58,7 +61,8 @@ fn keep_when(yes: bool, marks: &[u8], kept: &mut [u8], at: usize)
 // The starts: main's entry in each initial state, with that state as its root.
 fn keep_starts(initial: &[u8; MAX_STATES], marks: &[u8], kept: &mut [u8])
     requires { ⌜ (length (now marks) ≡ marksSize) × (length (now kept) ≡ marksSize) ⌝ }
-    ensures { λ _. ⌜ ((p : Program) → Starts (p .automaton) (now (initial .entry)) → Sound p (now (marks .entry)) (now (kept .entry))
+    ensures { λ _. ⌜ ((p : Program) → Starts (p .automaton) (now (initial .entry))
+        → Sound p (now (marks .entry)) (now (kept .entry))
         → Started p (now (marks .entry)) (now (kept .exit)) maxStates) ⌝ }
 {
     let mut q: u8 = 0;
@@ -69,8 +73,8 @@ fn keep_starts(initial: &[u8; MAX_STATES], marks: &[u8], kept: &mut [u8])
     }
 }
 
-// Keeps the configuration of number i, if it is marked, not yet kept, and supported. Says whether it did. `part` has the
-// edges of its routine: hence the `requires`.
+// Keeps the configuration of number i, if it is marked, not yet kept, and supported. Says whether it did. `part` has
+// the edges of its routine: hence the `requires`.
 fn keep_at(
     keys: &[u32],
     m: usize,
@@ -84,7 +88,8 @@ fn keep_at(
     requires { ⌜ (m ≤ length (now keys)) × (k ≤ length (now lines)) × (i < marksSize) ⌝ }
     requires { ⌜ PartOf (now keys) m (routineOf i) (now part) ⌝ }
     requires { ⌜ (length (now marks) ≡ marksSize) × (length (now kept) ≡ marksSize) ⌝ }
-    ensures { λ y. ⌜ (y ≡ keepsAt (now (keys .entry)) m (now (lines .entry)) k (now (marks .entry)) (now (kept .entry)) i)
+    ensures { λ y. ⌜ (y ≡ keepsAt (now (keys .entry)) m (now (lines .entry)) k (now (marks .entry))
+        (now (kept .entry)) i)
         × (now (kept .exit) ≡ cond y (set (now (kept .entry)) i 1) (now (kept .entry))) ⌝ }
 {
     if marks[i] == 0 {
@@ -100,7 +105,8 @@ fn keep_at(
     false
 }
 
-// The numbers of routine f in turn. Says whether it kept one more. `part` has the routine's edges: hence the `requires`.
+// The numbers of routine f in turn. Says whether it kept one more. `part` has the routine's edges: hence the
+// `requires`.
 fn keep_numbers(
     keys: &[u32],
     m: usize,
@@ -114,7 +120,8 @@ fn keep_numbers(
     requires { ⌜ (m ≤ length (now keys)) × (k ≤ length (now lines)) × (f < maxRoutines) ⌝ }
     requires { ⌜ PartOf (now keys) m f (now part) ⌝ }
     requires { ⌜ (length (now marks) ≡ marksSize) × (length (now kept) ≡ marksSize) ⌝ }
-    ensures { λ y. ⌜ Passed (keepsAt (now (keys .entry)) m (now (lines .entry)) k (now (marks .entry))) (now (kept .entry)) (now (kept .exit)) y
+    ensures { λ y. ⌜ Passed (keepsAt (now (keys .entry)) m (now (lines .entry)) k (now (marks .entry)))
+        (now (kept .entry)) (now (kept .exit)) y
         (f * routineSpan) (f * routineSpan + routineSpan) ⌝ }
 {
     let first = f as usize * ROUTINE_SPAN;
@@ -128,8 +135,8 @@ fn keep_numbers(
     more
 }
 
-// The turn of routine f in a pass: its part of the table is found once for all its numbers. The table ascends, else its edges
-// might lie anywhere: hence the `requires`.
+// The turn of routine f in a pass: its part of the table is found once for all its numbers. The table ascends, else its
+// edges might lie anywhere: hence the `requires`.
 fn keep_routine(
     keys: &[u32],
     m: usize,
@@ -142,7 +149,8 @@ fn keep_routine(
     requires { ⌜ (m ≤ length (now keys)) × (k ≤ length (now lines)) × (f < maxRoutines) ⌝ }
     requires { ⌜ Ascending 0 (map edgeKey (map edgeOf (take m (now keys)))) ⌝ }
     requires { ⌜ (length (now marks) ≡ marksSize) × (length (now kept) ≡ marksSize) ⌝ }
-    ensures { λ y. ⌜ Passed (keepsAt (now (keys .entry)) m (now (lines .entry)) k (now (marks .entry))) (now (kept .entry)) (now (kept .exit)) y
+    ensures { λ y. ⌜ Passed (keepsAt (now (keys .entry)) m (now (lines .entry)) k (now (marks .entry)))
+        (now (kept .entry)) (now (kept .exit)) y
         (f * routineSpan) (f * routineSpan + routineSpan) ⌝ }
 {
     let from = first_of(keys, m, f);
@@ -150,13 +158,14 @@ fn keep_routine(
     keep_numbers(keys, m, &keys[from..to], lines, k, marks, kept, f)
 }
 
-// One pass over all numbers, routine by routine. Says whether it kept one more. The table ascends, so that each routine's
-// edges are one part of it: hence the `requires`.
+// One pass over all numbers, routine by routine. Says whether it kept one more. The table ascends, so that each
+// routine's edges are one part of it: hence the `requires`.
 fn keep_pass(keys: &[u32], m: usize, lines: &[u32], k: usize, marks: &[u8], kept: &mut [u8]) -> bool
     requires { ⌜ (m ≤ length (now keys)) × (k ≤ length (now lines)) ⌝ }
     requires { ⌜ Ascending 0 (map edgeKey (map edgeOf (take m (now keys)))) ⌝ }
     requires { ⌜ (length (now marks) ≡ marksSize) × (length (now kept) ≡ marksSize) ⌝ }
-    ensures { λ y. ⌜ Passed (keepsAt (now (keys .entry)) m (now (lines .entry)) k (now (marks .entry))) (now (kept .entry)) (now (kept .exit)) y 0 marksSize ⌝ }
+    ensures { λ y. ⌜ Passed (keepsAt (now (keys .entry)) m (now (lines .entry)) k (now (marks .entry)))
+        (now (kept .entry)) (now (kept .exit)) y 0 marksSize ⌝ }
 {
     let mut more = false;
     let mut f: u32 = 0;
@@ -173,7 +182,8 @@ fn keep_all(keys: &[u32], m: usize, lines: &[u32], k: usize, marks: &[u8], kept:
     requires { ⌜ (m ≤ length (now keys)) × (k ≤ length (now lines)) ⌝ }
     requires { ⌜ Ascending 0 (map edgeKey (map edgeOf (take m (now keys)))) ⌝ }
     requires { ⌜ (length (now marks) ≡ marksSize) × (length (now kept) ≡ marksSize) ⌝ }
-    ensures { λ _. ⌜ Settled (keepsAt (now (keys .entry)) m (now (lines .entry)) k (now (marks .entry))) (now (kept .entry)) (now (kept .exit)) ⌝ }
+    ensures { λ _. ⌜ Settled (keepsAt (now (keys .entry)) m (now (lines .entry)) k (now (marks .entry)))
+        (now (kept .entry)) (now (kept .exit)) ⌝ }
 {
     let mut more = true;
     while more {
@@ -181,13 +191,15 @@ fn keep_all(keys: &[u32], m: usize, lines: &[u32], k: usize, marks: &[u8], kept:
     }
 }
 
-// Passes over the tables of a program in which the starts are kept: what is kept in the end is all that has support. The table
-// of edges ascends, as a well-formed program's does: hence the `requires`.
-fn keep_supported(edges: Table, transitions: Table, marks: &[u8], kept: &mut [u8])
-    requires { ⌜ Ascending 0 (map edgeKey (map edgeOf (keysOf edges))) ⌝ }
+// Passes over the tables of a program in which the starts are kept: what is kept in the end is all that has support.
+// The table of edges ascends, as a well-formed program's does: hence the `requires`.
+fn keep_supported(edges: Edges, transitions: Transitions, marks: &[u8], kept: &mut [u8])
+    requires { ⌜ Ascending 0 (map edgeKey (map edgeOf (edgeKeysOf edges))) ⌝ }
     requires { ⌜ (length (now marks) ≡ marksSize) × (length (now kept) ≡ marksSize) ⌝ }
-    ensures { λ _. ⌜ ((p : Program) → WellFormed p → p .edges ≡ map edgeOf (keysOf edges) → p .automaton .transitions ≡ map transitionOf (keysOf transitions)
-        → Started p (now (marks .entry)) (now (kept .entry)) maxStates → Shows (Kept p (now (marks .entry))) (now (kept .exit))) ⌝ }
+    ensures { λ _. ⌜ ((p : Program) → WellFormed p → p .edges ≡ map edgeOf (edgeKeysOf edges)
+        → p .automaton .transitions ≡ map transitionOf (transitionKeysOf transitions)
+        → Started p (now (marks .entry)) (now (kept .entry)) maxStates
+        → Shows (Kept p (now (marks .entry))) (now (kept .exit))) ⌝ }
 {
     let keys = edges.keys;
     let lines = transitions.keys;
@@ -212,23 +224,26 @@ fn keep(p: DecodedProgram, marks: &[u8], kept: &mut [u8])
     keep_supported(edges, transitions, marks, kept);
 }
 
-// Of the marks those stay, as 1, that have support back to a start through marked configurations; all else becomes 0. The
-// reader accepts only well-formed programs, and the caller has measured the buffers (refusals 9 and 11): hence the `requires`.
+// Of the marks those stay, as 1, that have support back to a start through marked configurations; all else becomes 0.
+// The reader accepts only well-formed programs, and the caller has measured the buffers (refusals 9 and 11): hence the
+// `requires`.
 pub fn prune_program(p: DecodedProgram, marks: &mut [u8], work: &mut [u8])
     requires { ⌜ WellFormed (programOf p) ⌝ }
     requires { ⌜ (length (now marks) ≡ marksSize) × (length (now work) ≡ marksSize) ⌝ }
-    ensures { λ _. ⌜ Shows (Kept (programOf p) (now (marks .entry))) (now (marks .exit)) × (now (work .exit) ≡ none-set) ⌝ }
+    ensures { λ _. ⌜ Shows (Kept (programOf p) (now (marks .entry))) (now (marks .exit))
+        × (now (work .exit) ≡ none-set) ⌝ }
 {
     keep(p, marks, work);
     let _copied = bytes::copy(work, marks);
     clear(work);
 }
 
-// The keeping of a file's program on any sheet. A refusal leaves both buffers alone; on success the working buffer is all zero.
+// The keeping of a file's program on any sheet. A refusal leaves both buffers alone; on success the working buffer is
+// all zero.
 pub fn prune(file: &[u8], marks: &mut [u8], work: &mut [u8]) -> Verdict
     ensures { λ r. ⌜ (r ≡ checkedMarks (now (file .entry)) (now (marks .entry)) (now (work .entry)))
-        × Pruned (checkedMarks (now (file .entry)) (now (marks .entry)) (now (work .entry))) (readFile (now (file .entry)) .program)
-        (now (marks .entry)) (now (marks .exit))
+        × Pruned (checkedMarks (now (file .entry)) (now (marks .entry)) (now (work .entry)))
+        (readFile (now (file .entry)) .program) (now (marks .entry)) (now (marks .exit))
         × (now (work .exit) ≡ workAfter (now (file .entry)) (now (marks .entry)) (now (work .entry))) ⌝ }
 {
     let marks_length = Length::Of(marks.len());

@@ -1,6 +1,6 @@
 // Whether a configuration (f, n, r, q) has support through kept ones: the search over edges and transitions.
 use automaton::sizes::MAX_STATES;
-use automaton::transition;
+use automaton::transitions::transition;
 use base::flags::is_set;
 use program::edges::DecodedEdge;
 use program::edges::called_by;
@@ -17,7 +17,8 @@ ghost use Rattle.base.specs.Flags.{isSet};
 ghost use Rattle.program.specs.Sizes.{maxRoutines};
 ghost use Rattle.program.specs.Decoded.{edgeView};
 ghost use Rattle.reach.specs.Configurations.{byteNumbers};
-ghost use Rattle.prune.specs.Parts.{rootKept, returnKept, entrySupports, returnSupports, callSupports, lineSupports, linesToTry, supports, PartOf};
+ghost use Rattle.prune.specs.Parts.{rootKept, returnKept, entrySupports, returnSupports, callSupports};
+ghost use Rattle.prune.specs.Parts.{lineSupports, linesToTry, supports, PartOf};
 
 // Whether some root of the configurations from a number on is kept.
 fn root_kept(kept: &[u8], base: usize) -> bool
@@ -111,11 +112,12 @@ fn lines_to_try(e: DecodedEdge, f: u8, n: u8, count: usize) -> usize
     0
 }
 
-// The search ends at the first support found. The counts are those of the two tables, and the configuration is in range:
-// hence the `requires`.
+// The search ends at the first support found. The counts are those of the two tables, and the configuration is in
+// range: hence the `requires`.
 fn supported(keys: &[u32], m: usize, lines: &[u32], k: usize, kept: &[u8], c: Configuration) -> bool
     requires { ⌜ (m ≤ length (now keys)) × (k ≤ length (now lines)) × (c .routine < maxRoutines) ⌝ }
-    ensures { λ y. ⌜ y ≡ supports (now (keys .entry)) m (now (lines .entry)) k (now (kept .entry)) (c .routine) (c .node) (c .root) (c .state) ⌝ }
+    ensures { λ y. ⌜ y ≡ supports (now (keys .entry)) m (now (lines .entry)) k (now (kept .entry)) (c .routine)
+        (c .node) (c .root) (c .state) ⌝ }
 {
     let mut found = false;
     let mut i: usize = 0;
@@ -140,9 +142,9 @@ fn supported(keys: &[u32], m: usize, lines: &[u32], k: usize, kept: &[u8], c: Co
     found
 }
 
-// A called entry may have its support in any routine: the whole table is searched. Every other configuration has it by the
-// edges of its own routine alone, and `part` has these: a shorter search gives the same answer. The caller has cut the part
-// out of the table, and the configuration is in range: hence the `requires`.
+// A called entry may have its support in any routine: the whole table is searched. Every other configuration has it by
+// the edges of its own routine alone, and `part` has these: a shorter search gives the same answer. The caller has cut
+// the part out of the table, and the configuration is in range: hence the `requires`.
 pub fn has_support(
     keys: &[u32],
     m: usize,
@@ -154,7 +156,8 @@ pub fn has_support(
 ) -> bool
     requires { ⌜ (m ≤ length (now keys)) × (k ≤ length (now lines)) × (c .routine < maxRoutines) ⌝ }
     requires { ⌜ PartOf (now keys) m (c .routine) (now part) ⌝ }
-    ensures { λ y. ⌜ y ≡ supports (now (keys .entry)) m (now (lines .entry)) k (now (kept .entry)) (c .routine) (c .node) (c .root) (c .state) ⌝ }
+    ensures { λ y. ⌜ y ≡ supports (now (keys .entry)) m (now (lines .entry)) k (now (kept .entry)) (c .routine)
+        (c .node) (c .root) (c .state) ⌝ }
 {
     if (c.node == 0) & (c.root == c.state) {
         return supported(keys, m, lines, k, kept, c);

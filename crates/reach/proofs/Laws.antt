@@ -8,15 +8,11 @@ use native.Mathlib.Decide.{ℕ-discrete}
 use Rattle.automaton.specs.declared.Event.{Event}
 use Rattle.automaton.specs.declared.Event.the-variants.{Call}
 use Rattle.program.specs.Program.{Program}
-use Rattle.reach.specs.Configurations.{Set}
+use Rattle.reach.specs.Configurations.{Set, Sub}
 use Rattle.reach.specs.Runs.{HasStep, Moves}
 use Rattle.reach.specs.Reachable.{Derivable, seeded, by-action, by-call, by-return, initial, Roots, root, Any, Reachable, Calls}
 
 -- ---- it grows
-
--- one set of configurations is a part of another
-pub record Sub (A B : Set) : Type 0 where
-  pub at : {f n r q : ℕ} → A f n r q → B f n r q
 
 -- every step and every move of p is one of p′
 pub record Within (p p′ : Program) : Type 0 where

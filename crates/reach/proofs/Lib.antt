@@ -1,6 +1,7 @@
 pub mod Numbers
 pub mod Sizes
 pub mod Lowest
+pub mod Labels
 pub mod Kept
 pub mod Marking
 pub mod Waking

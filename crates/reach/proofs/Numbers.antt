@@ -4,8 +4,8 @@ use Prim.Native.Nat.{ℕ, _+_, _*_, _<_, _≤_}
 use native.Mathlib.Omega.{arith}
 use Rattle.automaton.specs.Sizes.{maxStates}
 use Rattle.program.specs.Sizes.{maxRoutines, maxNodes, marksSize}
-use Rattle.reach.specs.Sizes.{rootSpan, nodeSpan, routineSpan, summariesSize}
-use Rattle.reach.specs.Configurations.{Set, At, InRange, PartsOf, exitAt, number, routineOf, nodeOf, rootOf, stateOf}
+use Rattle.reach.specs.Sizes.{rootSpan, nodeSpan, routineSpan, rootsSize, summariesSize}
+use Rattle.reach.specs.Configurations.{Set, At, InRange, PartsOf, exitAt, rootPlace, entryAt, number, routineOf, nodeOf, rootOf, stateOf}
 use Rattle.reach.specs.Worklist.{summary}
 
 -- every number is that of a configuration
@@ -156,3 +156,31 @@ first-number f = omega arith
 pub exit-summary : (f r q : ℕ) → r < maxStates → q < maxStates → exitAt (summary f r q) ≡ number f 1 r q
 unfolding exitAt summary number
 exit-summary f r q a b = omega arith
+
+-- ---- the roots and states of one node, in turn: those of the first numbers
+
+pub first-node : {r q : ℕ} → r < maxStates → q < maxStates → number 0 0 r q < nodeSpan
+unfolding number
+first-node a b = omega arith
+
+pub first-range : {r q : ℕ} → r < maxStates → q < maxStates → InRange 0 0 r q
+first-range a b = record { routine = omega arith; node = omega arith; root = a; state = b }
+
+-- the summaries of a routine follow one another in this order
+pub summary-span : (g i : ℕ) → i < nodeSpan → summary g 0 0 + i ≡ summary g (rootOf i) (stateOf i)
+unfolding summary rootOf stateOf
+summary-span g i h = omega arith
+
+-- ---- the flags of roots
+
+pub root-place-fits : (f r : ℕ) → f < maxRoutines → r < maxStates → rootPlace f r < rootsSize
+unfolding rootPlace
+root-place-fits f r a b = omega arith
+
+pub root-place-apart : (f r g s : ℕ) → r < maxStates → s < maxStates → rootPlace f r ≡ rootPlace g s → (f ≡ g) × (r ≡ s)
+unfolding rootPlace
+root-place-apart f r g s a b e = (omega arith, omega arith)
+
+pub entry-root : (f r : ℕ) → r < maxStates → entryAt (rootPlace f r) ≡ number f 0 r r
+unfolding entryAt rootPlace number
+entry-root f r a = omega arith

@@ -11,12 +11,11 @@ use lib.Seq.{ext-getD}
 use lib.Dec.{eqb}
 use Rattle.program.specs.Program.{Program}
 use Rattle.program.specs.WellFormed.{WellFormed}
-use Rattle.reach.specs.Configurations.{Set, InRange, number, At}
+use Rattle.reach.specs.Configurations.{Set, InRange, number, At, Sub}
 use Rattle.reach.specs.Runs.{Occurs}
 use Rattle.reach.specs.Reachable.{Reachable}
 use Rattle.reach.specs.Marks.{Marked, Shows, freshMarks}
 use Rattle.base.specs.Flags.{countSet}
-use Rattle.reach.proofs.Laws.{Sub}
 use Rattle.reach.proofs.Occurs.{occurs-iff}
 use Rattle.reach.proofs.Numbers.{number-of, parts-in-range}
 use Rattle.reach.proofs.Sizes.{reachable-in-range}

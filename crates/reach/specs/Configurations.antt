@@ -1,5 +1,5 @@
--- Configurations and their numbers (paper: standings). A configuration (f, n, r, q) is a routine, one of its nodes, the root
--- and the present state of the automaton.
+-- Configurations and their numbers (paper: standings). A configuration (f, n, r, q) is a routine, one of its nodes, the
+-- root and the present state of the automaton.
 use Prim.Native.Nat.{ℕ, _+_, _*_, _/_, _%_, _<_}
 use mathlib.Core.Path.{_≡_}
 use mathlib.Core.List.{List}
@@ -11,6 +11,10 @@ use Rattle.reach.specs.Sizes.{rootSpan, nodeSpan, routineSpan}
 -- a set of configurations
 abbrev pub Set : Type 1
 Set = ℕ → ℕ → ℕ → ℕ → Type 0
+
+-- one set of configurations is a part of another
+pub record Sub (A B : Set) : Type 0 where
+  pub at : {f n r q : ℕ} → A f n r q → B f n r q
 
 -- so many routines, nodes a routine and states there are
 pub record InRange (f n r q : ℕ) : Type 0 where
@@ -57,3 +61,11 @@ byteNumbers = ((256 * maxNodes + 256) * maxStates + 256) * maxStates + 256
 -- the number of the exit that has its summary at this place
 unfoldable pub exitAt : ℕ → ℕ
 exitAt place = place / nodeSpan * routineSpan + nodeSpan + place % nodeSpan
+
+-- the place of a root's flag
+unfoldable pub rootPlace : ℕ → ℕ → ℕ
+rootPlace f r = f * maxStates + r
+
+-- the number of the entry whose root has its flag at this place
+unfoldable pub entryAt : ℕ → ℕ
+entryAt place = number (place / maxStates) 0 (place % maxStates) (place % maxStates)

@@ -36,7 +36,8 @@ pub record ClosedBut (p : Program) (low high : ℕ) (marks : List ℕ) : Type 0 
   pub marks-length : length marks ≡ marksSize
   pub marks-bits : (i : ℕ) → getD marks i 0 ≤ 1
   pub states : {f n r q : ℕ} → Marked marks f n r q → q < p .automaton .states
-  pub closed : {f n r q : ℕ} → Marked marks f n r q → ¬ (Between low high (number f n r q)) → ClosedAt p (Marked marks) f n r q
+  pub closed : {f n r q : ℕ} → Marked marks f n r q → ¬ (Between low high (number f n r q))
+      → ClosedAt p (Marked marks) f n r q
 
 -- ---- the fresh marks
 

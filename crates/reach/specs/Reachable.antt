@@ -1,4 +1,5 @@
--- The least set of configurations that has the seeds and is closed under actions, calls and returns, all within a filter.
+-- The least set of configurations that has the seeds and is closed under actions, calls and returns, all within a
+-- filter.
 use Prim.Native.Nat.{ℕ}
 use mathlib.Core.List.{List·Memᴰ}
 use Rattle.automaton.specs.declared.Event.the-variants.{Action, Call, Return}
@@ -8,11 +9,13 @@ use Rattle.reach.specs.Runs.{HasStep, Moves}
 
 pub data Derivable (p : Program) (seed : Set) (within : Set) : ℕ → ℕ → ℕ → ℕ → Type 0 where
   seeded : {f n r q : ℕ} → seed f n r q → within f n r q → Derivable p seed within f n r q
-  by-action : {f n r q a m s : ℕ} → Derivable p seed within f n r q → HasStep p f n (Action a) m → Moves p q (Action a) s
+  by-action : {f n r q a m s : ℕ} → Derivable p seed within f n r q → HasStep p f n (Action a) m
+      → Moves p q (Action a) s
       → within f m r s → Derivable p seed within f m r s
   by-call : {f n r q g m s : ℕ} → Derivable p seed within f n r q → HasStep p f n (Call g) m → Moves p q (Call g) s
       → within g 0 s s → Derivable p seed within g 0 s s
-  by-return : {f n r q g m s x t : ℕ} → Derivable p seed within f n r q → HasStep p f n (Call g) m → Moves p q (Call g) s
+  by-return : {f n r q g m s x t : ℕ} → Derivable p seed within f n r q → HasStep p f n (Call g) m
+      → Moves p q (Call g) s
       → Derivable p seed within g 1 s x → Moves p x (Return g) t → within f m r t → Derivable p seed within f m r t
 
 -- the seeds of a fresh working: main's entry in each initial state
@@ -45,4 +48,5 @@ pub record Calls (p : Program) (S : Set) (f g s : ℕ) : Type 0 where
 pub record ClosedAt (p : Program) (S : Set) (f n r q : ℕ) : Type 0 where
   pub acts : {a m s : ℕ} → HasStep p f n (Action a) m → Moves p q (Action a) s → S f m r s
   pub calls : {g m s : ℕ} → HasStep p f n (Call g) m → Moves p q (Call g) s → S g 0 s s
-  pub returns : {g m s x t : ℕ} → HasStep p f n (Call g) m → Moves p q (Call g) s → S g 1 s x → Moves p x (Return g) t → S f m r t
+  pub returns : {g m s x t : ℕ} → HasStep p f n (Call g) m → Moves p q (Call g) s → S g 1 s x → Moves p x (Return g) t
+      → S f m r t

@@ -39,15 +39,18 @@ pub record Activation : Type 0 where
   pub root : ℕ
 
 -- a run that has arrived at node n of an activation of f with root r, over the activations k, the automaton in state q:
--- it begins at the main routine's entry in an initial state, and goes on by an action, by a call, whose activation has as its
--- root the state at that call, or by a return to the activation that made the call
+-- it begins at the main routine's entry in an initial state, and goes on by an action, by a call, whose activation has
+-- as its root the state at that call, or by a return to the activation that made the call
 pub data Run (p : Program) : ℕ → ℕ → ℕ → List Activation → ℕ → Type 0 where
   begin : {q : ℕ} → List·Memᴰ q (p .automaton .initial) → Run p 0 0 q [] q
-  act : {f n r : ℕ} {k : List Activation} {q a m s : ℕ} → Run p f n r k q → HasStep p f n (Action a) m → Moves p q (Action a) s
+  act : {f n r : ℕ} {k : List Activation} {q a m s : ℕ} → Run p f n r k q → HasStep p f n (Action a) m
+      → Moves p q (Action a) s
       → Run p f m r k s
-  enter : {f n r : ℕ} {k : List Activation} {q g m s : ℕ} → Run p f n r k q → HasStep p f n (Call g) m → Moves p q (Call g) s
+  enter : {f n r : ℕ} {k : List Activation} {q g m s : ℕ} → Run p f n r k q → HasStep p f n (Call g) m
+      → Moves p q (Call g) s
       → Run p g 0 s (record { routine = f; node = m; root = r } ∷ k) s
-  leave : {g r f m s : ℕ} {k : List Activation} {q t : ℕ} → Run p g 1 r (record { routine = f; node = m; root = s } ∷ k) q
+  leave : {g r f m s : ℕ} {k : List Activation} {q t : ℕ}
+      → Run p g 1 r (record { routine = f; node = m; root = s } ∷ k) q
       → Moves p q (Return g) t → Run p f m s k t
 
 -- some run arrives there

@@ -1,5 +1,5 @@
--- The full analysis (paper: working afresh), lowest number first. A configuration is marked, pending (paper: waiting) or
--- neither, a byte each; a summary (paper: a known pair) is a byte too; the iterations (paper: takings) are counted.
+-- The full analysis (paper: working afresh), lowest number first. A configuration is marked, pending (paper: waiting)
+-- or neither, a byte each; a summary (paper: a known pair) is a byte too; the iterations (paper: takings) are counted.
 use Prim.Native.Nat.{ℕ, zero, suc, _+_, _*_, _≤_}
 use mathlib.Core.Path.{_≡_}
 use mathlib.Core.Bool.{Bool, true, false, _&&_, not}
@@ -41,7 +41,12 @@ lowest (b ∷ bs) i = elim (eqb b 0) [ true ↦ lowest bs (i + 1) | false ↦ so
 unfoldable pub mark : ℕ → Worklist → Worklist
 mark j s =
     elim (eqb (getD (s .marks) j 0) 0) [
-      | true ↦ record { marks = set (s .marks) j 1; pending = set (s .pending) j 1; known = s .known; iterations = s .iterations }
+      | true ↦ record {
+        marks = set (s .marks) j 1;
+        pending = set (s .pending) j 1;
+        known = s .known;
+        iterations = s .iterations;
+      }
       | false ↦ s
     ]
 
@@ -50,7 +55,12 @@ unfoldable pub wake : ℕ → Worklist → Worklist
 wake j s =
     elim (eqb (getD (s .marks) j 0) 0) [
       | true ↦ s
-      | false ↦ record { marks = s .marks; pending = set (s .pending) j 1; known = s .known; iterations = s .iterations }
+      | false ↦ record {
+        marks = s .marks;
+        pending = set (s .pending) j 1;
+        known = s .known;
+        iterations = s .iterations;
+      }
     ]
 
 unfoldable pub markWhen : Bool → ℕ → Worklist → Worklist
@@ -111,7 +121,12 @@ wakeCallers [] f r s = s
 wakeCallers (e ∷ es) f r s = wakeCallers es f r (wakeWhen (calls f (e .label)) (e .routine) (e .source) r s)
 
 unfoldable pub learn : ℕ → ℕ → ℕ → Worklist → Worklist
-learn f r q s = record { marks = s .marks; pending = s .pending; known = set (s .known) (summary f r q) 1; iterations = s .iterations }
+learn f r q s = record {
+  marks = s .marks;
+  pending = s .pending;
+  known = set (s .known) (summary f r q) 1;
+  iterations = s .iterations;
+}
 
 -- at an exit the summary is known and its callers become pending; elsewhere every step is followed
 unfoldable pub takeFrom : Bool → Program → ℕ → ℕ → ℕ → ℕ → Worklist → Worklist

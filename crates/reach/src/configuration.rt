@@ -8,8 +8,9 @@ ghost use mathlib.Core.Path.{_≡_};
 ghost use Prim.Native.Nat.{_<_, _≤_, _+_, _*_};
 ghost use Rattle.automaton.specs.Sizes.{maxStates};
 ghost use Rattle.program.specs.Sizes.{marksSize};
-ghost use Rattle.reach.specs.Sizes.{summariesSize};
-ghost use Rattle.reach.specs.Configurations.{number, routineOf, stateOf, byteNumbers, exitAt, PartsOf};
+ghost use Rattle.reach.specs.Sizes.{rootsSize, summariesSize};
+ghost use Rattle.reach.specs.Configurations.{number, routineOf, stateOf, byteNumbers, exitAt, rootPlace, entryAt};
+ghost use Rattle.reach.specs.Configurations.{PartsOf};
 ghost use Rattle.reach.specs.Worklist.{summary};
 
 // A configuration, its parts one by one.
@@ -26,8 +27,8 @@ pub fn wide(x: u8) -> usize
     x as usize
 }
 
-// The parts are any bytes: whoever asks for a configuration that no program has gets a number past the marks, and no other
-// configuration's.
+// The parts are any bytes: whoever asks for a configuration that no program has gets a number past the marks, and no
+// other configuration's.
 pub fn number_of(f: u8, n: u8, r: u8, q: u8) -> usize
     ensures { λ v. ⌜ (v ≡ number f n r q) × (v < byteNumbers) ⌝ }
 {
@@ -75,11 +76,26 @@ pub fn summary_of(f: u8, r: u8, q: u8) -> usize
     (wide(f) * MAX_STATES + wide(r)) * MAX_STATES + wide(q)
 }
 
-// The number of the exit whose summary has this place: the summaries of a routine follow one another, and so do the exits.
-// A place past the summaries is none: hence the `requires`.
+// The number of the exit whose summary has this place: the summaries of a routine follow one another, and so do the
+// exits. A place past the summaries is none: hence the `requires`.
 pub fn exit_at(place: usize) -> usize
     requires { ⌜ place < summariesSize ⌝ }
     ensures { λ v. ⌜ (v ≡ exitAt place) × (v < marksSize) ⌝ }
 {
     place / NODE_SPAN * ROUTINE_SPAN + NODE_SPAN + place % NODE_SPAN
+}
+
+// The place of a root's flag.
+pub fn root_place(f: u8, r: u8) -> usize
+    ensures { λ v. ⌜ v ≡ rootPlace f r ⌝ }
+{
+    wide(f) * MAX_STATES + wide(r)
+}
+
+// The number of the entry whose root has its flag at this place. A place past the roots is none: hence the `requires`.
+pub fn entry_at(place: usize) -> usize
+    requires { ⌜ place < rootsSize ⌝ }
+    ensures { λ v. ⌜ (v ≡ entryAt place) × (v < marksSize) ⌝ }
+{
+    entry_of((place / MAX_STATES) as u8, (place % MAX_STATES) as u8)
 }

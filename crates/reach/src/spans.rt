@@ -10,5 +10,8 @@ pub const NODE_SPAN: usize = MAX_STATES * ROOT_SPAN;
 
 pub const ROUTINE_SPAN: usize = MAX_NODES * NODE_SPAN;
 
+// A flag for each root: its routine and its state.
+pub const ROOTS_SIZE: usize = MAX_ROUTINES * MAX_STATES;
+
 // A byte for each summary: its routine, its root and its state.
 pub const SUMMARIES_SIZE: usize = MAX_ROUTINES * MAX_STATES * MAX_STATES;

@@ -1,11 +1,11 @@
 -- The reader's loop: what is read so far, and that the rest decides.
-use mathlib.Core.Path.{_≡_, refl, sym, ap, _∙_}
+use mathlib.Core.Path.{_≡_, _∙_}
 use mathlib.Core.Bool.{true, false}
 use mathlib.Core.List.{List}
-use Prim.Native.Nat.{ℕ, _+_, _-_, _≤_, _<_, _^_}
-use native.Mathlib.Omega.{arith}
+use Prim.Native.Nat.{ℕ, _+_, _-_, _≤_, _<_}
 use lib.ListN.{length, drop}
 use Rattle.text.specs.Lines.{lines, numbers, lineAt}
+use Rattle.program.specs.Sizes.{maxFrames}
 use Rattle.program.specs.Reading.{start, accepted, refused, judge, after, readFrom, readFile}
 use Rattle.program.specs.Frames.{kind}
 use Rattle.program.specs.Decoded.{programOf}
@@ -25,7 +25,7 @@ unfolding readFile
 begins file s e = record { rest = rw e; sound = rw e start-sound }
 
 module _ (file : List ℕ) (s : Reader) (at : ℕ) (r : Reads file s at) where
-  pub few : s .frames ≤ 546
+  pub few : s .frames ≤ maxFrames + 1
   few = frames-few (progressOf s) (r .sound)
 
   pub over : at < length file → s .ended ≡ true → readFile file ≡ refused 8 (s .frames + 1)

@@ -1,4 +1,5 @@
--- What `checked_program` gives: the verdict on a file and on the lengths of the buffers that a call is lent, and the file's program.
+-- What `checked_program` gives: the verdict on a file and on the lengths of the buffers that a call is lent, and the
+-- file's program.
 use Prim.Native.Nat.{ℕ}
 use mathlib.Core.Path.{_≡_}
 use mathlib.Core.List.{List}

@@ -18,7 +18,12 @@ progressOf s = record { last = s .last; frames = s .frames; ended = s .ended; pr
 
 -- what bounds the numbers of a program's frames, and a program of which only that is known
 abbrev pub limits : DecodedProgram → Limits
-limits d = record { routines = d .routines; states = d .automaton .states; actions = d .automaton .actions; nodes = d .nodes }
+limits d = record {
+  routines = d .routines;
+  states = d .automaton .states;
+  actions = d .automaton .actions;
+  nodes = d .nodes;
+}
 
 abbrev pub limitsOf : Limits → Program
 limitsOf h =

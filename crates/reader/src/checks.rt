@@ -7,7 +7,7 @@ use program::sizes::MARKS_SIZE;
 use program::sizes::OUTPUT_SIZE;
 ghost use mathlib.Core.Path.{_≡_};
 ghost use mathlib.Core.List.{[], _∷_};
-ghost use Rattle.program.specs.Checks.{row, firstMet, verdictOf, otherThan, under, checkedBy};
+ghost use Rattle.program.specs.Checks.{row, firstMet, otherThan, under, checkedBy};
 ghost use Rattle.reader.specs.Checked.{Checked};
 
 // Whether there is such a buffer and it has another length than this.
@@ -50,7 +50,7 @@ fn refusal_of(marks: bool, output: bool, work: bool) -> u8
 fn check(v: Verdict, marks: Length, output: Length, work: Length) -> Verdict
     ensures { λ r. ⌜ r ≡ checkedBy v marks output work ⌝ }
 {
-    let n = refusal_of(
+    let refusal = refusal_of(
         other_than(MARKS_SIZE, marks),
         under(OUTPUT_SIZE, output),
         other_than(MARKS_SIZE, work),
@@ -58,10 +58,10 @@ fn check(v: Verdict, marks: Length, output: Length, work: Length) -> Verdict
     match v {
         Verdict::Refused(n, line) => Verdict::Refused(n, line),
         Verdict::Accepted => {
-            if n == 0 {
+            if refusal == 0 {
                 return Verdict::Accepted;
             }
-            Verdict::Refused(n, 0)
+            Verdict::Refused(refusal, 0)
         }
     }
 }

@@ -3,23 +3,29 @@ use crate::Reader;
 use crate::frame::key_of;
 use crate::frame::kind_of;
 use crate::frame::number;
-use crate::frame::word_of;
 use automaton::DecodedAutomaton;
 use automaton::States;
-use automaton::Table;
+use automaton::transitions::Transitions;
+use automaton::transitions::transition_key;
 use program::DecodedProgram;
 use program::Nodes;
+use program::edges::Edges;
+use program::edges::edge_key;
+use tables::with_byte;
+use tables::with_key;
 use text::Line;
 ghost use mathlib.Core.Path.{_≡_};
 ghost use mathlib.Core.Bool.{true, cond};
 ghost use Prim.Native.Nat.{_<_, _^_};
-ghost use lib.ListN.{length};
-ghost use Rattle.automaton.specs.Decoded.{keysOf, statesOf, transitionOf, automatonOf};
+ghost use lib.ListN.{length, take};
+ghost use Rattle.automaton.specs.Sizes.{maxStates, maxTransitions};
+ghost use Rattle.automaton.specs.Decoded.{statesOf, transitionKeysOf, transitionOf, automatonOf};
+ghost use Rattle.program.specs.Sizes.{maxRoutines, maxEdges};
 ghost use Rattle.program.specs.Frames.{kind};
 ghost use Rattle.program.specs.Reading.{edgeIn, transitionIn, more, automatonAfter, programAfter, after};
-ghost use Rattle.program.specs.Decoded.{nodesOf, edgeOf, programOf};
-ghost use Rattle.reader.specs.Parts.{progressOf};
+ghost use Rattle.program.specs.Decoded.{nodesOf, edgeKeysOf, edgeOf, programOf};
 ghost use Rattle.program.specs.Room.{RoomInAutomaton, Room};
+ghost use Rattle.reader.specs.Parts.{progressOf};
 
 fn choose(t: bool, a: u8, b: u8) -> u8
     ensures { λ r. ⌜ r ≡ cond t a b ⌝ }
@@ -30,50 +36,73 @@ fn choose(t: bool, a: u8, b: u8) -> u8
     b
 }
 
-fn add_key(t: Table, yes: bool, key: u32) -> Table
-    requires { ⌜ (yes ≡ true → length (keysOf t) < 256) ⌝ }
-    ensures { λ r. ⌜ keysOf r ≡ more yes key (keysOf t) ⌝ }
+// One key more at the end, where it is wanted.
+fn add_key(keys: &mut [u32], count: usize, yes: bool, key: u32) -> usize
+    requires { ⌜ (yes ≡ true → count < length (now keys)) ⌝ }
+    ensures { λ r. ⌜ take r (now (keys .exit)) ≡ more yes key (take count (now (keys .entry))) ⌝ }
 {
     if yes {
-        return automaton::with_key(t, key);
+        return with_key(keys, count, key);
     }
-    t
+    count
+}
+
+fn add_byte(list: &mut [u8], count: usize, yes: bool, x: u8) -> usize
+    requires { ⌜ (yes ≡ true → count < length (now list)) ⌝ }
+    ensures { λ r. ⌜ take r (now (list .exit)) ≡ more yes x (take count (now (list .entry))) ⌝ }
+{
+    if yes {
+        return with_byte(list, count, x);
+    }
+    count
+}
+
+fn add_transition(t: Transitions, yes: bool, key: u32) -> Transitions
+    requires { ⌜ (yes ≡ true → length (transitionKeysOf t) < maxTransitions) ⌝ }
+    ensures { λ r. ⌜ transitionKeysOf r ≡ more yes key (transitionKeysOf t) ⌝ }
+{
+    let mut keys = t.keys;
+    let count = add_key(&mut keys, t.count, yes, key);
+    Transitions { count, keys }
 }
 
 fn add_state(s: States, yes: bool, q: u8) -> States
-    requires { ⌜ (yes ≡ true → length (statesOf s) < 8) ⌝ }
+    requires { ⌜ (yes ≡ true → length (statesOf s) < maxStates) ⌝ }
     ensures { λ r. ⌜ statesOf r ≡ more yes q (statesOf s) ⌝ }
 {
-    if yes {
-        return automaton::with_state(s, q);
-    }
-    s
+    let mut list = s.list;
+    let count = add_byte(&mut list, s.count, yes, q);
+    States { count, list }
 }
 
 fn add_node(n: Nodes, yes: bool, nodes: u8) -> Nodes
-    requires { ⌜ (yes ≡ true → length (nodesOf n) < 16) ⌝ }
+    requires { ⌜ (yes ≡ true → length (nodesOf n) < maxRoutines) ⌝ }
     ensures { λ r. ⌜ nodesOf r ≡ more yes nodes (nodesOf n) ⌝ }
 {
-    let mut longer = n;
-    if yes {
-        let i = n.count;
-        longer.list[i] = nodes;
-        longer.count = i + 1;
-        return longer;
-    }
-    longer
+    let mut list = n.list;
+    let count = add_byte(&mut list, n.count, yes, nodes);
+    Nodes { count, list }
 }
 
-fn edge_key(l: Line) -> u32
+fn add_edge(t: Edges, yes: bool, key: u32) -> Edges
+    requires { ⌜ (yes ≡ true → length (edgeKeysOf t) < maxEdges) ⌝ }
+    ensures { λ r. ⌜ edgeKeysOf r ≡ more yes key (edgeKeysOf t) ⌝ }
+{
+    let mut keys = t.keys;
+    let count = add_key(&mut keys, t.count, yes, key);
+    Edges { count, keys }
+}
+
+fn edge_in(l: Line) -> u32
     ensures { λ r. ⌜ edgeOf r ≡ edgeIn l ⌝ }
 {
-    word_of(l)
+    edge_key(number(l, 1), number(l, 2), number(l, 3), number(l, 4))
 }
 
-fn transition_key(l: Line) -> u32
+fn transition_in(l: Line) -> u32
     ensures { λ r. ⌜ transitionOf r ≡ transitionIn l ⌝ }
 {
-    word_of(l) / 256
+    transition_key(number(l, 1), number(l, 2), number(l, 3))
 }
 
 fn automaton_after(a: DecodedAutomaton, k: u8, l: Line) -> DecodedAutomaton
@@ -84,7 +113,7 @@ fn automaton_after(a: DecodedAutomaton, k: u8, l: Line) -> DecodedAutomaton
     let i = a.initial;
     let j = a.rejecting;
     let q = number(l, 1);
-    let transitions = add_key(t, k == 4, transition_key(l));
+    let transitions = add_transition(t, k == 4, transition_in(l));
     let initial = add_state(i, k == 5, q);
     let rejecting = add_state(j, k == 6, q);
     DecodedAutomaton {
@@ -104,7 +133,7 @@ fn program_after(p: DecodedProgram, k: u8, l: Line) -> DecodedProgram
     let e = p.edges;
     let a = p.automaton;
     let nodes = add_node(n, k == 2, number(l, 2));
-    let edges = add_key(e, k == 3, edge_key(l));
+    let edges = add_edge(e, k == 3, edge_in(l));
     let automaton = automaton_after(a, k, l);
     DecodedProgram {
         routines: choose(k == 1, number(l, 1), p.routines),

@@ -1,8 +1,9 @@
 // The frames of a file: a line's kind, its numbers and its key.
+use program::frames::pack;
 use text::Line;
 ghost use mathlib.Core.Path.{_≡_};
 ghost use Prim.Native.Nat.{_<_};
-ghost use Rattle.program.specs.Frames.{rank, size, num, kind, packed, word, keyOf};
+ghost use Rattle.program.specs.Frames.{rank, size, num, kind, word, keyOf};
 
 fn rank_of(k: u8) -> u8
     ensures { λ r. ⌜ r ≡ rank k ⌝ }
@@ -67,13 +68,7 @@ pub fn kind_of(l: Line) -> u8
     rank_of(number(l, 0))
 }
 
-fn pack(a: u8, b: u8, c: u8, d: u8) -> u32
-    ensures { λ r. ⌜ r ≡ packed a b c d ⌝ }
-{
-    (((a as u32) * 256 + (b as u32)) * 256 + (c as u32)) * 256 + (d as u32)
-}
-
-pub fn word_of(l: Line) -> u32
+fn word_of(l: Line) -> u32
     ensures { λ r. ⌜ r ≡ word l ⌝ }
 {
     pack(number(l, 1), number(l, 2), number(l, 3), number(l, 4))

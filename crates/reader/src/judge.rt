@@ -5,18 +5,24 @@ use crate::frame::key_of;
 use crate::frame::kind_of;
 use crate::frame::number;
 use crate::frame::size_of;
-use automaton::Table;
+use automaton::sizes::MAX_ACTIONS;
+use automaton::sizes::MAX_STATES;
+use automaton::sizes::MAX_TRANSITIONS;
 use program::DecodedProgram;
 use program::Nodes;
+use program::edges::is_call;
+use program::sizes::FIRST_CALL;
+use program::sizes::MAX_EDGES;
+use program::sizes::MAX_NODES;
+use program::sizes::MAX_ROUTINES;
+use tables::in_use;
 use text::Line;
 ghost use mathlib.Core.Path.{_≡_};
-ghost use lib.ListN.{length, getD};
-ghost use Rattle.automaton.specs.Decoded.{keysOf};
+ghost use lib.ListN.{getD};
 ghost use Rattle.program.specs.Program.{within, countsFit, labelFits, placed, edgeFits};
 ghost use Rattle.program.specs.Reading.{due, ordered, edgeIn, ranged, full, miscounted, lowest, judge};
 ghost use Rattle.program.specs.Decoded.{nodesOf};
-ghost use Rattle.reader.specs.Parts.{progressOf};
-ghost use Rattle.reader.specs.Parts.{limits, limitsOf, judgedBy};
+ghost use Rattle.reader.specs.Parts.{progressOf, limits, limitsOf, judgedBy};
 
 fn inside(lo: u8, hi: u8, x: u8) -> bool
     ensures { λ r. ⌜ r ≡ within lo hi x ⌝ }
@@ -47,13 +53,9 @@ fn node_count(n: Nodes, f: u8) -> u8
     ensures { λ r. ⌜ r ≡ getD (nodesOf n) f 0 ⌝ }
 {
     let list = n.list;
-    let count = n.count;
     let i = f as usize;
-    if i < count {
-        if i < 16 {
-            return list[i];
-        }
-        return 0;
+    if i < in_use(n.count, MAX_ROUTINES) {
+        return list[i];
     }
     0
 }
@@ -61,13 +63,15 @@ fn node_count(n: Nodes, f: u8) -> u8
 fn counts_fit(r: u8, q: u8, a: u8) -> bool
     ensures { λ y. ⌜ y ≡ countsFit r q a ⌝ }
 {
-    inside(1, 16, r) & inside(1, 8, q) & inside(1, 32, a)
+    inside(1, MAX_ROUTINES as u8, r)
+        & inside(1, MAX_STATES as u8, q)
+        & inside(1, MAX_ACTIONS as u8, a)
 }
 
 pub fn label_fits(routines: u8, actions: u8, a: u8) -> bool
     ensures { λ y. ⌜ y ≡ labelFits routines actions a ⌝ }
 {
-    (a < actions) | ((0x40 <= a) & ((a as u16) < 0x40 + (routines as u16)))
+    (a < actions) | (is_call(a) & ((a as u16) < FIRST_CALL as u16 + routines as u16))
 }
 
 fn is_placed(nodes: u8, n: u8, m: u8) -> bool
@@ -94,7 +98,7 @@ fn in_range(h: Limits, k: u8, l: Line) -> bool
     let b = number(l, 2);
     let c = number(l, 3);
     ((k == 1) & counts_fit(a, b, c))
-        | ((k == 2) & (a < h.routines) & inside(2, 16, b))
+        | ((k == 2) & (a < h.routines) & inside(2, MAX_NODES as u8, b))
         | ((k == 3) & edge_fits(h, l))
         | ((k == 4) & ((a < h.states) & (b < h.actions) & (c < h.states)))
         | (inside(5, 6, k) & (a < h.states))
@@ -104,7 +108,7 @@ fn in_range(h: Limits, k: u8, l: Line) -> bool
 fn is_full(edges: usize, transitions: usize, k: u8) -> bool
     ensures { λ y. ⌜ y ≡ full edges transitions k ⌝ }
 {
-    ((k == 3) & (256 <= edges)) | ((k == 4) & (256 <= transitions))
+    ((k == 3) & (MAX_EDGES <= edges)) | ((k == 4) & (MAX_TRANSITIONS <= transitions))
 }
 
 fn is_miscounted(frames: usize, k: u8, l: Line) -> bool
@@ -155,24 +159,6 @@ pub fn limits_of(p: DecodedProgram) -> Limits
     }
 }
 
-fn nodes_in_use(n: Nodes) -> usize
-    ensures { λ r. ⌜ r ≡ length (nodesOf n) ⌝ }
-{
-    if n.count < 16 {
-        return n.count;
-    }
-    16
-}
-
-fn keys_in_use(t: Table) -> usize
-    ensures { λ r. ⌜ r ≡ length (keysOf t) ⌝ }
-{
-    if t.count < 256 {
-        return t.count;
-    }
-    256
-}
-
 fn fault_by(
     last: u64,
     frames: usize,
@@ -209,9 +195,9 @@ pub fn fault_of(s: Reader, l: Line) -> u8
         s.last,
         s.frames,
         limits_of(p),
-        nodes_in_use(n),
-        keys_in_use(e),
-        keys_in_use(t),
+        in_use(n.count, MAX_ROUTINES),
+        in_use(e.count, MAX_EDGES),
+        in_use(t.count, MAX_TRANSITIONS),
         l,
     )
 }

@@ -5,11 +5,15 @@ pub mod frame;
 pub mod judge;
 
 use automaton::DecodedAutomaton;
+use automaton::no_states;
+use automaton::transitions::no_transitions;
 use extend::after_frame;
 use judge::fault_of;
 use program::DecodedProgram;
 use program::Nodes;
 use program::Verdict;
+use program::edges::no_edges;
+use program::sizes::MAX_ROUTINES;
 ghost use mathlib.Core.Path.{_≡_};
 ghost use Rattle.program.specs.Program.{noProgram};
 ghost use Rattle.program.specs.Reading.{start, accepted, refused, readFile};
@@ -44,12 +48,12 @@ fn no_program() -> DecodedProgram
 {
     let nodes = Nodes {
         count: 0,
-        list: [0u8; 16],
+        list: [0u8; MAX_ROUTINES],
     };
-    let edges = automaton::no_keys();
-    let transitions = automaton::no_keys();
-    let initial = automaton::no_states();
-    let rejecting = automaton::no_states();
+    let edges = no_edges();
+    let transitions = no_transitions();
+    let initial = no_states();
+    let rejecting = no_states();
     let automaton = DecodedAutomaton {
         states: 0,
         actions: 0,

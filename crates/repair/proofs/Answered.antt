@@ -1,12 +1,10 @@
 -- The repairs of the marks and their answers, by what the functions below promise.
 use mathlib.Core.Path.{_≡_, refl, sym, ap, subst, _∙_}
 use mathlib.Core.List.{List, _++_}
-use Prim.Native.Nat.{ℕ, _+_, _≤_, _<_}
+use Prim.Native.Nat.{ℕ, _+_, _≤_}
 use native.Mathlib.Omega.{arith}
 use lib.ListN.{length, drop, length-replicate}
-use Rattle.text.specs.Lines.{Bytes}
 use Rattle.program.specs.Program.{Program}
-use Rattle.program.specs.Frames.{edgeFrame}
 use Rattle.program.specs.WellFormed.{WellFormed}
 use Rattle.program.specs.Writing.{written}
 use Rattle.program.specs.Decoded.{programOf}
@@ -25,9 +23,8 @@ use Rattle.reach.proofs.Kept.{marks-length}
 use Rattle.analysis.specs.Answers.{owned}
 use Rattle.prune.specs.Keeping.{Kept}
 use Rattle.prune.proofs.Theorems.{kept-fresh}
-use Rattle.writer.specs.declared.WriteAnswer.{WriteAnswer}
 use Rattle.writer.specs.declared.WriteAnswer.the-variants.{Written, Refused}
-use Rattle.edit.specs.Edits.{edgeOfStep}
+use Rattle.edit.specs.Edits.{edgeOfStep, relabelled}
 use Rattle.edit.specs.Editing.{without, inserted, withEdges, editedProgram, wantedEdit, Applies}
 use Rattle.edit.specs.declared.Step.{Step}
 use Rattle.edit.specs.declared.Label.{Label}
@@ -35,7 +32,7 @@ use Rattle.edit.specs.declared.Edit.{Edit}
 use Rattle.edit.specs.declared.Edit.the-variants.{Add, Drop, Replace}
 use Rattle.edit.specs.declared.EditRead.{EditRead}
 use Rattle.edit.specs.declared.EditRead.the-variants as read
-use Rattle.edit.proofs.Theorems.{applied-well-formed, added-is, dropped-is, replaced-is, relabelled, drop-applies, add-applies}
+use Rattle.edit.proofs.Theorems.{applied-well-formed, added-is, dropped-is, replaced-is, drop-applies, add-applies}
 use Rattle.repair.specs.Repairs.{After, editedBy, wantedBy, repairedBy, repaired}
 use Rattle.repair.specs.Parts.{Keeps, Repaired}
 use Rattle.repair.proofs.Steps.{add-grown, drop-within, drop-initial}

@@ -1,7 +1,7 @@
 -- The numbers that an inside-out repair answers.
-use mathlib.Core.Path.{_≡_, refl, sym, ap, subst, _∙_}
-use mathlib.Core.Logic.{_↔_, _≢_}
-use mathlib.Core.Bool.{Bool, false}
+use mathlib.Core.Path.{_≡_, refl, sym, subst, _∙_}
+use mathlib.Core.Logic.{_≢_}
+use mathlib.Core.Bool.{Bool}
 use mathlib.Core.List.{List}
 use Prim.Native.Nat.{ℕ, _<_}
 use native.Mathlib.Omega.{arith}
@@ -18,12 +18,12 @@ use Rattle.reader.specs.Checked.{Checked}
 use Rattle.reader.specs.declared.Reading.{Reading}
 use Rattle.analysis.specs.Answers.{owned}
 use Rattle.analysis.proofs.Answered.{refused-foreign}
-use Rattle.components.specs.Components.{Bits}
+use Rattle.callgraph.specs.Components.{Bits}
 use Rattle.edit.specs.Editing.{wantedEdit}
 use Rattle.edit.specs.declared.Edit.{Edit}
 use Rattle.edit.specs.declared.EditRead.{EditRead}
 use Rattle.edit.specs.declared.EditRead.the-variants.{Read, Refused}
-use Rattle.repair.specs.Reanalyzed.{ReanalyzedBy, insideOutNumber}
+use Rattle.repair.specs.Reanalyzed.{insideOutNumber}
 use Rattle.repair.specs.Parts.{FlagsOf}
 use Rattle.repair.proofs.Numbers.{wanted-number}
 

@@ -6,28 +6,28 @@ use mathlib.Core.List.{List, [], _++_, append-nil}
 use Prim.Native.Nat.{ℕ, _+_, _/_, _≤_, _<_}
 use native.Mathlib.Omega.{arith}
 use native.Mathlib.Decide.{ℕ-discrete}
-use lib.Dec.{ltb, eqb}
+use lib.Dec.{eqb}
 use lib.ListN.{length, getD, set, take, drop, replicate, length-set, length-replicate}
 use lib.Seq.{getD-set-same, getD-set-other, take-length, drop-length}
-use borrow.Author.Tests.{eqb-true, eqb-false, ltb-true}
-use Rattle.program.specs.Program.{Program, placed, labelFits}
+use borrow.Author.Tests.{eqb-true, eqb-false}
+use Rattle.program.specs.Sizes.{marksSize}
+use Rattle.program.specs.Program.{Program}
 use Rattle.program.specs.WellFormed.{WellFormed}
-use Rattle.base.proofs.Bools.{both}
-use Rattle.program.proofs.Limit.{well-formed-limits}
 use Rattle.reach.specs.Configurations.{InRange, number, routineOf, nodeOf, rootOf, stateOf, none-set}
 use Rattle.reach.specs.Marks.{freshMarks}
 use Rattle.reach.proofs.Numbers.{number-of, routine-of, routine-small, number-fits, node-small, root-small, state-small}
 use Rattle.base.proofs.SetFlags.{zeros}
 use Rattle.reach.proofs.Kept.{marks-length}
 use Rattle.reach.proofs.Exact.{analysis-exact}
-use Rattle.components.specs.Components.{Reopened, Gained}
-use Rattle.components.specs.Turns.{DropOf, Joined}
-use Rattle.edit.specs.Edits.{edgeOfStep}
+use Rattle.callgraph.specs.Components.{Reopened, Gained}
+use Rattle.components.specs.TurnParts.{DropOf}
+use Rattle.callgraph.specs.Parts.{Joined}
+use Rattle.edit.specs.Edits.{edgeOfStep, relabelled}
 use Rattle.edit.specs.Editing.{without, withEdges, editedProgram, Applies}
 use Rattle.edit.specs.declared.Step.{Step}
 use Rattle.edit.specs.declared.Label.{Label}
 use Rattle.edit.specs.declared.Edit.the-variants.{Add, Drop, Replace}
-use Rattle.edit.proofs.Theorems.{applied-well-formed, dropped-is, replaced-is, relabelled}
+use Rattle.edit.proofs.Theorems.{applied-well-formed, dropped-is, replaced-is}
 use Rattle.repair.specs.Parts.{Repaired, FlagsOf, MarkedMore}
 use Rattle.repair.specs.Reanalyzed.{ReanalyzedBy}
 use Rattle.repair.proofs.Steps.{other-steps, drop-within}
@@ -95,28 +95,28 @@ module _ {old new flags : List ℕ} {i : ℕ} (g : Gaining old new i flags) wher
             (λ o. widened (g .flag f h .0 o), λ x. g .flag f h .1 (narrowed x (λ e. n (rw e at (x .was)) (rw e at (x .is)))));
       }
 
-  pub gaining-on : i < 16384 → getD old i 0 ≡ 0 → getD new i 0 ≢ 0 → Gaining old new (i + 1) (set flags (routineOf i) 1)
+  pub gaining-on : i < marksSize → getD old i 0 ≡ 0 → getD new i 0 ≢ 0 → Gaining old new (i + 1) (set flags (routineOf i) 1)
   gaining-on b a n =
       record {
         len = length-set flags (routineOf i) 1 ∙ g .len;
         bound = omega arith;
         flag = λ f h.
             elim (ℕ-discrete f (routineOf i)) [
-              | yes e ↦ (λ o. record { place = i; below = omega arith; routine = sym e; is = n; was = a }, λ x. set-there f e)
-              | no e ↦ (λ o. widened (g .flag f h .0 (rw (other f e) at o)), λ x. rw (other f e) (g .flag f h .1 (narrowed x (λ z. e (sym (x .routine) ∙ ap (λ (j : ℕ). j / 1024) z)))))
+              | yes e ↦ (λ o. record { place = i; below = omega arith; routine = sym e; is = n; was = a }, λ x. set-there b f e)
+              | no e ↦ (λ o. widened (g .flag f h .0 (rw (other f e) at o)), λ x. rw (other f e) (g .flag f h .1 (narrowed x (λ z. e (sym (x .routine) ∙ ap routineOf z)))))
             ];
       }
     where
       other : (f : ℕ) → f ≢ routineOf i → getD (set flags (routineOf i) 1) f 0 ≡ getD flags f 0
       other f e = getD-set-other flags (routineOf i) f 1 0 e
 
-      set-there : (f : ℕ) → f ≡ routineOf i → getD (set flags (routineOf i) 1) f 0 ≢ 0
-      set-there f e z =
-          let s : getD (set flags (routineOf i) 1) (routineOf i) 0 ≡ 1 = getD-set-same flags (routineOf i) 1 0 (omega (arith, g .len)) in
+      set-there : i < marksSize → (f : ℕ) → f ≡ routineOf i → getD (set flags (routineOf i) 1) f 0 ≢ 0
+      set-there b f e z =
+          let s : getD (set flags (routineOf i) 1) (routineOf i) 0 ≡ 1 = getD-set-same flags (routineOf i) 1 0 (omega (arith, g .len, routine-small i b)) in
           let y : getD (set flags (routineOf i) 1) (routineOf i) 0 ≡ 0 = rw e at z in
           omega (arith, s, y)
 
-  pub gaining-end : 16384 ≤ i → FlagsOf (MarkedMore old new) flags
+  pub gaining-end : marksSize ≤ i → FlagsOf (MarkedMore old new) flags
   gaining-end b = record { flag = λ f h. (λ o. to f h (g .flag f h .0 o), λ x. g .flag f h .1 (from f x)) }
     where
       to : (f : ℕ) → f < 16 → NewBelow old new f i → MarkedMore old new f
@@ -201,16 +201,6 @@ none-dropped p w f =
     record { old-well-formed = w; well-formed = w; automaton = refl; steps = λ h. h; others = λ n h. h }
 
 module _ (s : Step) (p : Program) (w : WellFormed p) (a : Applies (Drop s) p) where
-  -- its routine is in range
-  pub drop-routine : s .routine < 16
-  drop-routine =
-      let f = s .routine in
-      let e = edgeOfStep s in
-      let fit = placed (getD (p .nodes) f 0) (s .source) (s .target) in
-      let c = both (ltb f (p .routines) && fit) (labelFits (p .routines) (p .automaton .actions) (e .label)) (a .old-fits) in
-      let h = ltb-true f (p .routines) (both (ltb f (p .routines)) fit (c .0) .0) in
-      omega (arith, h, well-formed-limits p w .routines)
-
   drop-is : DropOf p (editedProgram (Drop s) p) (s .routine)
   drop-is =
       record {

@@ -12,7 +12,8 @@ use Rattle.program.specs.Frames.{edgeKey}
 use Rattle.program.specs.WellFormed.{WellFormed}
 use Rattle.reach.specs.Runs.{Step, labelOf, stepOf, HasStep}
 use Rattle.reach.specs.Reachable.{Initial, initial}
-use Rattle.reach.proofs.Laws.{Sub, Within}
+use Rattle.reach.proofs.Laws.{Within}
+use Rattle.reach.specs.Configurations.{Sub}
 use Rattle.reach.proofs.Sizes.{sizes}
 use Rattle.reach.proofs.Growing.{Grown, AtNode}
 use Rattle.edit.specs.Edits.{edgeOfStep, oldEdge}

@@ -19,7 +19,8 @@ pub record Repaired (e : Edit) (p p′ : Program) (marks work : List ℕ) : Type
   pub own : marks ≡ freshMarks p′
   pub clear : work ≡ none-set
 
--- the program is the one without the step, the marks are what it keeps of the old ones (paper: the keeping), foreign or not, and the working buffer is all zero
+-- the program is the one without the step, the marks are what it keeps of the old ones (paper: the keeping), foreign or
+-- not, and the working buffer is all zero
 pub record Keeps (s : Step) (p p′ : Program) (old marks work : List ℕ) : Type 0 where
   pub is-edited : p′ ≡ editedProgram (Drop s) p
   pub kept : Shows (Kept p′ old) marks

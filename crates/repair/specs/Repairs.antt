@@ -1,5 +1,5 @@
--- A repair (paper): it reads a file, its marks and one edit line, changes the marks to those of the edited program, and writes that program. One function of
--- everything that is lent gives the answer and every lent byte afterwards.
+-- A repair (paper): it reads a file, its marks and one edit line, changes the marks to those of the edited program, and
+-- writes that program. One function of everything that is lent gives the answer and every lent byte afterwards.
 use Prim.Native.Nat.{ℕ}
 use mathlib.Core.List.{List, _++_}
 use lib.ListN.{length, drop}
@@ -39,7 +39,8 @@ untouched n line marks output work = record { answer = Refused n line; marks = m
 abbrev pub foreign : ℕ → ℕ → List ℕ → List ℕ → After
 foreign n line marks output = record { answer = Refused n line; marks = marks; output = output; work = none-set }
 
--- the marks of the edited program; its file at the start of the output, whose other bytes stay; the working buffer all zero
+-- the marks of the edited program; its file at the start of the output, whose other bytes stay; the working buffer all
+-- zero
 abbrev pub repairedTo : Program → List ℕ → After
 repairedTo p output =
     record {
@@ -54,6 +55,7 @@ repairedTo p output =
 abbrev pub checkedRepair : List ℕ → List ℕ → List ℕ → List ℕ → Verdict
 checkedRepair file marks output work = checked file (Of (length marks)) (Of (length output)) (Of (length work))
 
+-- the marks (17)
 abbrev pub ownedBy : Verdict → Program → List ℕ → List ℕ → After
 ownedBy verdict.Accepted p marks output = repairedTo p output
 ownedBy (verdict.Refused n line) p marks output = foreign n line marks output
@@ -73,7 +75,8 @@ repairedBy (verdict.Refused n at) p marks line output work = untouched n at mark
 -- ---- a repair, for a file, marks, an edit line, an output and a working buffer
 
 unfoldable pub repaired : List ℕ → List ℕ → List ℕ → List ℕ → List ℕ → After
-repaired file marks line output work = repairedBy (checkedRepair file marks output work) (readFile file .program) marks line output work
+repaired file marks line output work =
+    repairedBy (checkedRepair file marks output work) (readFile file .program) marks line output work
 
 -- ---- the numbers of an inside-out repair's answer
 

@@ -1,6 +1,7 @@
-// The forward repair of the marks: an add lets the new edge act and follows what is newly marked; a drop keeps what still has
-// support, whatever the marks are; a replace is the drop and then the add. The edits that come here were not refused (12 to 16),
-// the buffers have their lengths (9 and 11), and but for a drop the marks must be the program's own (17): hence each `requires`.
+// The forward repair of the marks: an add lets the new edge act and follows what is newly marked; a drop keeps what
+// still has support, whatever the marks are; a replace is the drop and then the add. The edits that come here were not
+// refused (12 to 16), the buffers have their lengths (9 and 11), and but for a drop the marks must be the program's own
+// (17): hence each `requires`.
 use edit::Edit;
 use edit::Step;
 use edit::apply::relabelled;
@@ -35,7 +36,8 @@ pub fn add_step(p: DecodedProgram, s: Step, marks: &mut [u8], work: &mut [u8]) -
 fn prune_marks(p: DecodedProgram, marks: &mut [u8], work: &mut [u8])
     requires { ⌜ WellFormed (programOf p) ⌝ }
     requires { ⌜ (length (now marks) ≡ marksSize) × (length (now work) ≡ marksSize) ⌝ }
-    ensures { λ _. ⌜ Shows (Kept (programOf p) (now (marks .entry))) (now (marks .exit)) × (now (work .exit) ≡ none-set) ⌝ }
+    ensures { λ _. ⌜ Shows (Kept (programOf p) (now (marks .entry))) (now (marks .exit))
+        × (now (work .exit) ≡ none-set) ⌝ }
 {
     prune_program(p, marks, work);
 }

@@ -1,11 +1,11 @@
-// The inside-out repair of the marks: an add does what the forward repair does; a drop works component by component; a replace
-// is the drop and then the add. The routines that are reanalyzed are told. The edits that come here were not refused and the
-// marks are the program's own (refusals 12 to 17): hence each `requires`.
+// The inside-out repair of the marks: an add does what the forward repair does; a drop works component by component; a
+// replace is the drop and then the add. The routines that are reanalyzed are told. The edits that come here were not
+// refused and the marks are the program's own (refusals 12 to 17): hence each `requires`.
 use crate::forward::add_step;
 use crate::forward::repair_marks;
+use callgraph::routines::Routines;
+use callgraph::routines::join;
 use components::drop::drop_inside_out;
-use components::routines::Routines;
-use components::routines::join;
 use edit::Edit;
 use edit::Label;
 use edit::Step;
@@ -24,7 +24,7 @@ ghost use Rattle.program.specs.Decoded.{programOf};
 ghost use Rattle.edit.specs.Editing.{Applies};
 ghost use Rattle.edit.specs.declared.Edit.the-variants.{Add, Drop, Replace};
 ghost use Rattle.reach.specs.Marks.{freshMarks};
-ghost use Rattle.components.specs.Turns.{Joined};
+ghost use Rattle.callgraph.specs.Parts.{Joined};
 ghost use Rattle.repair.specs.Parts.{Repaired, FlagsOf, MarkedMore};
 ghost use Rattle.repair.specs.Reanalyzed.{ReanalyzedBy};
 
@@ -42,10 +42,10 @@ fn gained(old: &[u8], new: &[u8]) -> Routines
     let mut flags = [0u8; MAX_ROUTINES];
     let mut i: usize = 0;
     while i < MARKS_SIZE {
+        let f = routine_of(i);
         let was = old[i] != 0;
         let is = new[i] != 0;
         if !was & is {
-            let f = routine_of(i);
             flags[f] = 1;
         }
         i = i + 1;
@@ -57,10 +57,7 @@ fn gained(old: &[u8], new: &[u8]) -> Routines
 fn either(a: Routines, b: Routines) -> Routines
     ensures { λ r. ⌜ Joined (a .flags) (b .flags) (r .flags) ⌝ }
 {
-    let mut flags = a.flags;
-    let more = b.flags;
-    join(&mut flags, &more);
-    Routines { flags }
+    join(a, b)
 }
 
 fn add_step_inside_out(p: DecodedProgram, s: Step, marks: &mut [u8], work: &mut [u8]) -> Reworked
@@ -96,7 +93,8 @@ fn replace_step_inside_out(
 ) -> Reworked
     requires { ⌜ WellFormed (programOf p) × Applies (Replace s l) (programOf p) ⌝ }
     requires { ⌜ (now marks ≡ freshMarks (programOf p)) × (length (now work) ≡ marksSize) ⌝ }
-    ensures { λ r. ⌜ Repaired (Replace s l) (programOf p) (programOf (r .program)) (now (marks .exit)) (now (work .exit))
+    ensures { λ r. ⌜ Repaired (Replace s l) (programOf p) (programOf (r .program)) (now (marks .exit))
+        (now (work .exit))
         × FlagsOf (ReanalyzedBy (Replace s l) (programOf p)) (r .routines .flags) ⌝ }
 {
     let dropped = drop_step_inside_out(p, s, marks, work);

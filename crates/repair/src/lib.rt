@@ -3,7 +3,7 @@ mod forward;
 mod inside_out;
 
 use analysis::check_own;
-use components::routines::bits_of;
+use callgraph::routines::bits_of;
 use edit::Edit;
 use edit::EditRead;
 use edit::wanted_edit;
@@ -29,8 +29,8 @@ ghost use Rattle.edit.specs.declared.EditRead.the-variants.{Read};
 ghost use Rattle.repair.specs.Repairs.{After, editedBy, wantedBy, repaired, plain, reanalyzed};
 ghost use Rattle.repair.specs.Reanalyzed.{insideOutNumber};
 
-// So many bytes were written, and these routines were reanalyzed, a bit each; or nothing was done, and a refusal says why, at
-// which line.
+// So many bytes were written, and these routines were reanalyzed, a bit each; or nothing was done, and a refusal says
+// why, at which line.
 pub enum RepairAnswer {
     Repaired(usize, u32),
     Refused(u8, usize),
@@ -46,8 +46,14 @@ fn repair_own(
     work: &mut [u8],
 ) -> RepairAnswer
     requires { ⌜ WellFormed (programOf p) × Applies e (programOf p) ⌝ }
-    requires { ⌜ (length (now marks) ≡ marksSize) × (outputSize ≤ length (now output)) × (length (now work) ≡ marksSize) ⌝ }
-    ensures { λ r. ⌜ _≡_ {A = After} (record { answer = plain r; marks = now (marks .exit); output = now (output .exit); work = now (work .exit) })
+    requires { ⌜ (length (now marks) ≡ marksSize) × (outputSize ≤ length (now output))
+        × (length (now work) ≡ marksSize) ⌝ }
+    ensures { λ r. ⌜ _≡_ {A = After} (record {
+      answer = plain r;
+      marks = now (marks .exit);
+      output = now (output .exit);
+      work = now (work .exit);
+    })
         (editedBy e (programOf p) (now (marks .entry)) (now (output .entry)))
         × (inward ≡ true → insideOutNumber (eqb (refusal (plain r)) 0) (Read e) (programOf p) (reanalyzed r)) ⌝ }
 {
@@ -76,10 +82,18 @@ fn repair_wanted(
     work: &mut [u8],
 ) -> RepairAnswer
     requires { ⌜ WellFormed (programOf p) ⌝ }
-    requires { ⌜ (length (now marks) ≡ marksSize) × (outputSize ≤ length (now output)) × (length (now work) ≡ marksSize) ⌝ }
-    ensures { λ r. ⌜ _≡_ {A = After} (record { answer = plain r; marks = now (marks .exit); output = now (output .exit); work = now (work .exit) })
-        (wantedBy (wantedEdit (programOf p) (now (line .entry))) (programOf p) (now (marks .entry)) (now (output .entry)) (now (work .entry)))
-        × (inward ≡ true → insideOutNumber (eqb (refusal (plain r)) 0) (wantedEdit (programOf p) (now (line .entry))) (programOf p) (reanalyzed r)) ⌝ }
+    requires { ⌜ (length (now marks) ≡ marksSize) × (outputSize ≤ length (now output))
+        × (length (now work) ≡ marksSize) ⌝ }
+    ensures { λ r. ⌜ _≡_ {A = After} (record {
+      answer = plain r;
+      marks = now (marks .exit);
+      output = now (output .exit);
+      work = now (work .exit);
+    })
+        (wantedBy (wantedEdit (programOf p) (now (line .entry))) (programOf p) (now (marks .entry))
+        (now (output .entry)) (now (work .entry)))
+        × (inward ≡ true → insideOutNumber (eqb (refusal (plain r)) 0) (wantedEdit (programOf p) (now (line .entry)))
+        (programOf p) (reanalyzed r)) ⌝ }
 {
     let wanted = wanted_edit(p, line);
     match wanted {
@@ -88,8 +102,8 @@ fn repair_wanted(
     }
 }
 
-// Either repair: the inside-out one where that is asked for, else the forward one. Only the inside-out repair promises something
-// of the routines.
+// Either repair: the inside-out one where that is asked for, else the forward one. Only the inside-out repair promises
+// something of the routines.
 fn repair_file(
     inward: bool,
     file: &[u8],
@@ -98,9 +112,17 @@ fn repair_file(
     output: &mut [u8],
     work: &mut [u8],
 ) -> RepairAnswer
-    ensures { λ r. ⌜ _≡_ {A = After} (record { answer = plain r; marks = now (marks .exit); output = now (output .exit); work = now (work .exit) })
-        (repaired (now (file .entry)) (now (marks .entry)) (now (line .entry)) (now (output .entry)) (now (work .entry)))
-        × (inward ≡ true → insideOutNumber (eqb (refusal (plain r)) 0) (wantedEdit (readFile (now (file .entry)) .program) (now (line .entry))) (readFile (now (file .entry)) .program) (reanalyzed r)) ⌝ }
+    ensures { λ r. ⌜ _≡_ {A = After} (record {
+      answer = plain r;
+      marks = now (marks .exit);
+      output = now (output .exit);
+      work = now (work .exit);
+    })
+        (repaired (now (file .entry)) (now (marks .entry)) (now (line .entry)) (now (output .entry))
+        (now (work .entry)))
+        × (inward ≡ true → insideOutNumber (eqb (refusal (plain r)) 0)
+        (wantedEdit (readFile (now (file .entry)) .program) (now (line .entry)))
+        (readFile (now (file .entry)) .program) (reanalyzed r)) ⌝ }
 {
     let marks_length = Length::Of(marks.len());
     let output_length = Length::Of(output.len());
@@ -126,8 +148,8 @@ pub fn without_routines(a: RepairAnswer) -> WriteAnswer
     }
 }
 
-// Either repair, for those who ask for the marks and the file only: the inside-out one where that is asked for, else the
-// forward one.
+// Either repair, for those who ask for the marks and the file only: the inside-out one where that is asked for, else
+// the forward one.
 pub fn repair_with(
     inside_out: bool,
     file: &[u8],
@@ -136,15 +158,21 @@ pub fn repair_with(
     output: &mut [u8],
     work: &mut [u8],
 ) -> WriteAnswer
-    ensures { λ r. ⌜ _≡_ {A = After} (record { answer = r; marks = now (marks .exit); output = now (output .exit); work = now (work .exit) })
-        (repaired (now (file .entry)) (now (marks .entry)) (now (line .entry)) (now (output .entry)) (now (work .entry))) ⌝ }
+    ensures { λ r. ⌜ _≡_ {A = After} (record {
+      answer = r;
+      marks = now (marks .exit);
+      output = now (output .exit);
+      work = now (work .exit);
+    })
+        (repaired (now (file .entry)) (now (marks .entry)) (now (line .entry)) (now (output .entry))
+        (now (work .entry))) ⌝ }
 {
     let a = repair_file(inside_out, file, marks, line, output, work);
     without_routines(a)
 }
 
-// The forward repair. The marks must be the file's own. A refusal leaves the marks and the output alone, and the working
-// buffer too unless it is 17; after 17 and on success the working buffer is all zero.
+// The forward repair. The marks must be the file's own. A refusal leaves the marks and the output alone, and the
+// working buffer too unless it is 17; after 17 and on success the working buffer is all zero.
 pub fn repair_forward(
     file: &[u8],
     marks: &mut [u8],
@@ -152,8 +180,14 @@ pub fn repair_forward(
     output: &mut [u8],
     work: &mut [u8],
 ) -> WriteAnswer
-    ensures { λ r. ⌜ _≡_ {A = After} (record { answer = r; marks = now (marks .exit); output = now (output .exit); work = now (work .exit) })
-        (repaired (now (file .entry)) (now (marks .entry)) (now (line .entry)) (now (output .entry)) (now (work .entry))) ⌝ }
+    ensures { λ r. ⌜ _≡_ {A = After} (record {
+      answer = r;
+      marks = now (marks .exit);
+      output = now (output .exit);
+      work = now (work .exit);
+    })
+        (repaired (now (file .entry)) (now (marks .entry)) (now (line .entry)) (now (output .entry))
+        (now (work .entry))) ⌝ }
 {
     repair_with(false, file, marks, line, output, work)
 }
@@ -166,9 +200,16 @@ pub fn repair_inside_out(
     output: &mut [u8],
     work: &mut [u8],
 ) -> RepairAnswer
-    ensures { λ r. ⌜ _≡_ {A = After} (record { answer = plain r; marks = now (marks .exit); output = now (output .exit); work = now (work .exit) })
-        (repaired (now (file .entry)) (now (marks .entry)) (now (line .entry)) (now (output .entry)) (now (work .entry)))
-        × insideOutNumber (eqb (refusal (plain r)) 0) (wantedEdit (readFile (now (file .entry)) .program) (now (line .entry))) (readFile (now (file .entry)) .program) (reanalyzed r) ⌝ }
+    ensures { λ r. ⌜ _≡_ {A = After} (record {
+      answer = plain r;
+      marks = now (marks .exit);
+      output = now (output .exit);
+      work = now (work .exit);
+    })
+        (repaired (now (file .entry)) (now (marks .entry)) (now (line .entry)) (now (output .entry))
+        (now (work .entry)))
+        × insideOutNumber (eqb (refusal (plain r)) 0) (wantedEdit (readFile (now (file .entry)) .program)
+        (now (line .entry))) (readFile (now (file .entry)) .program) (reanalyzed r) ⌝ }
 {
     repair_file(true, file, marks, line, output, work)
 }

@@ -5,7 +5,8 @@ use Prim.Native.Nat.{ℕ}
 use Prim.Native.String.{String}
 use Rattle.text.specs.Hex.{hex}
 use Rattle.text.specs.Lines.{lines, numbers}
-use Rattle.automaton.specs.Automaton.{listed, moves, member}
+use Rattle.automaton.specs.Automaton.{listed, moves}
+use Rattle.tables.specs.Keys.{member}
 use Rattle.program.specs.Reading.{judgeAs, judge, afterAs, after, readFrom, readFile}
 use Rattle.program.specs.Writing.{text}
 use Rattle.program.specs.Sample.{bytes, header, edges, transitions}

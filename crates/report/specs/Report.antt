@@ -1,4 +1,5 @@
--- What `bench` prints, as one function of its input: a file through its first line that starts with 45, and then edits, a line each.
+-- What `bench` prints, as one function of its input: a file through its first line that starts with 45, and then edits,
+-- a line each.
 use Prim.Native.Nat.{ℕ, _+_, _*_, _/_, _%_}
 use mathlib.Core.Path.{_≡_}
 use mathlib.Core.Bool.{Bool, cond, _&&_}
@@ -54,7 +55,8 @@ countFrame c v = 0x5A ∷ c / 256 ∷ c % 256 ∷ v / 256 ∷ v % 256 ∷ []
 
 -- the block of a program and its marks: each violation, ascending, and then the counts
 unfoldable pub blockOf : Program → List ℕ → List ℕ
-blockOf p marks = text (map violationFrame (violationsFrom p marks 0) ++ countFrame (countSet marks) (length (violationsFrom p marks 0)) ∷ [])
+blockOf p marks = text (map violationFrame (violationsFrom p marks 0)
+    ++ countFrame (countSet marks) (length (violationsFrom p marks 0)) ∷ [])
 
 -- a refused edit, a refused file with its line, and an input that is too long (18)
 abbrev pub refusedEdit : ℕ → List ℕ
@@ -85,7 +87,8 @@ fileText verdict.Accepted p ls = blockOf p (freshMarks p) ++ editsText p ls
 fileText (verdict.Refused n line) p ls = refusedFile n line
 
 abbrev pub inputText : List ℕ → ℕ → List ℕ
-inputText input size = fileText (readFile (take size input) .verdict) (readFile (take size input) .program) (lines (drop size input))
+inputText input size = fileText (readFile (take size input) .verdict) (readFile (take size input) .program)
+    (lines (drop size input))
 
 unfoldable pub benchText : List ℕ → List ℕ
 benchText input = cond (ltb inputSize (length input)) tooLong (inputText input (fileSize (lines input)))
@@ -106,7 +109,8 @@ blockBy verdict.Accepted p marks room = cond (ltb room blockSize) [] (blockOf p 
 blockBy (verdict.Refused n line) p marks room = []
 
 unfoldable pub blockText : List ℕ → List ℕ → ℕ → List ℕ
-blockText file marks room = blockBy (checked file (Of (length marks)) NotAsked NotAsked) (readFile file .program) marks room
+blockText file marks room =
+    blockBy (checked file (Of (length marks)) NotAsked NotAsked) (readFile file .program) marks room
 
 -- ---- a line of a refusal, as it is asked for: into an output
 

@@ -13,12 +13,14 @@ ghost use mathlib.Core.List.{[], _∷_};
 ghost use Prim.Native.Nat.{_<_, _/_, _%_};
 ghost use lib.ListN.{length, drop};
 ghost use Rattle.text.specs.Lines.{lines, lineOf, firstLine};
-ghost use Rattle.report.specs.Report.{startsEnd, fileSize, firstSize, blockText, editRefusal, fileRefusal, Printed};
+ghost use Rattle.report.specs.Report.{startsEnd, fileSize, firstSize, blockText, editRefusal, fileRefusal};
+ghost use Rattle.report.specs.Report.{Printed};
 
 // No input that is read is longer.
 pub const INPUT_SIZE: usize = 16384;
 
-// No line is longer: five numbers, two digits each, and 0A. No block is longer: a line for each configuration, and the counts.
+// No line is longer: five numbers, two digits each, and 0A. No block is longer: a line for each configuration, and the
+// counts.
 pub const LINE_SIZE: usize = 11;
 
 pub const BLOCK_SIZE: usize = LINE_SIZE * MARKS_SIZE + LINE_SIZE;
@@ -66,7 +68,8 @@ pub fn file_size(input: &[u8]) -> usize
 
 // The block of a file's program and of marks: each violation, ascending, and then the counts.
 pub fn block(file: &[u8], marks: &[u8], output: &mut [u8]) -> usize
-    ensures { λ r. ⌜ Printed (blockText (now (file .entry)) (now (marks .entry)) (length (now (output .entry)))) (now (output .entry)) (now (output .exit)) r ⌝ }
+    ensures { λ r. ⌜ Printed (blockText (now (file .entry)) (now (marks .entry)) (length (now (output .entry))))
+        (now (output .entry)) (now (output .exit)) r ⌝ }
 {
     let marks_length = Length::Of(marks.len());
     let r = checked_program(file, marks_length, Length::NotAsked, Length::NotAsked);
@@ -106,7 +109,8 @@ fn file_refusal_line(n: u8, line: usize) -> Line
 
 // The line of a refused edit.
 pub fn edit_refusal(n: u8, output: &mut [u8]) -> usize
-    ensures { λ r. ⌜ Printed (editRefusal n (length (now (output .entry)))) (now (output .entry)) (now (output .exit)) r ⌝ }
+    ensures { λ r. ⌜ Printed (editRefusal n (length (now (output .entry)))) (now (output .entry))
+        (now (output .exit)) r ⌝ }
 {
     if output.len() < LINE_SIZE {
         return 0;
@@ -117,7 +121,8 @@ pub fn edit_refusal(n: u8, output: &mut [u8]) -> usize
 
 // The line of a refused file.
 pub fn file_refusal(n: u8, line: usize, output: &mut [u8]) -> usize
-    ensures { λ r. ⌜ Printed (fileRefusal n line (length (now (output .entry)))) (now (output .entry)) (now (output .exit)) r ⌝ }
+    ensures { λ r. ⌜ Printed (fileRefusal n line (length (now (output .entry)))) (now (output .entry))
+        (now (output .exit)) r ⌝ }
 {
     if output.len() < LINE_SIZE {
         return 0;

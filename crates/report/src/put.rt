@@ -1,7 +1,7 @@
 // Putting the lines of a block into an output.
-use analysis::count::count_marks;
 use analysis::count::count_violations;
 use automaton::flags::rejecting_flags;
+use base::flags::count_set;
 use program::DecodedProgram;
 use reach::configuration::parts_of;
 use reach::configuration::state_of;
@@ -48,10 +48,12 @@ fn count_line(configurations: usize, violations: usize) -> Line
 
 // The line of configuration i where it is marked and its present state is rejecting; nothing where it is no violation.
 fn put_violation(marks: &[u8], rejecting: &[u8], i: usize, out: &mut [u8], at: usize) -> usize
-    requires { ⌜ (i < marksSize) × (length (now marks) ≡ marksSize) × (length (now rejecting) ≡ maxStates) × (at + lineSize ≤ length (now out)) ⌝ }
+    requires { ⌜ (i < marksSize) × (length (now marks) ≡ marksSize) × (length (now rejecting) ≡ maxStates)
+        × (at + lineSize ≤ length (now out)) ⌝ }
     ensures { λ next. ⌜ next ≤ at + lineSize ⌝ }
     ensures { λ next. ⌜ ((p : Program) → Rejects (p .automaton) (now (rejecting .entry))
-        → Put (map violationFrame (frontWhen (violates p (getD (now (marks .entry)) i 0) i) i [])) (now (out .entry)) (now (out .exit)) at next) ⌝ }
+        → Put (map violationFrame (frontWhen (violates p (getD (now (marks .entry)) i 0) i) i [])) (now (out .entry))
+        (now (out .exit)) at next) ⌝ }
 {
     let is_violation = (marks[i] != 0) & (rejecting[state_of(i)] != 0);
     if is_violation {
@@ -63,10 +65,12 @@ fn put_violation(marks: &[u8], rejecting: &[u8], i: usize, out: &mut [u8], at: u
 
 // The lines of all violations, at the output's start: one pass over the marks.
 fn put_violations(marks: &[u8], rejecting: &[u8], out: &mut [u8]) -> usize
-    requires { ⌜ (length (now marks) ≡ marksSize) × (length (now rejecting) ≡ maxStates) × (blockSize ≤ length (now out)) ⌝ }
+    requires { ⌜ (length (now marks) ≡ marksSize) × (length (now rejecting) ≡ maxStates)
+        × (blockSize ≤ length (now out)) ⌝ }
     ensures { λ next. ⌜ next ≤ lineSize * marksSize ⌝ }
     ensures { λ next. ⌜ ((p : Program) → Rejects (p .automaton) (now (rejecting .entry))
-        → Put (map violationFrame (violationsFrom p (now (marks .entry)) 0)) (now (out .entry)) (now (out .exit)) 0 next) ⌝ }
+        → Put (map violationFrame (violationsFrom p (now (marks .entry)) 0)) (now (out .entry))
+        (now (out .exit)) 0 next) ⌝ }
 {
     let mut at: usize = 0;
     let mut i: usize = 0;
@@ -85,7 +89,7 @@ pub fn put_block(p: DecodedProgram, marks: &[u8], out: &mut [u8]) -> usize
     let rule = p.automaton;
     let rejecting = rejecting_flags(rule);
     let flags = rejecting.flags;
-    let configurations = count_marks(marks);
+    let configurations = count_set(marks);
     let violations = count_violations(marks, &flags);
     let at = put_violations(marks, &flags, out);
     let l = count_line(configurations, violations);

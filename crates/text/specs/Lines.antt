@@ -33,7 +33,8 @@ before x (some xs) = some (x ∷ xs)
 unfoldable pub numbers : List ℕ → Option (List ℕ)
 numbers [] = none
 numbers (a ∷ []) = cond (eqb a 10) (some []) none
-numbers (a ∷ b ∷ s) = cond (eqb a 10) (some []) (cond (leb 256 (twoDigits a b)) none (before (twoDigits a b) (numbers s)))
+numbers (a ∷ b ∷ s) = cond (eqb a 10) (some []) (cond (leb 256 (twoDigits a b)) none
+    (before (twoDigits a b) (numbers s)))
 
 -- every number fits a byte
 abbrev pub Bytes : List ℕ → Type 0

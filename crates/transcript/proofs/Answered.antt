@@ -1,6 +1,5 @@
 -- What is printed for an answer of the analysis and of a repair.
 use mathlib.Core.Path.{_≡_, refl, ap, _∙_}
-use mathlib.Core.Bool.{Bool, true, false, cond}
 use mathlib.Core.List.{List, _++_}
 use Prim.Native.Nat.{ℕ, _%_}
 use native.Mathlib.Omega.{arith}
@@ -8,25 +7,28 @@ use lib.ListN.{length, take, drop}
 use lib.Seq.{take-append-seam}
 use Rattle.program.specs.Program.{Program}
 use Rattle.program.specs.WellFormed.{WellFormed}
-use Rattle.program.specs.Reading.{Outcome, accepted, readFile}
+use Rattle.program.specs.Reading.{Outcome, readFile}
+use Rattle.program.specs.Checks.{firstMet, checkedBy, checked}
 use Rattle.program.specs.Writing.{written}
 use Rattle.program.specs.declared.Verdict.{Verdict}
 use Rattle.program.specs.declared.Verdict.the-variants as verdict
-use Rattle.program.proofs.Theorems.{accepted-well-formed, read-again, few-lines}
+use Rattle.program.specs.declared.Length.the-variants.{NotAsked, Of}
+use Rattle.program.proofs.Theorems.{read-again, few-lines}
+use Rattle.program.proofs.Checked.{passes}
 use Rattle.writer.specs.declared.WriteAnswer.{WriteAnswer}
 use Rattle.writer.specs.declared.WriteAnswer.the-variants.{Written, Refused}
 use Rattle.reach.specs.Configurations.{none-set}
 use Rattle.reach.specs.Marks.{freshMarks}
 use Rattle.reach.proofs.Kept.{marks-length}
-use Rattle.analysis.specs.Answers.{checkedBy, checked, analyzeBy, analyzeAnswer, marksAfter, same}
+use Rattle.analysis.specs.Answers.{checkedMarks, analyzeBy, analyzeAnswer, marksAfter}
+use Rattle.analysis.proofs.Answered.{by-marks}
 use Rattle.analysis.specs.declared.AnalyzeAnswer.the-variants as analyzed
 use Rattle.edit.specs.Editing.{editedProgram, wantedEdit}
 use Rattle.edit.specs.declared.EditRead.{EditRead}
 use Rattle.edit.specs.declared.EditRead.the-variants as read
 use Rattle.edit.proofs.Theorems.{wanted-applies, applied-well-formed}
-use Rattle.repair.specs.Repairs.{After, measured, foreign, repairedTo, wantedBy, repairedBy, repaired}
+use Rattle.repair.specs.Repairs.{After, checkedRepair, repairedTo, ownedBy, wantedBy, repairedBy, repaired}
 use Rattle.repair.specs.Desk.{Desk, fileBy, after}
-use Rattle.repair.proofs.Answered.{passed}
 use Rattle.report.specs.Report.{blockOf, blockText, fileRefusal, refusedFile}
 use Rattle.transcript.specs.Transcript.{heldOf, noOutput, editOn, textBy}
 use Rattle.transcript.specs.Parts.{Within, editedText}
@@ -36,17 +38,17 @@ use Rattle.transcript.specs.declared.Held.{Held}
 
 pub block-is : (file marks : List ℕ) → readFile file .verdict ≡ verdict.Accepted → length marks ≡ 16384
     → blockText file marks 180235 ≡ blockOf (readFile file .program) marks
-unfolding blockText
+unfolding blockText checked firstMet
 block-is file marks h n = rw (h, n)
 
 -- ---- the analysis of a file
 
 module _ (file marks work : List ℕ) (m : length marks ≡ 16384) (k : length work ≡ 16384) where
-  is-verdict : checked file (length marks) (length work) ≡ readFile file .verdict
-  unfolding checked
+  is-verdict : checkedMarks file marks work ≡ readFile file .verdict
+  unfolding checked firstMet
   is-verdict = rw (m, k) (go (readFile file .verdict))
     where
-      go : (v : Verdict) → checkedBy v 16384 16384 ≡ v
+      go : (v : Verdict) → checkedBy v (Of 16384) NotAsked (Of 16384) ≡ v
       go verdict.Accepted = refl
       go (verdict.Refused n line) = refl
 
@@ -94,23 +96,22 @@ module _ (line : List ℕ) (d : Desk) where
 
   wanted-text : (p : Program) (w : EditRead) → WellFormed p → wantedEdit p line ≡ w → Same (wantedBy w p (d .marks) noOutput none-set)
   wanted-text p (read.Refused n) f h = refl
-  wanted-text p (read.Read e) f h = go (same (d .marks) (freshMarks p))
-    where
-      go : (t : Bool) → Same (cond t (repairedTo (editedProgram e p) noOutput) (foreign (d .marks) noOutput))
-      go true = repaired-text (editedProgram e p) noOutput (applied-well-formed e p f (wanted-applies p line e h))
-      go false = refl
+  wanted-text p (read.Read e) f h =
+      by-marks p (d .marks) (λ v. Same (ownedBy v (editedProgram e p) (d .marks) noOutput))
+      (λ t. repaired-text (editedProgram e p) noOutput (applied-well-formed e p f (wanted-applies p line e h))) (λ t. refl)
 
   pub edited-text : Same (editOn line d)
-  unfolding repaired measured
-  edited-text = go (measured (d .file) (length (d .marks)) (length noOutput) (length none-set)) refl
+  unfolding repaired
+  edited-text = go (checkedRepair (d .file) (d .marks) noOutput none-set) refl
     where
       p : Program
       p = readFile (d .file) .program
 
-      go : (v : Verdict) → measured (d .file) (length (d .marks)) (length noOutput) (length none-set) ≡ v → Same (repairedBy v p (d .marks) line noOutput none-set)
+      go : (v : Verdict) → checkedRepair (d .file) (d .marks) noOutput none-set ≡ v → Same (repairedBy v p (d .marks) line noOutput none-set)
       go (verdict.Refused n at) h = refl
       go verdict.Accepted h =
-          wanted-text p (wantedEdit p line) (accepted-well-formed (d .file) (passed _ _ _ _ h .file)) refl
+          wanted-text p (wantedEdit p line)
+          (passes (d .file) (Of (length (d .marks))) (Of (length noOutput)) (Of (length none-set)) h .well-formed) refl
 
 -- ---- what is held next
 

@@ -1,25 +1,27 @@
 -- How long a text is, and that each turn comes further.
 use mathlib.Core.Path.{_≡_, refl, ap, _∙_}
-use mathlib.Core.Bool.{Bool, true, false, cond, _&&_}
-use mathlib.Core.List.{List, []}
+use mathlib.Core.Bool.{Bool, true, false, cond}
+use mathlib.Core.List.{List}
 use Prim.Native.Nat.{ℕ, _<_, _≤_}
 use native.Mathlib.Omega.{arith}
-use lib.Dec.{eqb, ltb}
+use lib.Dec.{ltb}
 use lib.ListN.{length, drop, length-append, length-drop}
-use borrow.Author.Tests.{eqb-true}
 use Rattle.text.specs.Lines.{lines}
 use Rattle.text.proofs.RoundTrip.{length-hex}
 use Rattle.program.specs.Program.{Program}
 use Rattle.program.specs.Reading.{readFile}
+use Rattle.program.specs.Checks.{checked}
 use Rattle.program.specs.declared.Verdict.{Verdict}
 use Rattle.program.specs.declared.Verdict.the-variants as verdict
+use Rattle.program.specs.declared.Length.the-variants.{NotAsked, Of}
+use Rattle.program.proofs.Checked.{passes}
 use Rattle.writer.specs.declared.WriteAnswer.{WriteAnswer}
 use Rattle.writer.specs.declared.WriteAnswer.the-variants.{Written, Refused}
 use Rattle.reach.specs.Marks.{freshMarks}
 use Rattle.reach.proofs.Kept.{marks-length}
 use Rattle.repair.specs.Repairs.{After}
 use Rattle.repair.specs.Desk.{Desk, after}
-use Rattle.report.specs.Report.{firstSize, blockOf, blockBy, blockText, refusedEdit, refusedFile, tooLong}
+use Rattle.report.specs.Report.{firstSize, blockBy, blockText, refusedEdit, refusedFile, tooLong}
 use Rattle.report.proofs.Ends.{line-inside}
 use Rattle.report.proofs.Theorems.{block-limited}
 use Rattle.transcript.specs.Transcript.{Shown, TurnGives, fileOf, begunBy, begun, lineAt, editOn, turned, alone}
@@ -35,15 +37,11 @@ file-line-long n line = simp (length-append, length-hex)
 
 block-short : (file marks : List ℕ) → length (blockText file marks 180235) ≤ 180235
 unfolding blockText
-block-short file marks = by (readFile file .verdict) (readFile file .program)
+block-short file marks = go (checked file (Of (length marks)) NotAsked NotAsked) refl
   where
-    go : (p : Program) (b : Bool) → eqb (length marks) 16384 ≡ b → length (cond (b && true) (blockOf p marks) []) ≤ 180235
-    go p true h = block-limited p marks (eqb-true (length marks) 16384 h)
-    go p false h = omega arith
-
-    by : (v : Verdict) (p : Program) → length (blockBy v p marks 180235) ≤ 180235
-    by verdict.Accepted p = go p (eqb (length marks) 16384) refl
-    by (verdict.Refused n line) p = omega arith
+    go : (v : Verdict) → checked file (Of (length marks)) NotAsked NotAsked ≡ v → length (blockBy v (readFile file .program) marks 180235) ≤ 180235
+    go verdict.Accepted e = block-limited (readFile file .program) marks (passes file (Of (length marks)) NotAsked NotAsked e .sized .marks-length)
+    go (verdict.Refused n line) e = omega arith
 
 edited-limited : (a : WriteAnswer) (d : Desk) → length (editedText a d) ≤ 180235
 edited-limited (Written n) d = block-short (d .file) (d .marks)

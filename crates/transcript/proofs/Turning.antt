@@ -11,6 +11,7 @@ use Rattle.program.specs.Program.{Program}
 use Rattle.program.specs.WellFormed.{WellFormed}
 use Rattle.program.specs.Writing.{written}
 use Rattle.program.specs.Reading.{readFile}
+use Rattle.program.specs.Checks.{firstMet, checked}
 use Rattle.program.specs.declared.Verdict.{Verdict}
 use Rattle.program.specs.declared.Verdict.the-variants as verdict
 use Rattle.program.proofs.Theorems.{read-again, accepted-well-formed, written-back}
@@ -22,7 +23,7 @@ use Rattle.edit.specs.Editing.{editedProgram, wantedEdit}
 use Rattle.edit.specs.declared.EditRead.{EditRead}
 use Rattle.edit.specs.declared.EditRead.the-variants as read
 use Rattle.edit.proofs.Theorems.{wanted-applies, applied-well-formed, edited-read}
-use Rattle.repair.specs.Repairs.{wantedBy, measured, repaired}
+use Rattle.repair.specs.Repairs.{wantedBy, repaired}
 use Rattle.repair.specs.Desk.{Desk}
 use Rattle.repair.proofs.Answered.{none-length}
 use Rattle.report.specs.Report.{firstSize, editText, programAfter, editsText, blockOf, tooLong, fileSize, fileText, inputText, benchText}
@@ -39,13 +40,14 @@ deskOf p = record { file = written p; marks = freshMarks p }
 module _ (p : Program) (f : WellFormed p) where
   -- on a program's own file and marks nothing is left to refuse but the line
   edit-on : (line : List ℕ) → editOn line (deskOf p) ≡ wantedBy (wantedEdit p line) p (freshMarks p) noOutput none-set
-  unfolding repaired measured noOutput
+  unfolding repaired checked firstMet noOutput
   edit-on line = rw (read-again p f, marks-length p, none-length)
 
   -- the turn of a line is what the definition prints for it, and the next program's file and marks are held
   wanted-turn : (line : List ℕ) (next : ℕ) (w : EditRead) → wantedEdit p line ≡ w
       → turnedBy (wantedBy w p (freshMarks p) noOutput none-set) (written p) next
       ≡ record { text = editText w p; next = next; held = deskOf (programAfter w p) }
+  unfolding firstMet
   wanted-turn line next (read.Refused n) h = refl
   wanted-turn line next (read.Read e) h =
       rw (same-self (freshMarks p), take-written (editedProgram e p) noOutput, edited-read e p f (wanted-applies p line e h))

@@ -1,5 +1,5 @@
--- What `bench` prints (the paper's section of that name), a turn after the other: one for the file, and then one for each edit line. Between two turns a
--- file and its marks are held.
+-- What `bench` prints (the paper's section of that name), a turn after the other: one for the file, and then one for
+-- each edit line. Between two turns a file and its marks are held.
 use Prim.Native.Nat.{ℕ, _+_, _<_, _≤_}
 use mathlib.Core.Path.{_≡_}
 use mathlib.Core.Bool.{cond}
@@ -38,8 +38,8 @@ pub record Shown : Type 0 where
   pub next : ℕ
   pub held : Desk
 
--- what a turn's function promises: the text stands at the output's start, whose other bytes stay, and the answer has the text's length, the next position and what
--- is held
+-- what a turn's function promises: the text stands at the output's start, whose other bytes stay, and the answer has
+-- the text's length, the next position and what is held
 pub record TurnGives (s : Shown) (old new : List ℕ) (t : Turn) : Type 0 where
   pub printed : Printed (s .text) old new (t .size)
   pub next : t .next ≡ s .next
@@ -57,12 +57,17 @@ alone text input = record { text = text; next = length input; held = nothing }
 
 -- the block comes after the file, and then the edits; a refused file prints its refusal, then nothing more
 abbrev pub begunBy : Verdict → Program → List ℕ → Shown
-begunBy verdict.Accepted p input = record { text = blockOf p (freshMarks p); next = fileSize (lines input); held = started (fileOf input) }
+begunBy verdict.Accepted p input = record {
+  text = blockOf p (freshMarks p);
+  next = fileSize (lines input);
+  held = started (fileOf input);
+}
 begunBy (verdict.Refused n line) p input = alone (refusedFile n line) input
 
 -- 18 is printed alone
 unfoldable pub begun : List ℕ → Shown
-begun input = cond (ltb inputSize (length input)) (alone tooLong input) (begunBy (readFile (fileOf input) .verdict) (readFile (fileOf input) .program) input)
+begun input = cond (ltb inputSize (length input)) (alone tooLong input)
+    (begunBy (readFile (fileOf input) .verdict) (readFile (fileOf input) .program) input)
 
 -- ---- a turn for an edit line
 
@@ -93,9 +98,10 @@ turned input at d = turnedBy (editOn (lineAt input at) d) (d .file) (at + firstS
 
 -- ---- all turns
 
--- the turns that follow a turn until the input is at its end, each by either repair and into any output, and what each prints: the first `size` bytes of
--- its output
+-- the turns that follow a turn until the input is at its end, each by either repair and into any output, and what each
+-- prints: the first `size` bytes of its output
 pub data Turns (input : List ℕ) : Turn → List (List ℕ) → Type 0 where
   over : {t : Turn} → length input ≤ t .next → Turns input t []
-  turn : {t t′ : Turn} {old new : List ℕ} {texts : List (List ℕ)} → t .next < length input → TurnGives (turned input (t .next) (heldOf (t .held))) old new t′
+  turn : {t t′ : Turn} {old new : List ℕ} {texts : List (List ℕ)} → t .next < length input
+      → TurnGives (turned input (t .next) (heldOf (t .held))) old new t′
       → Turns input t′ texts → Turns input t (take (t′ .size) new ∷ texts)

@@ -1,5 +1,5 @@
-// What bench prints for an input, a turn after the other: one for the file, and then one for each edit line. Each turn puts its text at
-// the start of an output of 180,235 bytes, which every text fits.
+// What bench prints for an input, a turn after the other: one for the file, and then one for each edit line. Each turn
+// puts its text at the start of an output of 180,235 bytes, which every text fits.
 use analysis::AnalyzeAnswer;
 use program::sizes::MARKS_SIZE;
 use program::sizes::OUTPUT_SIZE;
@@ -13,7 +13,8 @@ ghost use lib.ListN.{length};
 ghost use Rattle.program.specs.Reading.{readFile};
 ghost use Rattle.repair.specs.Desk.{fileBy, after};
 ghost use Rattle.report.specs.Report.{blockText, Printed, blockSize, inputSize};
-ghost use Rattle.transcript.specs.Transcript.{heldOf, nothing, TurnGives, fileOf, begunBy, begun, lineAt, editOn, turned};
+ghost use Rattle.transcript.specs.Transcript.{heldOf, nothing, TurnGives, fileOf, begunBy, begun, lineAt, editOn};
+ghost use Rattle.transcript.specs.Transcript.{turned};
 ghost use Rattle.transcript.specs.Parts.{Within, editedText};
 
 // What is held between two turns: the first `used` bytes of the file, and its marks. The bytes past `used` are free.
@@ -80,7 +81,8 @@ fn nothing_more(size: usize, end: usize) -> Turn
 
 // The block of what is held.
 fn put_held(held: Held, out: &mut [u8; BLOCK_SIZE]) -> usize
-    ensures { λ r. ⌜ Printed (blockText (heldOf held .file) (heldOf held .marks) blockSize) (now (out .entry)) (now (out .exit)) r ⌝ }
+    ensures { λ r. ⌜ Printed (blockText (heldOf held .file) (heldOf held .marks) blockSize) (now (out .entry))
+        (now (out .exit)) r ⌝ }
 {
     let file = held.file;
     let marks = held.marks;
@@ -88,10 +90,12 @@ fn put_held(held: Held, out: &mut [u8; BLOCK_SIZE]) -> usize
     report::block(&file[..used], &marks, out)
 }
 
-// The file: its refusal, or its block and the file to be held. An input that is longer is refused before: hence the `requires`.
+// The file: its refusal, or its block and the file to be held. An input that is longer is refused before: hence the
+// `requires`.
 fn begin_file(input: &[u8], out: &mut [u8; BLOCK_SIZE]) -> Turn
     requires { ⌜ length (now input) ≤ inputSize ⌝ }
-    ensures { λ r. ⌜ TurnGives (begunBy (readFile (fileOf (now (input .entry))) .verdict) (readFile (fileOf (now (input .entry))) .program) (now (input .entry)))
+    ensures { λ r. ⌜ TurnGives (begunBy (readFile (fileOf (now (input .entry))) .verdict)
+        (readFile (fileOf (now (input .entry))) .program) (now (input .entry)))
         (now (out .entry)) (now (out .exit)) r ⌝ }
 {
     let end = report::file_size(input);
@@ -173,7 +177,8 @@ fn edit_held(inside_out: bool, line: &[u8], held: Held) -> Edited
 
 // The block of what is held after an accepted edit, or the number of a refused one.
 fn put_edited(edited: Edited, out: &mut [u8; BLOCK_SIZE]) -> usize
-    ensures { λ r. ⌜ Printed (editedText (edited .answer) (heldOf (edited .held))) (now (out .entry)) (now (out .exit)) r ⌝ }
+    ensures { λ r. ⌜ Printed (editedText (edited .answer) (heldOf (edited .held))) (now (out .entry))
+        (now (out .exit)) r ⌝ }
 {
     let answer = edited.answer;
     match answer {

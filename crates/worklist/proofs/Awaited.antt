@@ -23,9 +23,10 @@ use Rattle.reach.specs.Marks.{Marked, Shows, Between, ClosedBut}
 use Rattle.base.proofs.SetFlags.{on-lt, zeros}
 use Rattle.reach.proofs.Awaiting.{Awaits, awaits-ends, awaits-shows, awaits-clear}
 use Rattle.marking.specs.Parts.{worklist, NoneBelow}
-use Rattle.worklist.specs.Parts.{Filled, firstPending, Learnt, followed, Ends}
+use Rattle.worklist.specs.Parts.{firstPending, Learnt, followed, Ends}
+use Rattle.base.specs.Filled.{Filled}
 use Rattle.worklist.specs.Slice.{Followable}
-use Rattle.worklist.proofs.Filling.{Filling, filled-bits}
+use Rattle.base.proofs.Filling.{Filling, filled-bits}
 use Rattle.worklist.proofs.Slice.{table-edges}
 use Rattle.worklist.proofs.Known.{exit-known, exit-marked, known-bits}
 

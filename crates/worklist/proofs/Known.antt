@@ -10,7 +10,7 @@ use Rattle.reach.specs.Worklist.{summary}
 use Rattle.reach.proofs.Numbers.{summary-fits, exit-summary}
 use Rattle.base.specs.Flags.{On}
 use Rattle.worklist.specs.Parts.{Learnt}
-use Rattle.worklist.proofs.Filling.{filled-bits}
+use Rattle.base.proofs.Filling.{filled-bits}
 
 module _ (marks : List ℕ) {known : List ℕ} (l : Learnt marks known) where
   pub exit-byte : (g r q : ℕ) → g < maxRoutines → r < maxStates → q < maxStates → getD known (summary g r q) 0 ≡ getD marks (number g 1 r q) 0

@@ -1,7 +1,6 @@
 pub mod Lowest
 pub mod Following
 pub mod Begun
-pub mod Filling
 pub mod Known
 pub mod Slice
 pub mod Awaited

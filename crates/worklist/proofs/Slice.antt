@@ -9,7 +9,7 @@ use lib.ListN.{length, getD, take, drop, length-take}
 use lib.Seq.{getD-take, take-take}
 use Rattle.program.specs.Sizes.{maxEdges}
 use Rattle.program.specs.Frames.{edgeKey}
-use Rattle.program.specs.WellFormed.{Ascending}
+use Rattle.tables.specs.Keys.{Ascending}
 use Rattle.program.specs.Decoded.{edgeOf, programOf}
 use Rattle.program.specs.declared.DecodedProgram.{DecodedProgram}
 use Rattle.worklist.specs.Slice.{FirstOf}

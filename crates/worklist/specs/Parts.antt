@@ -1,21 +1,17 @@
 -- What the functions that follow what is pending promise of each other; nothing here has to be believed.
-use Prim.Native.Nat.{ℕ, _<_}
+use Prim.Native.Nat.{ℕ}
 use mathlib.Core.Path.{_≡_}
 use mathlib.Core.Bool.{cond, _&&_}
 use mathlib.Core.Option.{Option, some, none}
 use mathlib.Core.List.{List}
 use lib.Dec.{eqb, ltb, leb}
-use lib.ListN.{length, getD}
+use lib.ListN.{getD}
+use Rattle.base.specs.Filled.{Filled}
 use Rattle.program.specs.Program.{Program}
 use Rattle.reach.specs.Sizes.{enoughIterations, summariesSize}
 use Rattle.reach.specs.Configurations.{nodeOf, exitAt}
 use Rattle.reach.specs.Worklist.{Worklist, Shape, lowest, work}
 use Rattle.marking.specs.Parts.{worklist, Tables}
-
--- every byte of a list is what a rule gives for its number
-pub record Filled (rule : ℕ → ℕ) (size : ℕ) (l : List ℕ) : Type 0 where
-  pub len : length l ≡ size
-  pub byte : (i : ℕ) → i < size → getD l i 0 ≡ rule i
 
 -- the known summaries are those of the marked exits
 abbrev pub Learnt : List ℕ → List ℕ → Type 0

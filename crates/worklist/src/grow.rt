@@ -1,11 +1,11 @@
 // After edges were added to a program, what follows by them is marked.
 use crate::part::follow_part;
-use automaton::in_use;
 use automaton::next::next_states;
 use program::DecodedProgram;
 use program::sizes::MAX_EDGES;
 use reach::configuration::number_of;
 use reach::spans::NODE_SPAN;
+use tables::in_use;
 ghost use mathlib.Core.Path.{_≡_};
 ghost use Prim.Native.Nat.{_+_, _<_};
 ghost use lib.ListN.{length};

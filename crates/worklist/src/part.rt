@@ -1,9 +1,10 @@
 // A part of the table of edges: where that of one routine begins, and what follows by the edges of a part.
-use crate::clear;
 use crate::exits::summaries_of;
 use crate::pending::follow_pending;
-use program::edges::edge;
+use base::flags::clear;
+use program::edges::first_key;
 use reach::configuration::parts_of;
+use tables::first_from;
 ghost use mathlib.Core.Path.{_≡_};
 ghost use mathlib.Core.Bool.{cond};
 ghost use Prim.Native.Nat.{_≤_, _<_};
@@ -15,7 +16,8 @@ ghost use Rattle.program.specs.Program.{Program};
 ghost use Rattle.reach.specs.Configurations.{nodeOf, none-set};
 ghost use Rattle.reach.specs.Reachable.{Derivable, Any};
 ghost use Rattle.reach.specs.Marks.{Marked, Shows};
-ghost use Rattle.worklist.specs.Parts.{Filled, firstPending};
+ghost use Rattle.worklist.specs.Parts.{firstPending};
+ghost use Rattle.base.specs.Filled.{Filled};
 ghost use Rattle.worklist.specs.Slice.{FirstOf, Followable};
 
 // Where the edges of the routines that are not below f begin: the table ascends. Only the first `count` keys are in
@@ -24,15 +26,7 @@ pub fn first_of(keys: &[u32], count: usize, f: u32) -> usize
     requires { ⌜ count ≤ length (now keys) ⌝ }
     ensures { λ r. ⌜ FirstOf (now (keys .entry)) count f r ⌝ }
 {
-    let mut i: usize = 0;
-    while i < count {
-        let e = edge(keys[i]);
-        if f <= e.routine as u32 {
-            return i;
-        }
-        i = i + 1;
-    }
-    i
+    first_from(keys, count, first_key(f))
 }
 
 // The mark of a number, and 0 for that of an exit.

@@ -1,10 +1,10 @@
 // What is pending is followed, lowest number first, until nothing is.
-use automaton::in_use;
 use automaton::next::next_states;
 use marking::take::take;
 use program::DecodedProgram;
 use program::sizes::MARKS_SIZE;
 use program::sizes::MAX_EDGES;
+use tables::in_use;
 ghost use mathlib.Core.Path.{_≡_};
 ghost use mathlib.Core.Option.{none};
 ghost use Prim.Native.Nat.{_≤_};

@@ -1,13 +1,13 @@
 // The full analysis of a decoded program.
-use crate::clear;
 use crate::pending::follow_program;
 use automaton::States;
-use automaton::in_use;
 use automaton::sizes::MAX_STATES;
+use base::flags::clear;
 use marking::mark;
 use program::DecodedProgram;
 use reach::configuration::entry_of;
 use reach::spans::SUMMARIES_SIZE;
+use tables::in_use;
 ghost use mathlib.Core.Path.{_≡_};
 ghost use lib.ListN.{length};
 ghost use Rattle.program.specs.Sizes.{marksSize};

@@ -2,7 +2,7 @@
 use mathlib.Core.Path.{_≡_, refl, sym, ap, _∙_}
 use mathlib.Core.Bool.{Bool, true, false, cond, _&&_}
 use mathlib.Core.List.{List, [], _∷_, _++_, map, map-map, append-assoc, append-nil}
-use Prim.Native.Nat.{ℕ, zero, suc, min, _+_, _*_, _/_, _%_, _<_, _≤_}
+use Prim.Native.Nat.{ℕ, zero, suc, min, _+_, _*_, _%_, _<_, _≤_}
 use native.Mathlib.Nat.{zero-add, add-zero}
 use native.Mathlib.Numerals.{add-one}
 use native.Mathlib.Omega.{arith}
@@ -22,7 +22,7 @@ use Rattle.program.specs.Frames.{headerFrame, nodesFrame, edgeFrame, transition
 use Rattle.program.specs.Writing.{nodesFrames, framesOf, text, written}
 use Rattle.program.specs.WellFormed.{All}
 use Rattle.program.specs.Decoded.{edgeOf}
-use Rattle.writer.specs.Parts.{keyFrame, automatonFrames, RoomFor, Put}
+use Rattle.writer.specs.Parts.{lowerByte, keyFrame, byteFrame, byteFrames, automatonFrames, RoomFor, Put}
 
 -- ---- the text of frames
 
@@ -59,7 +59,7 @@ nodes-at f (n ∷ ns) (suc i) =
 pub key-short : (kind k : ℕ) → length (keyFrame kind k) ≤ 6
 key-short kind k = go (eqb kind 0x53)
   where
-    go : (t : Bool) → length (cond t (edgeFrame (edgeOf k)) (transitionFrame (transitionOf (k % 0x1000000)))) ≤ 6
+    go : (t : Bool) → length (cond t (edgeFrame (edgeOf k)) (transitionFrame (lowerByte (transitionOf k)))) ≤ 6
     go true = omega arith
     go false = omega arith
 
@@ -70,14 +70,14 @@ first : (t u : Bool) → t && u ≡ true → t ≡ true
 first true u e = refl
 first false u e = e
 
--- nothing of a key is lost where the transition fits
+-- nothing of a transition that fits is lost
 pub transition-frames : (r : Automaton) (ks : List ℕ) → r .states < 256 → All (transitionFits r) (map transitionOf ks)
     → map (keyFrame 0x54) ks ≡ map transitionFrame (map transitionOf ks)
 unfolding All
 transition-frames r [] h fit = refl
 transition-frames r (k ∷ ks) h fit =
-    let b : k / 0x10000 < r .states = ltb-true _ _ (first _ _ (first _ _ (fit .0))) in
-    let e : k % 0x1000000 ≡ k = omega arith in
+    let b : transitionOf k .before < r .states = ltb-true _ _ (first _ _ (first _ _ (fit .0))) in
+    let e : transitionOf k .before % 256 ≡ transitionOf k .before = omega arith in
     rw (e, transition-frames r ks h (fit .1))
 
 -- ---- what was written
@@ -129,12 +129,20 @@ module _ (xs : List ℕ) (count n : ℕ) (e : n ≡ min count (length xs)) where
   }
 
   -- a frame for each routine
-  pub numbered : Section nodesFrame xs n (nodesFrames 0 (take count xs))
+  numbered : Section nodesFrame xs n (nodesFrames 0 (take count xs))
   numbered = record {
     long = nodes-long 0 (take count xs) ∙ long-take;
     frame = λ i h. rw zero-add at (nodes-at 0 (take count xs) i) ∙ rw (getD-take count xs i 0 (omega arith));
     short = λ i x. omega arith;
   }
+
+  -- one or the other, by the kind
+  pub either : (kind : ℕ) → Section (byteFrame kind) xs n (byteFrames kind (take count xs))
+  either kind = go (eqb kind 0x52)
+    where
+      go : (t : Bool) → Section (λ i x. cond t (nodesFrame i x) (kind ∷ x ∷ [])) xs n (cond t (nodesFrames 0 (take count xs)) (map (λ x. kind ∷ x ∷ []) (take count xs)))
+      go true = numbered
+      go false = mapped (λ x. kind ∷ x ∷ []) (λ x. omega arith)
 
 -- the first i frames were written, and there is room for all of them
 pub record PutSoFar (F : ℕ → ℕ → List ℕ) (xs : List ℕ) (n : ℕ) (fs : List (List ℕ)) (o out : List ℕ) (at pos i : ℕ) : Type 0 where

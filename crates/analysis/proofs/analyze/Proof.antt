@@ -1,4 +1,4 @@
-use Rattle.analysis.proofs.Answered.{analyze-answered}
+use Rattle.analysis.proofs.Answered.{ready, analyze-answered}
 use mathlib.Core.Path.{_∙_}
 use borrow.Author.Needs.{needs}
 use Rattle.analysis.proofs.analyze.Statement.{statement}
@@ -10,9 +10,7 @@ start b = b .before .before .before .before
 analyze-counts-requires : tie.Need-analyze-counts-requires
 analyze-counts-requires c κs =
     let t = c .before .before .before in
-    let k = t .before .before .checked-program .ensures in
-    let h = t .enum-told .given .1 in
-    (k .well-formed h, (k .sized h .marks-length, k .sized h .work-length))
+    ready (t .before .before .checked-program .ensures) (t .enum-told .given .1)
 
 returns : tie.Need-returns
 returns c =

@@ -16,7 +16,7 @@ returns c =
     let p = programOf (z .args .p) in
     let a = c .before .before .before .before .before .before .before .before .before .before .before .before .analyze-program .ensures in
     let v = c .count-violations .ensures p (c .before .before .before .before .before .before .rejecting-flags .ensures) in
-    let m = c .before .before .before .count-marks .ensures in
+    let m = c .before .before .before .count-set .ensures in
     ((λ i. Counts ((m ∙ ap countSet (a .0)) i) ((v ∙ ap (λ (l : List ℕ). length (violationsFrom p l 0)) (a .0)) i) (a .2 i)), a .0, a .1)
 
 pub analyze-counts-spec : {M : Type 1} → statement M

@@ -6,7 +6,7 @@ use Rattle.desk.proofs.palthrenni_prune.Statement.{statement}
 use Rattle.desk.proofs.palthrenni_prune.Tie as tie
 
 verdict-numbers-requires : tie.Need-verdict-numbers-requires
-verdict-numbers-requires c κs = rw (c .before .before .before .before .prune .ensures .0) (checked-fits _ _ _)
+verdict-numbers-requires c κs = rw (c .before .before .before .before .prune .ensures .0) (checked-fits _ _ _ _)
 
 returns : tie.Need-returns
 returns c =

@@ -6,7 +6,7 @@ use native.Mathlib.Omega.{arith}
 use lib.ListN.{length}
 use borrow.Author.Needs.{needs}
 use Rattle.program.specs.Frames.{edgeKey}
-use Rattle.program.specs.WellFormed.{Ascending}
+use Rattle.tables.specs.Keys.{Ascending}
 use Rattle.program.specs.Decoded.{edgeOf}
 use Rattle.worklist.proofs.Slice.{in-use-same}
 use Rattle.prune.proofs.Closed.{its-tables, settled-shows}

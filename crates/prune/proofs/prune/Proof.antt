@@ -1,6 +1,7 @@
 -- `prune::prune` meets its contract.
 use mathlib.Core.Path.{refl}
 use borrow.Author.Needs.{needs}
+use Rattle.analysis.proofs.Answered.{ready}
 use Rattle.prune.proofs.Answered.{prune-answered}
 use Rattle.prune.proofs.prune.Statement.{statement}
 use Rattle.prune.proofs.prune.Tie as tie
@@ -11,9 +12,7 @@ start b = b .before .before .before .before
 prune-program-requires : tie.Need-prune-program-requires
 prune-program-requires c κs =
     let t = c .before .before .before in
-    let k = t .before .before .checked-program .ensures in
-    let h = t .enum-told .given .1 in
-    (k .well-formed h, (k .sized h .marks-length, k .sized h .work-length))
+    ready (t .before .before .checked-program .ensures) (t .enum-told .given .1)
 
 returns : tie.Need-returns
 returns c =

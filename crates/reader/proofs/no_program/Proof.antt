@@ -10,9 +10,9 @@ use Rattle.reader.proofs.no_program.Tie as tie
 
 returns : tie.Need-returns
 returns c =
-    program-parts noProgram refl refl (ap (map edgeOf) (c .before .before .before .no-keys .ensures .0))
-    (automaton-parts (noProgram .automaton) refl refl (ap (map transitionOf) (c .before .before .no-keys2 .ensures .0)) (c .before .no-states .ensures .0)
-    (c .no-states2 .ensures .0))
+    program-parts noProgram refl refl (ap (map edgeOf) (c .before .before .before .no-edges .ensures))
+    (automaton-parts (noProgram .automaton) refl refl (ap (map transitionOf) (c .before .before .no-transitions .ensures)) (c .before .no-states .ensures)
+    (c .no-states2 .ensures))
 
 pub no-program-spec : {M : Type 1} → statement M
 no-program-spec =

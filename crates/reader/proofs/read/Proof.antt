@@ -6,7 +6,10 @@ use Rattle.text.specs.Lines.{lineAt}
 use lib.ListN.{length}
 use native.Mathlib.Omega.{arith}
 use mathlib.Core.Path.{_≡_, sym, ap, _∙_}
-use Prim.Native.Nat.{ℕ, _-_, _<_}
+use mathlib.Core.Bool.{false}
+use mathlib.Core.List.{List}
+use Prim.Native.Nat.{ℕ, _+_, _-_, _<_, _≤_}
+use Rattle.program.specs.Sizes.{maxFrames}
 use borrow.Author.Needs.{needs}
 use Rattle.reader.proofs.read.Statement.{statement}
 use Rattle.reader.proofs.read.Tie as tie
@@ -20,82 +23,85 @@ abbrev μ-loop : tie.MeasureT-loop
 loop-holds : tie.Need-loop-holds Inv-loop μ-loop
 loop-holds c = begins _ _ (c .start-reader .ensures)
 
+-- the places before, and the file
+abbrev turn : tie.After-fault-of Inv-loop μ-loop → tie.At-loop Inv-loop μ-loop
+turn c = c .before .before .before .before .before
+
+abbrev fileOf : tie.At-loop Inv-loop μ-loop → List ℕ
+fileOf p = p .before .before .before .args .file .now
+
+some-frames : (p : tie.At-loop Inv-loop μ-loop) → p .loop .s .frames ≤ maxFrames + 1
+some-frames p = few (fileOf p) (p .loop .s) (p .loop .at) (p .loop .inv)
+
+-- what is known of the line that was judged
+module _ (c : tie.After-fault-of Inv-loop μ-loop) where
+  in-file : turn c .loop .at < length (fileOf (turn c))
+  in-file = omega arith
+
+  not-ended : turn c .loop .s .ended ≡ false
+  not-ended = c .before .before .before .if1 .left
+
+  judged : c .fault-of .result ≡ judge (progressOf (turn c .loop .s)) (lineAt (fileOf (turn c)) (turn c .loop .at) .line)
+  judged = c .fault-of .ensures ∙ ap (λ (x : ReadLine). judge (progressOf (turn c .loop .s)) (x .line)) (c .before .before .read-line .ensures)
+
+no-fault : (c : tie.Else2 Inv-loop μ-loop) → judge (progressOf (turn (c .before) .loop .s)) (lineAt (fileOf (turn (c .before))) (turn (c .before) .loop .at) .line) ≡ 0
+no-fault c = omega (arith, judged (c .before))
+
 add-refuse : tie.Need-add-refuse Inv-loop μ-loop
-add-refuse c =
-    let p = c .before .before .before in
-    omega (arith, few _ (p .loop .s) (p .loop .at) (p .loop .inv))
+add-refuse c = omega (arith, some-frames (c .before .before .before))
 
 returns : tie.Need-returns Inv-loop μ-loop
 returns c =
     let p = c .before .before .before .before in
-    let file = p .before .before .before .args .file .now in
-    let h : p .loop .at < length file = omega arith in
-    c .refuse .ensures ∙ sym (over file (p .loop .s) (p .loop .at) (p .loop .inv) h (c .before .before .if1 .taken))
+    let h : p .loop .at < length (fileOf p) = omega arith in
+    c .refuse .ensures ∙ sym (over (fileOf p) (p .loop .s) (p .loop .at) (p .loop .inv) h (c .before .before .if1 .taken))
 
 add-refuse-2 : tie.Need-add-refuse-2 Inv-loop μ-loop
-add-refuse-2 c =
-    let p = c .before .before .before .before .before .before .before in
-    omega (arith, few _ (p .loop .s) (p .loop .at) (p .loop .inv))
+add-refuse-2 c = omega (arith, some-frames (turn (c .before .before)))
 
 returns-2 : tie.Need-returns-2 Inv-loop μ-loop
 returns-2 c =
-    let p = c .before .before .before .before .before .before .before .before in
-    let file = p .before .before .before .args .file .now in
-    let h : p .loop .at < length file = omega arith in
-    let l = c .before .before .before .before .before .read-line .ensures in
-    let n = c .before .before .before .fault-of .ensures ∙ ap (λ (x : ReadLine). judge (progressOf (p .loop .s)) (x .line)) l in
+    let f = c .before .before .before in
+    let p = turn f in
     c .refuse2 .ensures
-    ∙ rw n (sym (faulty file (p .loop .s) (p .loop .at) (p .loop .inv) h (c .before .before .before .before .before .before .if1 .left) (rw n at (c .before .before .if2 .taken))))
+    ∙ rw (judged f)
+    (sym (faulty (fileOf p) (p .loop .s) (p .loop .at) (p .loop .inv) (in-file f) (not-ended f) (rw (judged f) at (c .before .before .if2 .taken))))
 
 after-frame-requires : tie.Need-after-frame-requires Inv-loop μ-loop
 after-frame-requires c κs =
-    let p = c .before .before .before .before .before .before in
-    let file = p .before .before .before .args .file .now in
-    let h : p .loop .at < length file = omega arith in
-    let l = c .before .before .before .read-line .ensures in
-    let n = c .before .fault-of .ensures ∙ ap (λ (x : ReadLine). judge (progressOf (p .loop .s)) (x .line)) l in
-    let j : judge (progressOf (p .loop .s)) (lineAt file (p .loop .at) .line) ≡ 0 = omega (arith, n) in
-    let f = few file (p .loop .s) (p .loop .at) (p .loop .inv) in
-    (rw l (has-room file (p .loop .s) (p .loop .at) (p .loop .inv) (c .before .before .before .before .if1 .left) j), omega arith)
+    let f = c .before in
+    let p = turn f in (
+      rw (f .before .before .read-line .ensures) (has-room (fileOf p) (p .loop .s) (p .loop .at) (p .loop .inv) (not-ended f) (no-fault c)),
+      omega (arith, some-frames p),
+    )
 
 loop-less : tie.Need-loop-less Inv-loop μ-loop
 loop-less c =
-    let p = c .before .before .before .before .before .before .before in
-    let file = p .before .before .before .args .file .now in
-    let h : p .loop .at < length file = omega arith in
-    let l = c .before .before .before .before .read-line .ensures in
-    let n = c .before .before .fault-of .ensures ∙ ap (λ (x : ReadLine). judge (progressOf (p .loop .s)) (x .line)) l in
-    let j : judge (progressOf (p .loop .s)) (lineAt file (p .loop .at) .line) ≡ 0 = omega (arith, n) in
-    let m = proceeds file (p .loop .s) (p .loop .at) (p .loop .inv) (c .before .before .before .before .before .if1 .left) j h in
-    rw l (omega arith)
+    let f = c .before .before in
+    let p = turn f in
+    let m = proceeds (fileOf p) (p .loop .s) (p .loop .at) (p .loop .inv) (not-ended f) (no-fault (c .before)) (in-file f) in
+    rw (f .before .before .read-line .ensures) (omega (arith, in-file f))
 
 loop-again : tie.Need-loop-again Inv-loop μ-loop
 loop-again c =
-    let p = c .before .before .before .before .before .before .before in
-    let file = p .before .before .before .args .file .now in
-    let h : p .loop .at < length file = omega arith in
-    let l = c .before .before .before .before .read-line .ensures in
-    let n = c .before .before .fault-of .ensures ∙ ap (λ (x : ReadLine). judge (progressOf (p .loop .s)) (x .line)) l in
-    let j : judge (progressOf (p .loop .s)) (lineAt file (p .loop .at) .line) ≡ 0 = omega (arith, n) in
-    rw l (continues file (p .loop .s) (p .loop .at) (p .loop .inv) (c .before .before .before .before .before .if1 .left) j h _
+    let f = c .before .before in
+    let p = turn f in
+    let l = f .before .before .read-line .ensures in
+    rw l (continues (fileOf p) (p .loop .s) (p .loop .at) (p .loop .inv) (not-ended f) (no-fault (c .before)) (in-file f) _
     (c .after-frame .ensures ∙ ap (λ (x : ReadLine). after (progressOf (p .loop .s)) (x .line)) l))
 
 returns-3 : tie.Need-returns-3 Inv-loop μ-loop
 returns-3 c =
     let p = c .before .before .before .before in
-    let file = p .before .before .before .args .file .now in
-    c .accept .ensures ∙ sym (complete file (p .loop .s) (p .loop .at) (p .loop .inv) (omega arith) (c .before .before .if3 .taken))
+    c .accept .ensures ∙ sym (complete (fileOf p) (p .loop .s) (p .loop .at) (p .loop .inv) (omega arith) (c .before .before .if3 .taken))
 
 add-refuse-3 : tie.Need-add-refuse-3 Inv-loop μ-loop
-add-refuse-3 c =
-    let p = c .before .before .before in
-    omega (arith, few _ (p .loop .s) (p .loop .at) (p .loop .inv))
+add-refuse-3 c = omega (arith, some-frames (c .before .before .before))
 
 returns-4 : tie.Need-returns-4 Inv-loop μ-loop
 returns-4 c =
     let p = c .before .before .before .before in
-    let file = p .before .before .before .args .file .now in
-    c .refuse3 .ensures ∙ sym (cut-short file (p .loop .s) (p .loop .at) (p .loop .inv) (omega arith) (c .before .before .if3 .left))
+    c .refuse3 .ensures ∙ sym (cut-short (fileOf p) (p .loop .s) (p .loop .at) (p .loop .inv) (omega arith) (c .before .before .if3 .left))
 
 pub read-spec : {M : Type 1} → statement M
 read-spec =

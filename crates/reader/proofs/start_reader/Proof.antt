@@ -2,8 +2,5 @@ use borrow.Author.Needs.{needs}
 use Rattle.reader.proofs.start_reader.Statement.{statement}
 use Rattle.reader.proofs.start_reader.Tie as tie
 
-returns : tie.Need-returns
-returns c = cc
-
 pub start-reader-spec : {M : Type 1} → statement M
-start-reader-spec = tie.close (tie.spec (λ c κs. search needs) returns)
+start-reader-spec = tie.close (tie.spec (λ c κs. search needs) (λ c. cc))

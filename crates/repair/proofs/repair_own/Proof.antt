@@ -55,6 +55,6 @@ returns-2 c =
 pub repair-own-spec : {M : Type 1} → statement M
 repair-own-spec =
     tie.close
-    (tie.spec (λ c κs. search needs) (λ c. search needs) (λ c. search needs) mend-requires (λ c. search needs)
+    (tie.spec (λ c κs. search needs) (λ c. search needs) (λ c. search needs) mend-requires
     (λ c κs. search needs) write-program-requires (λ c. search needs) (λ c. search needs) returns
     (λ c. search needs) (λ c. search needs) (λ c. search needs) returns-2)

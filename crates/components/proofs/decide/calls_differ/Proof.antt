@@ -3,25 +3,25 @@ use native.Mathlib.Omega.{arith}
 use mathlib.Core.Path.{_≡_}
 use lib.ListN.{length}
 use borrow.Author.Needs.{needs}
-use Rattle.components.proofs.Keyed.{keys-of}
+use Rattle.program.specs.Sizes.{maxEdges}
+use Rattle.callgraph.proofs.Keyed.{keys-of}
 use Rattle.components.proofs.Turning.{differing-call, call-differing}
 use Rattle.components.proofs.decide.calls_differ.Statement.{statement}
 use Rattle.components.proofs.decide.calls_differ.Tie as tie
 
-room : (c : tie.Start) → length (c .args .p .edges .keys) ≡ 256
+room : (c : tie.Start) → length (c .args .p .edges .keys) ≡ maxEdges
 room c = search needs
 
 some-differ-requires : tie.Need-some-differ-requires
 some-differ-requires c κs =
-    let z = c .before .before .before .before .before .before .before in
-    let h = room z in
-    let u = c .before .in-use .ensures in
-    (omega (arith, h, u), z .pre .1, z .pre .2, z .pre .3)
+    let used = c .before in
+    omega (arith, room (used .before .before .before .before .before .before), used .in-use .ensures)
 
 returns : tie.Need-returns
 returns c =
-    let z = c .before .before .before .before .before .before .before .before in
-    let k = keys-of (z .args .p) (z .pre .0) (room z) (c .before .before .in-use .ensures) in
+    let used = c .before .before in
+    let z = used .before .before .before .before .before .before in
+    let k = keys-of (z .args .p) (z .pre) (room z) (used .in-use .ensures) in
     let s = c .some-differ .ensures in
     record { if-yes = λ e. differing-call k (s .if-yes e); if-no = λ e d. s .if-no e (call-differing k d) }
 

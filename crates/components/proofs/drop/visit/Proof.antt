@@ -13,17 +13,21 @@ returns-2 c = λ old t. rank-skipped t (c .before .rank .ensures) (c .if2 .taken
 
 work-component-requires : tie.Need-work-component-requires
 work-component-requires c κs =
-    let z = c .before .before .before .before .before .before .before .before .before .before .before .before .before .before .before .pre in
-    ((omega arith, z .0 .0, z .0 .1, c .before .before .before .before .before .before .if1 .left), (z .1 .0, at-turn (z .1 .1) (c .before .before .before .before .before .rank .ensures) (c .before .before .before .before .if2 .left)))
+    let its = c .before .before in
+    let ranked = its .before in
+    let z = ranked .before .before .before .before .before .before .before .before .before .pre in
+    ((omega arith, z .0, ranked .before .if1 .left), (z .1 .0, at-turn (z .1 .1) (ranked .rank .ensures) (its .if2 .left)))
 
 returns-3 : tie.Need-returns-3
 returns-3 c =
-    let e = c .before .before .before .before .before .before .before .before .before .before .before .before .before .before .rank .ensures in
-    let r = c .before .before .before .before .before .before .before .before .before .before .before .before .before .if2 .left in
-    λ old t. from-turn t e r (c .before .before .before .before .before .before .before .before .work-component .ensures old (at-turn t e r))
+    let worked = c .before .before .before .before in
+    let its = worked .before .before .before in
+    let e = its .before .rank .ensures in
+    let r = its .if2 .left in
+    λ old t. from-turn t e r (worked .work-component .ensures old (at-turn t e r))
 
 pub visit-spec : {M : Type 1} → statement M
 visit-spec =
     tie.close
-    (tie.spec (λ c. search needs) returns (λ c κs. search needs) returns-2 work-component-requires
-    (λ c. search needs) (λ c. search needs) (λ c. search needs) (λ c. search needs) returns-3)
+    (tie.spec (λ c. search needs) returns (λ c. search needs) (λ c κs. search needs) returns-2 (λ c. search needs)
+    work-component-requires (λ c. search needs) (λ c. search needs) returns-3)

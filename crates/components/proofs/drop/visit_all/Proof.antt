@@ -1,63 +1,54 @@
--- `components::drop::visit_all` meets its contract.
+-- `components::drop::visit_all` meets its contract. The loop's invariant: turn `i` comes next.
 use native.Mathlib.Omega.{arith}
 use Prim.Native.Nat.{_≤_, _-_}
 use mathlib.Core.Path.{_≡_, sym, _∙_}
 use lib.ListN.{length}
-use Rattle.program.specs.Program.{Program}
+use Rattle.program.specs.Sizes.{marksSize}
 use Rattle.program.specs.Decoded.{programOf}
-use Rattle.components.specs.Turns.{Turning}
+use Rattle.components.specs.TurnParts.{firstTurn, endTurn, Advances}
 use Rattle.components.proofs.Turning.{turning-end}
 use Rattle.components.proofs.drop.visit_all.Statement.{statement}
 use Rattle.components.proofs.drop.visit_all.Tie as tie
 
 abbrev Inv-loop : tie.InvT-loop
-Inv-loop p leads roots before edited marks₀ pending₀ done₀ reopened₀ i₀ marks pending done reopened i =
-    (i ≤ 272) × (length pending ≡ 16384)
-    × ((old : Program) → Turning old (programOf p) edited leads roots before 16 marks₀ done₀ reopened₀
-    → Turning old (programOf p) edited leads roots before i marks done reopened)
+Inv-loop p leads roots before edited marks₀ pending₀ progress₀ i₀ marks pending progress i =
+    (i ≤ endTurn) × (length pending ≡ marksSize)
+    × Advances (programOf p) edited leads roots before firstTurn marks₀ progress₀ i marks progress
 
 abbrev μ-loop : tie.MeasureT-loop
-μ-loop p leads roots before edited marks₀ pending₀ done₀ reopened₀ i₀ marks pending done reopened i = 272 - i
+μ-loop p leads roots before edited marks₀ pending₀ progress₀ i₀ marks pending progress i = endTurn - i
 
 loop-holds : tie.Need-loop-holds Inv-loop μ-loop
-loop-holds c = (omega arith, c .before .before .before .before .before .before .before .pre .0 .1, λ old t. t)
+loop-holds c = (omega arith, c .before .before .before .before .before .pre .0, λ old t. t)
 
 visit-requires : tie.Need-visit-requires Inv-loop μ-loop
 visit-requires c κs =
-    let v = c .before .before .before .before .before .loop .inv in
-    let z = c .before .before .before .before .before .before .before .before .before .before .before .before .before .pre in
-    ((z .0 .0, v .1), (z .1 .0, v .2 (z .1 .0) (z .1 .1)))
+    let at = c .before .before .before in
+    let v = at .loop .inv in
+    let z = at .before .before .before .before .before .before .pre in
+    (v .1, (z .1 .0, v .2 (z .1 .0) (z .1 .1)))
 
 add-i : tie.Need-add-i Inv-loop μ-loop
-add-i c = let h = c .before .before .before .before .before .before .before .before .before .before .before .before .before .loop-test .taken in omega arith
+add-i c = let h = c .before .before .before .before .before .before .before .loop-test .taken in omega arith
 
 loop-less : tie.Need-loop-less Inv-loop μ-loop
-loop-less c = let h = c .before .before .before .before .before .before .before .before .before .before .before .before .before .loop-test .taken in omega arith
+loop-less c = let h = c .before .before .before .before .before .before .before .loop-test .taken in omega arith
 
 loop-again : tie.Need-loop-again Inv-loop μ-loop
 loop-again c =
-    let h = c .before .before .before .before .before .before .before .before .before .before .before .before .before .loop-test .taken in
-    let v = c .before .before .before .before .before .before .before .before .before .before .before .before .before .before .loop .inv in
-    let s = c .before .before .before .before .before .before .before .before .visit in
-    (omega arith, s .kept .1 .1 .1 .1 .1 .1 .1 .0 ∙ v .1, λ old t. s .ensures old (v .2 old t))
+    let visited = c .before .before .before .before in
+    let turn = visited .before .before .before in
+    let h = turn .loop-test .taken in
+    let v = turn .before .loop .inv in
+    (omega arith, visited .visit .kept .1 .1 .1 .1 .1 .1 .1 .1 .0 ∙ v .1, λ old t. visited .visit .ensures old (v .2 old t))
 
 same-length : tie.Need-same-length Inv-loop μ-loop
 same-length c =
-    let z = c .before .before .before .before .before .before .before .before .before .pre .1 in
+    let z = c .before .before .before .before .before .before .before .pre .1 in
     c .before .loop .inv .2 (z .0) (z .1) .working .marks-length ∙ sym (z .1 .working .marks-length)
 
 same-length-2 : tie.Need-same-length-2 Inv-loop μ-loop
-same-length-2 c = c .before .loop .inv .1 ∙ sym (c .before .before .before .before .before .before .before .before .before .pre .0 .1)
-
-same-length-3 : tie.Need-same-length-3 Inv-loop μ-loop
-same-length-3 c =
-    let z = c .before .before .before .before .before .before .before .before .before .pre .1 in
-    c .before .loop .inv .2 (z .0) (z .1) .working .done-length ∙ sym (z .1 .working .done-length)
-
-same-length-4 : tie.Need-same-length-4 Inv-loop μ-loop
-same-length-4 c =
-    let z = c .before .before .before .before .before .before .before .before .before .pre .1 in
-    c .before .loop .inv .2 (z .0) (z .1) .working .reopened-length ∙ sym (z .1 .working .reopened-length)
+same-length-2 c = c .before .loop .inv .1 ∙ sym (c .before .before .before .before .before .before .before .pre .0)
 
 returns : tie.Need-returns Inv-loop μ-loop
 returns c =
@@ -78,6 +69,4 @@ visit-all-spec =
     loop-again
     same-length
     same-length-2
-    same-length-3
-    same-length-4
     returns)

@@ -1,4 +1,5 @@
 -- `components::pass::round` meets its contract. The loop's invariant: the routines below `f` have had their turn.
+use Rattle.program.specs.Sizes.{maxRoutines, marksSize}
 use Rattle.program.specs.Decoded.{programOf}
 use Rattle.components.specs.PassParts.{Round}
 use Rattle.components.proofs.Rounds.{grown-ready, round-none, round-turn}
@@ -6,59 +7,55 @@ use native.Mathlib.Omega.{arith}
 use Prim.Native.Nat.{_≤_, _-_}
 use mathlib.Core.Path.{_≡_, sym, _∙_}
 use lib.ListN.{length}
+use borrow.Author.Needs.{needs}
 use Rattle.components.proofs.pass.round.Statement.{statement}
 use Rattle.components.proofs.pass.round.Tie as tie
 
 abbrev Inv-loop : tie.InvT-loop
-Inv-loop p members next marks₀ pending₀ f₀ marks pending f = (f ≤ 16) × (length pending ≡ 16384) × Round (programOf p) members f marks₀ marks
+Inv-loop p members next marks₀ pending₀ f₀ marks pending f =
+    (f ≤ maxRoutines) × (length pending ≡ marksSize) × Round (programOf p) members f marks₀ marks
 
 abbrev μ-loop : tie.MeasureT-loop
-μ-loop p members next marks₀ pending₀ f₀ marks pending f = 16 - f
+μ-loop p members next marks₀ pending₀ f₀ marks pending f = maxRoutines - f
 
 loop-holds : tie.Need-loop-holds Inv-loop μ-loop
-loop-holds c = (omega arith, c .before .before .before .before .pre .0 .2, round-none (c .before .before .before .before .pre .1 .0))
+loop-holds c = (omega arith, c .before .before .before .pre .0, round-none (c .before .before .before .pre .1 .0))
 
 turn-requires : tie.Need-turn-requires Inv-loop μ-loop
 turn-requires c κs =
-    let z = c .before .before .before .before .before .before .before .before .pre in
-    let i = c .before .before .before .loop .inv in
-    ((z .0 .0, omega arith, z .0 .1, i .1), (grown-ready (z .1 .0) (i .2 .grows), z .1 .1))
+    let at = c .before .before .before in
+    let z = at .before .before .before .before .pre in
+    ((omega arith, at .loop .inv .1), (grown-ready (z .1 .0) (at .loop .inv .2 .grows), z .1 .1))
 
 add-f : tie.Need-add-f Inv-loop μ-loop
-add-f c = omega arith
+add-f c = let h = c .before .before .before .before .before .before .before .loop-test .taken in omega arith
 
 loop-less : tie.Need-loop-less Inv-loop μ-loop
-loop-less c = omega arith
+loop-less c = let h = c .before .before .before .before .before .before .before .loop-test .taken in omega arith
 
 loop-again : tie.Need-loop-again Inv-loop μ-loop
 loop-again c =
-    let z = c .before .before .before .before .before .before .before .before .before .before .before .before .before .pre in
-    let i = c .before .before .before .before .before .before .before .before .loop .inv in
-    (omega arith, c .before .before .before .before .turn .kept .1 .1 .1 .1 .1 .0 ∙ i .1, round-turn (z .1 .0) (i .2) (c .before .before .before .before .turn .ensures))
+    let turned = c .before .before .before .before in
+    let at = turned .before .before .before .before in
+    let h = turned .before .before .before .loop-test .taken in
+    let z = at .before .before .before .before .pre in
+    let i = at .loop .inv in
+    (omega arith, turned .turn .kept .1 .1 .1 .1 .1 .0 ∙ i .1, round-turn (z .1 .0) (i .2) (turned .turn .ensures))
 
 same-length : tie.Need-same-length Inv-loop μ-loop
-same-length c = c .before .loop .inv .2 .grows .marks-length ∙ sym (c .before .before .before .before .before .before .pre .1 .0 .marks-length)
+same-length c = c .before .loop .inv .2 .grows .marks-length ∙ sym (c .before .before .before .before .before .pre .1 .0 .marks-length)
 
 same-length-2 : tie.Need-same-length-2 Inv-loop μ-loop
-same-length-2 c = c .before .loop .inv .1 ∙ sym (c .before .before .before .before .before .before .pre .0 .2)
+same-length-2 c = c .before .loop .inv .1 ∙ sym (c .before .before .before .before .before .pre .0)
 
 returns : tie.Need-returns Inv-loop μ-loop
 returns c =
     let i = c .before .loop .inv in
-    let e : c .before .loop .f ≡ 16 = omega arith in
+    let e : c .before .loop .f ≡ maxRoutines = omega arith in
     rw e at (i .2)
 
 pub round-spec : {M : Type 1} → statement M
 round-spec =
     tie.close
-    (tie.spec
-    Inv-loop
-    μ-loop
-    loop-holds
-    turn-requires
-    add-f
-    loop-less
-    loop-again
-    same-length
-    same-length-2
-    returns)
+    (tie.spec Inv-loop μ-loop loop-holds (λ c. search needs) turn-requires add-f loop-less loop-again same-length
+    same-length-2 returns)

@@ -1,4 +1,5 @@
 -- `components::pass::rounds` meets its contract. The loop's invariant: the marks have grown by the edges of the component; each round but the last marks more.
+use Rattle.program.specs.Sizes.{marksSize}
 use Rattle.program.specs.Decoded.{programOf}
 use Rattle.base.specs.Flags.{countSet}
 use Rattle.components.specs.PassParts.{Grows}
@@ -11,45 +12,59 @@ use Rattle.components.proofs.pass.rounds.Statement.{statement}
 use Rattle.components.proofs.pass.rounds.Tie as tie
 
 abbrev Inv-loop : tie.InvT-loop
-Inv-loop p members next marks₀ pending₀ marks pending = (length pending ≡ 16384) × Grows (programOf p) members marks₀ marks
+Inv-loop p members next marks₀ pending₀ marks pending = (length pending ≡ marksSize) × Grows (programOf p) members marks₀ marks
 
 abbrev μ-loop : tie.MeasureT-loop
-μ-loop p members next marks₀ pending₀ marks pending = 16384 - countSet marks
+μ-loop p members next marks₀ pending₀ marks pending = marksSize - countSet marks
 
 loop-holds : tie.Need-loop-holds Inv-loop μ-loop
-loop-holds c = (c .before .before .before .before .pre .0 .2, grows-none (c .before .before .before .before .pre .1 .0))
+loop-holds c = let z = c .before .before .before .pre in (z .0, grows-none (z .1 .0))
 
-count-marks-requires : tie.Need-count-marks-requires Inv-loop μ-loop
-count-marks-requires c κs = tt
+count-set-requires : tie.Need-count-set-requires Inv-loop μ-loop
+count-set-requires c κs = tt
 
 round-requires : tie.Need-round-requires Inv-loop μ-loop
 round-requires c κs =
-    let z = c .before .before .before .before .before .before .before .before .before .pre in
-    let i = c .before .before .before .before .loop .inv in
-    ((z .0 .0, z .0 .1, i .0), (grown-ready (z .1 .0) (i .1), z .1 .1))
+    let at = c .before .before .before .before in
+    let z = at .before .before .before .before .pre in
+    (at .loop .inv .0, (grown-ready (z .1 .0) (at .loop .inv .1), z .1 .1))
 
-count-marks-requires-2 : tie.Need-count-marks-requires-2 Inv-loop μ-loop
-count-marks-requires-2 c κs = tt
+count-set-requires-2 : tie.Need-count-set-requires-2 Inv-loop μ-loop
+count-set-requires-2 c κs = tt
 
 same-length : tie.Need-same-length Inv-loop μ-loop
-same-length c = c .before .before .before .before .before .before .before .round .ensures .grows .marks-length ∙ sym (c .before .before .before .before .before .before .before .before .before .before .before .before .before .before .before .before .before .pre .1 .0 .marks-length)
+same-length c =
+    let round = c .before .before .before .before .before .before .before in
+    let at = round .before .before .before .before .before in
+    round .round .ensures .grows .marks-length ∙ sym (at .before .before .before .before .pre .1 .0 .marks-length)
 
 same-length-2 : tie.Need-same-length-2 Inv-loop μ-loop
-same-length-2 c = c .before .before .before .before .before .before .before .round .kept .1 .1 .1 .1 .0 ∙ c .before .before .before .before .before .before .before .before .before .before .before .before .loop .inv .0 ∙ sym (c .before .before .before .before .before .before .before .before .before .before .before .before .before .before .before .before .before .pre .0 .2)
+same-length-2 c =
+    let round = c .before .before .before .before .before .before .before in
+    let at = round .before .before .before .before .before in
+    round .round .kept .1 .1 .1 .1 .0 ∙ at .loop .inv .0 ∙ sym (at .before .before .before .before .pre .0)
 
 returns : tie.Need-returns Inv-loop μ-loop
 returns c =
-    rounds-end (c .before .before .before .before .before .before .before .before .before .before .before .before .before .before .before .before .before .pre .1 .0) (c .before .before .before .before .before .before .before .before .before .before .before .before .loop .inv .1) (c .before .before .before .before .before .before .before .round .ensures)
-    (omega (arith, c .before .count-marks2 .ensures, c .before .before .before .before .before .before .before .before .before .before .count-marks .ensures, c .if1 .taken))
+    let round = c .before .before .before .before .before .before .before in
+    let before = round .before .before .before in
+    let at = before .before .before in
+    rounds-end (at .before .before .before .before .pre .1 .0) (at .loop .inv .1) (round .round .ensures)
+    (omega (arith, c .before .count-set2 .ensures, before .count-set .ensures, c .if1 .taken))
 
 loop-less : tie.Need-loop-less Inv-loop μ-loop
 loop-less c =
-    let h = grown-ready (c .before .before .before .before .before .before .before .before .before .before .before .before .before .before .before .before .before .pre .1 .0) (c .before .before .before .before .before .before .before .before .before .before .before .before .loop .inv .1) in
-    let g = c .before .before .before .before .before .before .before .round .ensures .grows in
-    rounds-less h g (c .before .count-marks2 .ensures) (c .before .before .before .before .before .before .before .before .before .before .count-marks .ensures) (c .if1 .left)
+    let round = c .before .before .before .before .before .before .before in
+    let before = round .before .before .before in
+    let at = before .before .before in
+    let h = grown-ready (at .before .before .before .before .pre .1 .0) (at .loop .inv .1) in
+    rounds-less h (round .round .ensures .grows) (c .before .count-set2 .ensures) (before .count-set .ensures) (c .if1 .left)
 
 loop-again : tie.Need-loop-again Inv-loop μ-loop
-loop-again c = (c .before .before .before .before .before .before .before .round .kept .1 .1 .1 .1 .0 ∙ c .before .before .before .before .before .before .before .before .before .before .before .before .loop .inv .0, grows-then (c .before .before .before .before .before .before .before .before .before .before .before .before .before .before .before .before .before .pre .1 .0) (c .before .before .before .before .before .before .before .before .before .before .before .before .loop .inv .1) (c .before .before .before .before .before .before .before .round .ensures .grows))
+loop-again c =
+    let round = c .before .before .before .before .before .before .before in
+    let at = round .before .before .before .before .before in
+    (round .round .kept .1 .1 .1 .1 .0 ∙ at .loop .inv .0, grows-then (at .before .before .before .before .pre .1 .0) (at .loop .inv .1) (round .round .ensures .grows))
 
 pub rounds-spec : {M : Type 1} → statement M
 rounds-spec =
@@ -58,9 +73,9 @@ rounds-spec =
     Inv-loop
     μ-loop
     loop-holds
-    count-marks-requires
+    count-set-requires
     round-requires
-    count-marks-requires-2
+    count-set-requires-2
     same-length
     same-length-2
     returns

@@ -1,64 +1,84 @@
 -- `components::pass::turn` meets its contract: the part of the table that is handed on has the edges of routine `f`.
+use Rattle.program.specs.Sizes.{maxEdges}
 use Rattle.worklist.proofs.Slice.{part-starts}
+use Rattle.callgraph.proofs.Members.{true-member}
 use Rattle.components.proofs.Slice.{routine-edges}
 use Rattle.components.proofs.Rounds.{no-turn, turn-followable, turn-shown}
+use Rattle.reach.proofs.Numbers.{first-number}
 use native.Mathlib.Omega.{arith}
-use mathlib.Core.Path.{_≡_}
+use mathlib.Core.Path.{_≡_, sym, _∙_}
 use lib.ListN.{length}
+use borrow.Author.Tests.{not-true, not-false}
 use borrow.Author.Needs.{needs}
 use Rattle.components.proofs.pass.turn.Statement.{statement}
 use Rattle.components.proofs.pass.turn.Tie as tie
 
-room : (c : tie.Start) → length (c .args .p .edges .keys) ≡ 256
+room : (c : tie.Start) → length (c .args .p .edges .keys) ≡ maxEdges
 room c = search needs
 
 returns : tie.Need-returns
-returns c = no-turn (c .before .before .before .before .before .before .pre .1 .0) _ (c .if1 .taken)
+returns c = no-turn (c .before .before .before .before .before .pre .1 .0) _ (sym (c .before .is-set .ensures) ∙ not-true _ (c .if1 .taken))
 
 first-of-requires : tie.Need-first-of-requires
 first-of-requires c κs =
-    let h = room (c .before .before .before .before .before .before .before .before .before .before) in
-    let u = c .before .in-use .ensures in
-    omega (arith, h, u)
+    let used = c .before in
+    let start = used .before .before .before .before .before .before .before .before in
+    omega (arith, room start, used .in-use .ensures)
 
 first-of-requires-2 : tie.Need-first-of-requires-2
 first-of-requires-2 c κs =
-    let h = room (c .before .before .before .before .before .before .before .before .before .before .before .before) in
-    let u = c .before .before .before .in-use .ensures in
-    omega (arith, h, u)
+    let used = c .before .before .before in
+    let start = used .before .before .before .before .before .before .before .before in
+    omega (arith, room start, used .in-use .ensures)
 
 sub-follow-part : tie.Need-sub-follow-part
-sub-follow-part c = part-starts (c .before .before .first-of .ensures) (c .first-of2 .ensures)
+sub-follow-part c = part-starts (c .before .before .before .first-of .ensures) (c .before .first-of2 .ensures)
 
 part-follow-part-start : tie.Need-part-follow-part-start
 part-follow-part-start c =
-    let x = part-starts (c .before .before .before .first-of .ensures) (c .before .first-of2 .ensures) in
-    omega (arith, x)
+    let to = c .before .before in
+    omega (arith, part-starts (to .before .before .first-of .ensures) (to .first-of2 .ensures))
 
 part-follow-part-end : tie.Need-part-follow-part-end
 part-follow-part-end c =
-    let h = room (c .before .before .before .before .before .before .before .before .before .before .before .before .before .before) in
-    let u = c .before .before .before .before .before .in-use .ensures in
-    let x = part-starts (c .before .before .before .first-of .ensures) (c .before .first-of2 .ensures) in
-    let y = c .before .first-of2 .ensures .within in
-    omega (arith, h, u, x, y)
+    let to = c .before .before in
+    let used = to .before .before .before .before in
+    let start = used .before .before .before .before .before .before .before .before in
+    let x = part-starts (to .before .before .first-of .ensures) (to .first-of2 .ensures) in
+    omega (arith, room start, used .in-use .ensures, x, to .first-of2 .ensures .within)
+
+add-follow-part : tie.Need-add-follow-part
+add-follow-part c = omega (arith, c .before .before .before .before .before .number-of .ensures .1)
 
 follow-part-requires : tie.Need-follow-part-requires
 follow-part-requires c κs =
-    let z = c .before .before .before .before .before .before .before .before .before .before .before .before .before .before .before .before .before in
-    let e = routine-edges (z .args .p .edges .count) (room z) (c .before .before .before .before .before .before .before .before .in-use .ensures) (c .before .before .before .before .before .before .first-of .ensures) (c .before .before .before .before .first-of2 .ensures) (z .pre .1 .0 .well-formed .edges-ascend) in
-    ((z .pre .0 .2, z .pre .0 .3, omega (arith, z .pre .0 .1)), (_, turn-followable (z .args .f) (z .pre .1 .0) e (z .pre .1 .1)))
+    let low = c .before .before .before .before .before in
+    let to = low .before in
+    let from = to .before .before in
+    let used = from .before .before in
+    let z = used .before .before .before .before .before .before .before .before in
+    let e = routine-edges (z .args .p .edges .count) (room z) (used .in-use .ensures) (from .first-of .ensures) (to .first-of2 .ensures) (z .pre .1 .0 .well-formed .edges-ascend) in
+    let size = c .before .before .follow-part-arg2 .given .0 in
+    let first = low .number-of .ensures .0 in
+    ((size, z .pre .0 .1, omega (arith, z .pre .0 .0, first, first-number (z .args .f))), (_, turn-followable (z .args .f) first (z .pre .1 .0) e (z .pre .1 .1)))
 
 returns-2 : tie.Need-returns-2
 returns-2 c =
-    let z = c .before .before .before .before .before .before .before .before .before .before .before .before .before .before .before .before .before .before .before .before .before .before in
-    let e = routine-edges (z .args .p .edges .count) (room z) (c .before .before .before .before .before .before .before .before .before .before .before .before .before .in-use .ensures) (c .before .before .before .before .before .before .before .before .before .before .before .first-of .ensures) (c .before .before .before .before .before .before .before .before .before .first-of2 .ensures) (z .pre .1 .0 .well-formed .edges-ascend) in
-    turn-shown (z .pre .1 .0) _ (c .before .before .before .before .before .before .before .before .before .before .before .before .before .before .before .before .if1 .left) (c .before .before .before .before .follow-part .ensures .0 _ (turn-followable (z .args .f) (z .pre .1 .0) e (z .pre .1 .1)))
+    let followed = c .before .before .before .before in
+    let low = followed .before .before .before .before .before .before in
+    let to = low .before in
+    let from = to .before .before in
+    let used = from .before .before in
+    let tested = used .before .before .before in
+    let z = tested .before .before .before .before .before in
+    let e = routine-edges (z .args .p .edges .count) (room z) (used .in-use .ensures) (from .first-of .ensures) (to .first-of2 .ensures) (z .pre .1 .0 .well-formed .edges-ascend) in
+    let may = turn-followable (z .args .f) (low .number-of .ensures .0) (z .pre .1 .0) e (z .pre .1 .1) in
+    turn-shown (z .pre .1 .0) _ (true-member (z .args .members .now) (z .args .f) (sym (tested .before .is-set .ensures) ∙ not-false _ (tested .if1 .left))) (followed .follow-part .ensures .0 _ may)
 
 pub turn-spec : {M : Type 1} → statement M
 turn-spec =
     tie.close
-    (tie.spec (λ c. search needs) returns (λ c κs. search needs) (λ c. search needs) first-of-requires
-    (λ c. search needs) (λ c. search needs) first-of-requires-2 (λ c. search needs) (λ c. search needs)
-    sub-follow-part part-follow-part-start part-follow-part-end (λ c. search needs) follow-part-requires
+    (tie.spec (λ c κs. search needs) returns (λ c κs. search needs) (λ c. search needs) first-of-requires
+    (λ c. search needs) (λ c. search needs) first-of-requires-2 (λ c κs. search needs) (λ c. search needs)
+    sub-follow-part part-follow-part-start part-follow-part-end add-follow-part follow-part-requires
     (λ c. search needs) (λ c. search needs) returns-2)

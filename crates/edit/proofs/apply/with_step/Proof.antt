@@ -1,24 +1,35 @@
-use mathlib.Core.Path.{refl, ap, _∙_}
+use mathlib.Core.Path.{_≡_, ap, _∙_}
 use mathlib.Core.List.{map}
-use Rattle.automaton.specs.Decoded.{keysOf}
-use Rattle.program.specs.Decoded.{edgeOf}
-use Rattle.reader.proofs.Views.{as-many, program-parts}
-use Rattle.edit.specs.Edits.{edgeOfStep}
-use Rattle.edit.proofs.Linked.{word-inserted}
+use lib.ListN.{length}
 use borrow.Author.Needs.{needs}
+use Rattle.base.proofs.Entries.{unfilled}
+use Rattle.program.specs.Sizes.{maxEdges}
+use Rattle.program.specs.Decoded.{edgeKeysOf, edgeOf, programOf}
+use Rattle.reader.proofs.Views.{as-many}
+use Rattle.edit.specs.Editing.{withEdges}
+use Rattle.edit.proofs.Linked.{edges-inserted}
 use Rattle.edit.proofs.apply.with_step.Statement.{statement}
 use Rattle.edit.proofs.apply.with_step.Tie as tie
 
+size : (z : tie.Start) → length (z .args .p .edges .keys) ≡ maxEdges
+size z = search needs
+
 insert-key-requires : tie.Need-insert-key-requires
-insert-key-requires c κs = let z = c .before .before .before .before in as-many edgeOf (keysOf (z .args .p .edges)) 256 (z .pre .1)
+insert-key-requires c κs =
+    let z = c .before .before .before .before in
+    let t = z .args .p .edges in
+    unfilled (t .count) (t .keys) (rw (size z) (as-many edgeOf (edgeKeysOf t) maxEdges (z .pre .1)))
 
 returns : tie.Need-returns
 returns c =
-    let z = c .before .before .before .before .before in
-    let k = c .before .step-key .ensures in
-    program-parts _ refl refl
-    (ap (map edgeOf) (rw k at (c .insert-key .ensures .0)) ∙ word-inserted (edgeOfStep (z .args .s)) (z .pre .0) (keysOf (z .args .p .edges)))
-    refl
+    let i = c .before .before in
+    let k = i .before in
+    let z = k .before .before .before .before in
+    let p = z .args .p in
+    c .with-edges .ensures
+    ∙ ap (withEdges (programOf p))
+    (ap (map edgeOf) (i .insert-key .ensures .are) ∙ edges-inserted (k .step-key .result) (edgeKeysOf (p .edges)) ∙ rw (k .step-key .ensures))
 
 pub with-step-spec : {M : Type 1} → statement M
-with-step-spec = tie.close (tie.spec (λ c κs. search needs) insert-key-requires returns)
+with-step-spec =
+    tie.close (tie.spec (λ c. search needs) (λ c κs. search needs) insert-key-requires (λ c κs. search needs) returns)

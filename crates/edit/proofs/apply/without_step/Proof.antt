@@ -1,21 +1,22 @@
-use mathlib.Core.Path.{refl, ap, _∙_}
+use mathlib.Core.Path.{ap, _∙_}
 use mathlib.Core.List.{map}
-use Rattle.automaton.specs.Decoded.{keysOf}
-use Rattle.program.specs.Decoded.{edgeOf}
-use Rattle.reader.proofs.Views.{program-parts}
-use Rattle.edit.specs.Edits.{edgeOfStep}
-use Rattle.edit.proofs.Linked.{word-without}
 use borrow.Author.Needs.{needs}
+use Rattle.program.specs.Decoded.{edgeKeysOf, edgeOf, programOf}
+use Rattle.edit.specs.Editing.{withEdges}
+use Rattle.edit.proofs.Linked.{edges-without}
 use Rattle.edit.proofs.apply.without_step.Statement.{statement}
 use Rattle.edit.proofs.apply.without_step.Tie as tie
 
 returns : tie.Need-returns
 returns c =
-    let z = c .before .before .before .before .before in
-    let k = c .before .step-key .ensures in
-    program-parts _ refl refl
-    (ap (map edgeOf) (rw k at (c .remove-key .ensures .0)) ∙ word-without (edgeOfStep (z .args .s)) (z .pre) (keysOf (z .args .p .edges)))
-    refl
+    let i = c .before .before in
+    let k = i .before in
+    let z = k .before .before .before .before in
+    let p = z .args .p in
+    c .with-edges .ensures
+    ∙ ap (withEdges (programOf p))
+    (ap (map edgeOf) (i .remove-key .ensures .are) ∙ edges-without (k .step-key .result) (edgeKeysOf (p .edges)) ∙ rw (k .step-key .ensures))
 
 pub without-step-spec : {M : Type 1} → statement M
-without-step-spec = tie.close (tie.spec (λ c κs. search needs) (λ c κs. search needs) returns)
+without-step-spec =
+    tie.close (tie.spec (λ c. search needs) (λ c κs. search needs) (λ c κs. search needs) (λ c κs. search needs) returns)

@@ -2,8 +2,5 @@ use borrow.Author.Needs.{needs}
 use Rattle.edit.proofs.line.edit_or.Statement.{statement}
 use Rattle.edit.proofs.line.edit_or.Tie as tie
 
-returns-3 : tie.Need-returns-3
-returns-3 c = cc
-
 pub edit-or-spec : {M : Type 1} → statement M
-edit-or-spec = tie.close (tie.spec (λ c. search needs) (λ c. search needs) returns-3)
+edit-or-spec = tie.close (tie.spec (λ c. search needs) (λ c. search needs) (λ c. cc))

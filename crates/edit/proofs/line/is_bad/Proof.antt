@@ -2,8 +2,5 @@ use borrow.Author.Needs.{needs}
 use Rattle.edit.proofs.line.is_bad.Statement.{statement}
 use Rattle.edit.proofs.line.is_bad.Tie as tie
 
-returns : tie.Need-returns
-returns c = cc
-
 pub is-bad-spec : {M : Type 1} → statement M
-is-bad-spec = tie.close (tie.spec (λ c κs. search needs) (λ c κs. search needs) returns)
+is-bad-spec = tie.close (tie.spec (λ c κs. search needs) (λ c κs. search needs) (λ c. cc))

@@ -2,17 +2,5 @@ use Rattle.base.proofs.Ways.{tests}
 use Rattle.edit.proofs.line.kind_by.Statement.{statement}
 use Rattle.edit.proofs.line.kind_by.Tie as tie
 
-returns : tie.Need-returns
-returns c = search tests
-
-returns-2 : tie.Need-returns-2
-returns-2 c = search tests
-
-returns-3 : tie.Need-returns-3
-returns-3 c = search tests
-
-returns-4 : tie.Need-returns-4
-returns-4 c = search tests
-
 pub kind-by-spec : {M : Type 1} → statement M
-kind-by-spec = tie.close (tie.spec returns returns-2 returns-3 returns-4)
+kind-by-spec = tie.close (tie.spec (λ c. search tests) (λ c. search tests) (λ c. search tests) (λ c. search tests))

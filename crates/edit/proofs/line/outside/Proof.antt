@@ -2,10 +2,7 @@ use borrow.Author.Needs.{needs}
 use Rattle.edit.proofs.line.outside.Statement.{statement}
 use Rattle.edit.proofs.line.outside.Tie as tie
 
-returns : tie.Need-returns
-returns c = cc
-
 pub outside-spec : {M : Type 1} → statement M
 outside-spec =
     tie.close
-    (tie.spec (λ c κs. search needs) (λ c κs. search needs) (λ c κs. search needs) (λ c κs. search needs) returns)
+    (tie.spec (λ c κs. search needs) (λ c κs. search needs) (λ c κs. search needs) (λ c κs. search needs) (λ c. cc))

@@ -1,15 +1,16 @@
 use Rattle.program.specs.Reading.{transitionIn}
 use lib.Dec.{eqb}
 use Rattle.reader.proofs.Views.{as-many, map-more, automaton-parts}
-use Rattle.automaton.specs.Decoded.{keysOf, transitionOf}
+use Rattle.automaton.specs.Decoded.{transitionKeysOf, transitionOf}
+use Rattle.automaton.specs.Sizes.{maxTransitions}
 use borrow.Author.Tests.{eqb-true}
 use mathlib.Core.Path.{_∙_}
 use borrow.Author.Needs.{needs}
 use Rattle.reader.proofs.extend.automaton_after.Statement.{statement}
 use Rattle.reader.proofs.extend.automaton_after.Tie as tie
 
-add-key-requires : tie.Need-add-key-requires
-add-key-requires c κs = λ e. let z = c .before .before .before .before .before in as-many transitionOf (keysOf (z .args .a .transitions)) 256 (z .pre .transitions (eqb-true _ 4 e))
+add-transition-requires : tie.Need-add-transition-requires
+add-transition-requires c κs = λ e. let z = c .before .before .before .before .before in as-many transitionOf (transitionKeysOf (z .args .a .transitions)) maxTransitions (z .pre .transitions (eqb-true _ 4 e))
 
 add-state-requires : tie.Need-add-state-requires
 add-state-requires c κs = λ e. c .before .before .before .before .before .before .pre .initial (eqb-true _ 5 e)
@@ -22,11 +23,11 @@ returns c =
     let z = c .before .before .before .before .before .before .before .before .before .before .before .before in
     let n = c .before .before .before .before .before .before .before .before .number .ensures in
     automaton-parts _ (c .before .before .choose .ensures ∙ rw (c .before .before .before .number2 .ensures)) (c .choose2 .ensures ∙ rw (c .before .number3 .ensures))
-    (map-more transitionOf (eqb (z .args .k) 4) _ (transitionIn (z .args .l)) (keysOf (z .args .a .transitions)) _ (c .before .before .before .before .before .before .add-key .ensures) (c .before .before .before .before .before .before .before .transition-key .ensures))
+    (map-more transitionOf (eqb (z .args .k) 4) _ (transitionIn (z .args .l)) (transitionKeysOf (z .args .a .transitions)) _ (c .before .before .before .before .before .before .add-transition .ensures) (c .before .before .before .before .before .before .before .transition-in .ensures))
     (c .before .before .before .before .before .add-state .ensures ∙ rw n) (c .before .before .before .before .add-state2 .ensures ∙ rw n)
 
 pub automaton-after-spec : {M : Type 1} → statement M
 automaton-after-spec =
     tie.close
-    (tie.spec (λ c κs. search needs) (λ c κs. search needs) add-key-requires add-state-requires add-state-requires-2
+    (tie.spec (λ c κs. search needs) (λ c κs. search needs) add-transition-requires add-state-requires add-state-requires-2
     (λ c κs. search needs) (λ c κs. search needs) (λ c κs. search needs) (λ c κs. search needs) returns)

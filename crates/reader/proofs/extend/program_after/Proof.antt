@@ -1,8 +1,8 @@
 use Rattle.program.specs.Reading.{edgeIn}
 use lib.Dec.{eqb}
 use Rattle.reader.proofs.Views.{as-many, map-more, program-parts}
-use Rattle.program.specs.Decoded.{edgeOf}
-use Rattle.automaton.specs.Decoded.{keysOf}
+use Rattle.program.specs.Decoded.{edgeKeysOf, edgeOf}
+use Rattle.program.specs.Sizes.{maxEdges}
 use borrow.Author.Tests.{eqb-true}
 use mathlib.Core.Path.{_∙_}
 use borrow.Author.Needs.{needs}
@@ -12,8 +12,8 @@ use Rattle.reader.proofs.extend.program_after.Tie as tie
 add-node-requires : tie.Need-add-node-requires
 add-node-requires c κs = λ e. c .before .before .before .before .pre .nodes (eqb-true _ 2 e)
 
-add-key-requires : tie.Need-add-key-requires
-add-key-requires c κs = λ e. let z = c .before .before .before .before .before .before in as-many edgeOf (keysOf (z .args .p .edges)) 256 (z .pre .edges (eqb-true _ 3 e))
+add-edge-requires : tie.Need-add-edge-requires
+add-edge-requires c κs = λ e. let z = c .before .before .before .before .before .before in as-many edgeOf (edgeKeysOf (z .args .p .edges)) maxEdges (z .pre .edges (eqb-true _ 3 e))
 
 automaton-after-requires : tie.Need-automaton-after-requires
 automaton-after-requires c κs = c .before .before .before .before .before .before .before .pre .automaton
@@ -22,10 +22,10 @@ returns : tie.Need-returns
 returns c =
     let z = c .before .before .before .before .before .before .before .before .before .before in
     program-parts _ (c .choose .ensures ∙ rw (c .before .number2 .ensures)) (c .before .before .before .before .before .add-node .ensures ∙ rw (c .before .before .before .before .before .before .number .ensures))
-    (map-more edgeOf (eqb (z .args .k) 3) _ (edgeIn (z .args .l)) (keysOf (z .args .p .edges)) _ (c .before .before .before .add-key .ensures) (c .before .before .before .before .edge-key .ensures)) (c .before .before .automaton-after .ensures)
+    (map-more edgeOf (eqb (z .args .k) 3) _ (edgeIn (z .args .l)) (edgeKeysOf (z .args .p .edges)) _ (c .before .before .before .add-edge .ensures) (c .before .before .before .before .edge-in .ensures)) (c .before .before .automaton-after .ensures)
 
 pub program-after-spec : {M : Type 1} → statement M
 program-after-spec =
     tie.close
-    (tie.spec (λ c κs. search needs) add-node-requires (λ c κs. search needs) add-key-requires
+    (tie.spec (λ c κs. search needs) add-node-requires (λ c κs. search needs) add-edge-requires
     automaton-after-requires (λ c κs. search needs) (λ c κs. search needs) returns)

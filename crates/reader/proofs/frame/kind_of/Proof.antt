@@ -2,8 +2,5 @@ use borrow.Author.Needs.{needs}
 use Rattle.reader.proofs.frame.kind_of.Statement.{statement}
 use Rattle.reader.proofs.frame.kind_of.Tie as tie
 
-returns : tie.Need-returns
-returns c = cc
-
 pub kind-of-spec : {M : Type 1} → statement M
-kind-of-spec = tie.close (tie.spec (λ c κs. search needs) (λ c κs. search needs) returns)
+kind-of-spec = tie.close (tie.spec (λ c κs. search needs) (λ c κs. search needs) (λ c. cc))

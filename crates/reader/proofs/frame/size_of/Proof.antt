@@ -2,23 +2,8 @@ use Rattle.base.proofs.Ways.{tests}
 use Rattle.reader.proofs.frame.size_of.Statement.{statement}
 use Rattle.reader.proofs.frame.size_of.Tie as tie
 
-returns : tie.Need-returns
-returns c = search tests
-
-returns-2 : tie.Need-returns-2
-returns-2 c = search tests
-
-returns-3 : tie.Need-returns-3
-returns-3 c = search tests
-
-returns-4 : tie.Need-returns-4
-returns-4 c = search tests
-
-returns-5 : tie.Need-returns-5
-returns-5 c = search tests
-
-returns-6 : tie.Need-returns-6
-returns-6 c = search tests
-
 pub size-of-spec : {M : Type 1} → statement M
-size-of-spec = tie.close (tie.spec returns returns-2 returns-3 returns-4 returns-5 returns-6)
+size-of-spec =
+    tie.close
+    (tie.spec (λ c. search tests) (λ c. search tests) (λ c. search tests) (λ c. search tests) (λ c. search tests)
+    (λ c. search tests))

@@ -1,25 +1,37 @@
-use Rattle.program.specs.Decoded.{edgeOf}
-use Rattle.program.specs.Reading.{judge, judgeAs}
-use Rattle.automaton.specs.Decoded.{keysOf, transitionOf}
-use lib.ListN.{length-map}
-use mathlib.Core.Path.{_≡_, sym, _∙_}
+use mathlib.Core.Path.{_≡_, _∙_}
+use lib.ListN.{length}
 use borrow.Author.Needs.{needs}
+use Rattle.base.proofs.Entries.{in-use-length}
+use Rattle.automaton.specs.Sizes.{maxTransitions}
+use Rattle.automaton.specs.Decoded.{transitionOf}
+use Rattle.program.specs.Sizes.{maxRoutines, maxEdges}
+use Rattle.program.specs.Reading.{judge, judgeAs}
+use Rattle.program.specs.Decoded.{edgeOf}
+use Rattle.reader.proofs.Views.{counted}
 use Rattle.reader.proofs.judge.fault_of.Statement.{statement}
 use Rattle.reader.proofs.judge.fault_of.Tie as tie
+
+-- the sizes of the arrays
+sizes : (z : tie.Start)
+    → (length (z .args .s .program .nodes .list) ≡ maxRoutines) × (length (z .args .s .program .edges .keys) ≡ maxEdges)
+    × (length (z .args .s .program .automaton .transitions .keys) ≡ maxTransitions)
+sizes z = (search needs, search needs, search needs)
 
 returns : tie.Need-returns
 unfolding judge judgeAs
 returns c =
-    let z = c .before .before .before .before .before .before .before .before .before .before in
+    let t = c .before in
+    let e = t .before in
+    let n = e .before in
+    let z = n .before .before .before .before .before .before .before in
     let p = z .args .s .program in
+    let s = sizes z in
     c .fault-by .ensures
     ∙ rw (
-      c .before .before .before .before .limits-of .ensures,
-      c .before .before .before .nodes-in-use .ensures,
-      c .before .before .keys-in-use .ensures,
-      c .before .keys-in-use2 .ensures,
-      ← (length-map (keysOf (p .edges)) edgeOf),
-      ← (length-map (keysOf (p .automaton .transitions)) transitionOf),
+      n .before .limits-of .ensures,
+      in-use-length (p .nodes .count) (p .nodes .list) (s .0) (n .in-use .ensures),
+      counted edgeOf (p .edges .count) (p .edges .keys) (s .1) (e .in-use2 .ensures),
+      counted transitionOf (p .automaton .transitions .count) (p .automaton .transitions .keys) (s .2) (t .in-use3 .ensures),
     )
 
 pub fault-of-spec : {M : Type 1} → statement M

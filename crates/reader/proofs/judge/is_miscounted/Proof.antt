@@ -2,11 +2,8 @@ use borrow.Author.Needs.{needs}
 use Rattle.reader.proofs.judge.is_miscounted.Statement.{statement}
 use Rattle.reader.proofs.judge.is_miscounted.Tie as tie
 
-returns : tie.Need-returns
-returns c = cc
-
 pub is-miscounted-spec : {M : Type 1} → statement M
 is-miscounted-spec =
     tie.close
     (tie.spec (λ c κs. search needs) (λ c κs. search needs) (λ c. search needs) (λ c. search needs)
-    (λ c. search needs) (λ c. search needs) returns)
+    (λ c. search needs) (λ c. search needs) (λ c. cc))

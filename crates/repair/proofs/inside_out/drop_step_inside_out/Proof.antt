@@ -1,5 +1,5 @@
 -- `repair::inside_out::drop_step_inside_out` meets its contract.
-use Rattle.repair.proofs.Reworked.{none-dropped, drop-of, drop-routine, dropped-inside-out}
+use Rattle.repair.proofs.Reworked.{none-dropped, drop-of, dropped-inside-out}
 use Rattle.edit.proofs.Theorems.{drop-ready}
 use Rattle.program.specs.Decoded.{programOf}
 use borrow.Author.Needs.{needs}
@@ -18,7 +18,7 @@ drop-inside-out-requires c κs =
     let p = programOf (z .args .p) in
     let before = none-dropped p (z .pre .0 .0) (z .args .s .routine) in
     let after = drop-of (z .args .s) p (z .pre .0 .0) (z .pre .0 .1) _ (c .before .before .without-step .ensures) in
-    ((z .pre .1 .1, drop-routine (z .args .s) p (z .pre .0 .0) (z .pre .0 .1)), (p, search (before, after), z .pre .1 .0))
+    (z .pre .1 .1, (p, search (before, after), z .pre .1 .0))
 
 returns : tie.Need-returns
 returns c =

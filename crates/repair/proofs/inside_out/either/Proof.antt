@@ -1,5 +1,6 @@
 -- `repair::inside_out::either` meets its contract.
-use Rattle.components.proofs.Deciding.{joined-members}
+use Rattle.program.specs.Sizes.{maxRoutines}
+use Rattle.callgraph.proofs.Members.{joined-members}
 use mathlib.Core.Path.{_≡_}
 use lib.ListN.{length}
 use borrow.Author.Needs.{needs}
@@ -8,9 +9,8 @@ use Rattle.repair.proofs.inside_out.either.Tie as tie
 
 returns : tie.Need-returns
 returns c =
-    let z = c .before .before .before .before .before .before in
-    let len : length (z .args .a .flags) ≡ 16 = search needs in
-    joined-members len (c .before .join .ensures)
+    let len : length (c .before .args .a .flags) ≡ maxRoutines = search needs in
+    joined-members len (c .join .ensures)
 
 pub either-spec : {M : Type 1} → statement M
-either-spec = tie.close (tie.spec (λ c. search needs) (λ c. search needs) (λ c κs. search needs) returns)
+either-spec = tie.close (tie.spec (λ c κs. search needs) returns)

@@ -13,7 +13,7 @@ use Rattle.report.proofs.put.put_block.Statement.{statement}
 use Rattle.report.proofs.put.put_block.Tie as tie
 
 -- the places before
-abbrev marked : tie.After-count-violations → tie.After-count-marks
+abbrev marked : tie.After-count-violations → tie.After-count-set
 marked v = v .before .before
 
 abbrev flagged : tie.After-count-violations → tie.After-rejecting-flags
@@ -27,7 +27,7 @@ count-line-requires c κs =
     let v = c .before .before .before .before .before in
     let z = start v in
     let p = programOf (z .args .p) in
-    let c = marked v .count-marks .ensures in
+    let c = marked v .count-set .ensures in
     let f = v .count-violations .ensures p (flagged v .rejecting-flags .ensures) in
     let few = count-small (z .args .marks .now) in
     let fewer = violations-limited p (z .args .marks .now) in
@@ -50,9 +50,9 @@ returns c =
     let p = programOf (z .args .p) in
     let marks = z .args .marks .now in
     let rejects = flagged v .rejecting-flags .ensures in
-    block-put p marks (z .pre .0) (z .pre .1) (marked v .count-marks .ensures) (v .count-violations .ensures p rejects)
+    block-put p marks (z .pre .0) (z .pre .1) (marked v .count-set .ensures) (v .count-violations .ensures p rejects)
     (w .put-violations .ensures .1 p rejects)
-    (put-one (k .count-line .result) (countFrame (marked v .count-marks .result) (v .count-violations .result)) (k .count-line .ensures) (omega arith)
+    (put-one (k .count-line .result) (countFrame (marked v .count-set .result) (v .count-violations .result)) (k .count-line .ensures) (omega arith)
     (q .put-line .ensures))
 
 pub put-block-spec : {M : Type 1} → statement M

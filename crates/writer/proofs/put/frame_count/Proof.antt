@@ -1,8 +1,10 @@
--- `program::put::frame_count` meets its contract.
+-- `writer::put::frame_count` meets its contract.
 use mathlib.Core.Path.{_≡_}
 use native.Mathlib.Omega.{arith}
 use lib.ListN.{length, length-append, length-map, length-take}
 use borrow.Author.Needs.{needs}
+use Rattle.automaton.specs.Sizes.{maxStates, maxTransitions}
+use Rattle.program.specs.Sizes.{maxRoutines, maxEdges}
 use Rattle.program.specs.Writing.{framesOf}
 use Rattle.writer.proofs.Written.{nodes-long}
 use Rattle.writer.proofs.put.frame_count.Statement.{statement}
@@ -12,11 +14,11 @@ returns : tie.Need-returns
 unfolding framesOf
 returns c =
     let p = c .before .before .before .before .before .args .p in
-    let n : length (p .nodes .list) ≡ 16 = search needs in
-    let e : length (p .edges .keys) ≡ 256 = search needs in
-    let t : length (p .automaton .transitions .keys) ≡ 256 = search needs in
-    let i : length (p .automaton .initial .list) ≡ 8 = search needs in
-    let r : length (p .automaton .rejecting .list) ≡ 8 = search needs in
+    let n : length (p .nodes .list) ≡ maxRoutines = search needs in
+    let e : length (p .edges .keys) ≡ maxEdges = search needs in
+    let t : length (p .automaton .transitions .keys) ≡ maxTransitions = search needs in
+    let i : length (p .automaton .initial .list) ≡ maxStates = search needs in
+    let r : length (p .automaton .rejecting .list) ≡ maxStates = search needs in
     (simp (length-append, length-map, nodes-long, length-take, n, e, t, i, r) (omega arith), omega arith)
 
 pub frame-count-spec : {M : Type 1} → statement M

@@ -1,9 +1,8 @@
--- `program::put::put_keys` meets its contract. The loop's invariant: the frames of the first `i` keys were written.
-use mathlib.Core.Path.{_≡_}
+-- `writer::put::put_keys` meets its contract. The loop's invariant: the frames of the first `i` entries were written.
 use mathlib.Core.List.{map}
 use Prim.Native.Nat.{_-_}
 use native.Mathlib.Omega.{arith}
-use lib.ListN.{length, take}
+use lib.ListN.{take}
 use borrow.Author.Needs.{needs}
 use Rattle.writer.specs.Parts.{keyFrame}
 use Rattle.writer.proofs.Written.{PutSoFar, mapped, none-yet, room, more, all-put, same-long, key-short}
@@ -11,37 +10,31 @@ use Rattle.writer.proofs.put.put_keys.Statement.{statement}
 use Rattle.writer.proofs.put.put_keys.Tie as tie
 
 abbrev Inv-loop : tie.InvT-loop
-Inv-loop out₀ at kind keys count used pos₀ i₀ out pos i =
-    PutSoFar (λ j k. keyFrame kind k) keys used (map (keyFrame kind) (take count keys)) out₀ out at pos i
+Inv-loop out₀ at kind keys count used pos₀ i₀ out pos i = PutSoFar (λ j k. keyFrame kind k) keys used (map (keyFrame kind) (take count keys)) out₀ out at pos i
 
 abbrev μ-loop : tie.MeasureT-loop
 μ-loop out₀ at kind keys count used pos₀ i₀ out pos i = used - i
 
 loop-holds : tie.Need-loop-holds Inv-loop μ-loop
 loop-holds c =
-    let a = c .before .before .before .args in
-    let n : length (a .t .keys) ≡ 256 = search needs in
-    none-yet (mapped (a .t .keys) (a .t .count) (c .in-use .result) (omega arith) (keyFrame (a .kind)) (key-short (a .kind))) (c .before .before .before .pre)
+    let z = c .before .before .before in
+    let a = z .args in
+    none-yet (mapped (a .keys .now) (a .count) (c .in-use .result) (omega arith) (keyFrame (a .kind)) (key-short (a .kind))) (z .pre)
 
 put-line-requires : tie.Need-put-line-requires Inv-loop μ-loop
 put-line-requires c κs =
-    let p = c .before .before in
+    let p = c .before .before .before in
     room (p .before .loop .inv) (p .loop-test .taken) _ (c .before .key-line .ensures)
 
 loop-again : tie.Need-loop-again Inv-loop μ-loop
 loop-again c =
     let q = c .before .before in
-    let p = q .before .before .before in
+    let p = q .before .before .before .before in
     more (p .before .loop .inv) (p .loop-test .taken) _ (q .before .before .key-line .ensures) (q .put-line .ensures)
-
-same-length : tie.Need-same-length Inv-loop μ-loop
-same-length c = same-long (c .before .loop .inv .put)
-
-returns : tie.Need-returns Inv-loop μ-loop
-returns c = all-put (c .before .loop .inv) (c .loop-test .left)
 
 pub put-keys-spec : {M : Type 1} → statement M
 put-keys-spec =
     tie.close
-    (tie.spec Inv-loop μ-loop (λ c κs. search needs) loop-holds (λ c. search needs) (λ c. search needs)
-    (λ c κs. search needs) put-line-requires (λ c. search needs) (λ c. search needs) loop-again same-length returns)
+    (tie.spec Inv-loop μ-loop (λ c κs. search needs) loop-holds (λ c. search needs) (λ c. search needs) (λ c κs. search needs)
+    put-line-requires (λ c. search needs) (λ c. search needs) loop-again
+    (λ c. same-long (c .before .loop .inv .put)) (λ c. all-put (c .before .loop .inv) (c .loop-test .left)))

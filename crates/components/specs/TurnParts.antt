@@ -1,0 +1,126 @@
+-- The loop of the inside-out repair after a drop: what holds before each turn; nothing here has to be believed.
+use Prim.Native.Nat.{ℕ, _+_, _*_, _≤_, _<_}
+use mathlib.Core.Path.{_≡_}
+use mathlib.Core.Logic.{_⊎_, _↔_, _≢_}
+use mathlib.Core.Bool.{Bool, true, false}
+use mathlib.Core.List.{List}
+use lib.ListN.{length, getD}
+use Rattle.automaton.specs.Sizes.{maxStates}
+use Rattle.automaton.specs.declared.Event.{Event}
+use Rattle.program.specs.Sizes.{maxRoutines, marksSize}
+use Rattle.program.specs.Program.{Edge, Program, isCall, calledBy}
+use Rattle.program.specs.WellFormed.{WellFormed}
+use Rattle.program.specs.Decoded.{edgeOf}
+use Rattle.reach.specs.Sizes.{summariesSize}
+use Rattle.reach.specs.Runs.{HasStep}
+use Rattle.reach.specs.Reachable.{Reachable}
+use Rattle.reach.specs.Marks.{Marked}
+use Rattle.reach.specs.Worklist.{summary}
+use Rattle.callgraph.specs.Components.{CallEdge, Leads, Together, OldRoot, Anew, Reopened, Member}
+use Rattle.callgraph.specs.Parts.{LeadFlags, rankOf}
+use Rattle.roots.specs.Parts.{RootFlags}
+use Rattle.components.specs.declared.drop.Progress.{Progress}
+
+-- a drop of a step of one routine made p′ of p
+pub record DropOf (p p′ : Program) (edited : ℕ) : Type 0 where
+  pub old-well-formed : WellFormed p
+  pub well-formed : WellFormed p′
+  pub automaton : p′ .automaton ≡ p .automaton
+  pub steps : {f n m : ℕ} {e : Event} → HasStep p′ f n e m → HasStep p f n e m
+  pub others : {f n m : ℕ} {e : Event} → f ≢ edited → HasStep p f n e m → HasStep p′ f n e m
+
+-- ranks: the same in one component, and lower for what is called outside it
+pub record Ranks (p : Program) (rank : ℕ → ℕ) : Type 0 where
+  pub low : (f : ℕ) → f < maxRoutines → 1 ≤ rank f
+  pub high : (f : ℕ) → f < maxRoutines → rank f ≤ maxRoutines
+  pub equal : (f g : ℕ) → f < maxRoutines → g < maxRoutines → Together p f g → rank f ≡ rank g
+  pub lower : (f g : ℕ) → f < maxRoutines → g < maxRoutines → CallEdge p f g → ¬ (Together p f g) → rank g < rank f
+  pub decides : (f g : ℕ) → f < maxRoutines → g < maxRoutines → Dec (Together p f g)
+
+-- the summaries on the sheet before
+pub record Before (p : Program) (before : List ℕ) : Type 0 where
+  pub len : length before ≡ summariesSize
+  pub flagged : (f r q : ℕ) → f < maxRoutines → r < maxStates → q < maxStates
+      → (getD before (summary f r q) 0 ≢ 0) ↔ Reachable p f 1 r q
+
+-- the turn of routine f of this rank; the ranks are from 1 to the count of routines
+abbrev pub turnOf : (ℕ → ℕ) → ℕ → ℕ
+turnOf rank f = rank f * maxRoutines + f
+
+abbrev pub firstTurn : ℕ
+firstTurn = maxRoutines
+
+abbrev pub endTurn : ℕ
+endTurn = maxRoutines * maxRoutines + maxRoutines
+
+-- turn i comes next: whatever has an earlier turn is done, component by component; what is done has its configurations
+-- worked anew, and the rest its old ones
+pub record Working (p p′ : Program) (edited : ℕ) (rank : ℕ → ℕ) (i : ℕ) (marks done reopened : List ℕ) : Type 0 where
+  pub marks-length : length marks ≡ marksSize
+  pub marks-bits : (j : ℕ) → getD marks j 0 ≤ 1
+  pub done-length : length done ≡ maxRoutines
+  pub reopened-length : length reopened ≡ maxRoutines
+  pub earlier : (f : ℕ) → f < maxRoutines → turnOf rank f < i → Member done f
+  pub whole : (f g : ℕ) → f < maxRoutines → g < maxRoutines → Member done f → Together p′ f g → Member done g
+  pub worked : (f n r q : ℕ) → Member done f → Marked marks f n r q ↔ Anew p p′ f n r q
+  pub old : (f n r q : ℕ) → ¬ (Member done f) → Marked marks f n r q ↔ Reachable p f n r q
+  pub right : (f : ℕ) → f < maxRoutines → Member done f → Member reopened f ↔ Reopened p p′ edited f
+  pub none-yet : (f : ℕ) → ¬ (Member done f) → ¬ (Member reopened f)
+
+-- the same, with what stays over all turns: the drop, the flags of the call graph, and the roots and the summaries
+-- before
+pub record Turning (p p′ : Program) (edited : ℕ) (leads roots before : List ℕ) (i : ℕ) (marks done reopened : List ℕ)
+    : Type 0 where
+  pub drop : DropOf p p′ edited
+  pub graph : LeadFlags (Leads p′) leads
+  pub old-roots : RootFlags (OldRoot p) roots
+  pub old-summaries : Before p before
+  pub working : Working p p′ edited (rankOf leads) i marks done reopened
+
+-- for some program before, turn i comes next
+abbrev pub Comes : Program → ℕ → List ℕ → List ℕ → List ℕ → ℕ → List ℕ → Progress → Type 0
+Comes p′ edited leads roots before i marks g =
+    (p : Program) × Turning p p′ edited leads roots before i marks (g .done .flags) (g .reopened .flags)
+
+-- for every program before, if turn i came next, then turn j comes next
+abbrev pub Advances : Program → ℕ → List ℕ → List ℕ → List ℕ → ℕ → List ℕ → Progress → ℕ → List ℕ → Progress → Type 0
+Advances p′ edited leads roots before i marks g j marks′ g′ =
+    (p : Program) → Turning p p′ edited leads roots before i marks (g .done .flags) (g .reopened .flags)
+    → Turning p p′ edited leads roots before j marks′ (g′ .done .flags) (g′ .reopened .flags)
+
+-- the summaries of g on the sheet are others than before
+pub record Differs (before marks : List ℕ) (g : ℕ) : Type 0 where
+  pub root : ℕ
+  pub state : ℕ
+  pub root-small : root < maxStates
+  pub state-small : state < maxStates
+  pub differs : ((getD before (summary g root state) 0 ≢ 0) × (¬ (Marked marks g 1 root state)))
+      ⊎ ((getD before (summary g root state) 0 ≡ 0) × Marked marks g 1 root state)
+
+-- a member calls a routine that is none, and whose summaries are others than before
+pub record CallsDiffering (p : Program) (members before marks : List ℕ) : Type 0 where
+  pub member : ℕ
+  pub called : ℕ
+  pub is-member : Member members member
+  pub calls : CallEdge p member called
+  pub outside : ¬ (Member members called)
+  pub differing : Differs before marks called
+
+-- a test's answer: yes exactly if
+pub record Says (yes : Bool) (X : Type 0) : Type 0 where
+  pub if-yes : yes ≡ true → X
+  pub if-no : yes ≡ false → ¬ X
+
+-- an edge of a member calls a routine that is none, and whose summaries are others than before
+pub record DifferingEdge (members before marks : List ℕ) (e : Edge) : Type 0 where
+  pub is-member : Member members (e .routine)
+  pub is-call : isCall (e .label) ≡ true
+  pub small : calledBy (e .label) < maxRoutines
+  pub outside : ¬ (Member members (calledBy (e .label)))
+  pub differing : Differs before marks (calledBy (e .label))
+
+-- one of the first edges is such
+pub record SomeDiffering (members before marks keys : List ℕ) (count : ℕ) : Type 0 where
+  pub at : ℕ
+  pub below : at < count
+  pub differing : DifferingEdge members before marks (edgeOf (getD keys at 0))

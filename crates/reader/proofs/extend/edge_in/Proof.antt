@@ -1,0 +1,9 @@
+use borrow.Author.Needs.{needs}
+use Rattle.reader.proofs.extend.edge_in.Statement.{statement}
+use Rattle.reader.proofs.extend.edge_in.Tie as tie
+
+pub edge-in-spec : {M : Type 1} → statement M
+edge-in-spec =
+    tie.close
+    (tie.spec (λ c κs. search needs) (λ c κs. search needs) (λ c κs. search needs) (λ c κs. search needs)
+    (λ c κs. search needs) (λ c. cc))

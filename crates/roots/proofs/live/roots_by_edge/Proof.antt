@@ -1,0 +1,26 @@
+-- `roots::live::roots_by_edge` meets its contract.
+use mathlib.Core.Path.{sym, _∙_}
+use borrow.Author.Needs.{needs}
+use Rattle.roots.proofs.Occurring.{call-roots, no-call-roots}
+use Rattle.roots.proofs.live.roots_by_edge.Statement.{statement}
+use Rattle.roots.proofs.live.roots_by_edge.Tie as tie
+
+called-by-requires : tie.Need-called-by-requires
+called-by-requires c κs = sym (c .before .is-call .ensures) ∙ c .if1 .taken
+
+returns : tie.Need-returns
+returns c =
+    let roots = c .before .before in
+    let called = roots .before .before in
+    let tested = called .before .before in
+    call-roots (tested .before .edge .ensures) _ _ _ (sym (tested .is-call .ensures) ∙ called .before .if1 .taken) (called .called-by .ensures)
+    (roots .roots-by-call .ensures)
+
+returns-2 : tie.Need-returns-2
+returns-2 c = no-call-roots (c .before .before .edge .ensures) _ _ _ (sym (c .before .is-call .ensures) ∙ c .if1 .left)
+
+pub roots-by-edge-spec : {M : Type 1} → statement M
+roots-by-edge-spec =
+    tie.close
+    (tie.spec (λ c κs. search needs) (λ c κs. search needs) called-by-requires (λ c κs. search needs)
+    (λ c. search needs) returns returns-2)
