@@ -1,2 +1,2 @@
-pub mod Counts
-pub mod Answered
+pub mod ViolationsCounted
+pub mod AnswersByChecks

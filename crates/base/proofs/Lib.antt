@@ -1,7 +1,7 @@
-pub mod Ways
+pub mod TestsOnTheWay
 pub mod Bools
-pub mod Entries
+pub mod EntriesInUse
 pub mod SetFlags
-pub mod Deciding
-pub mod Filling
-pub mod Counts
+pub mod FlagsDecided
+pub mod BytesFilled
+pub mod BytesCounted

@@ -1,6 +1,6 @@
-pub mod Growth
-pub mod Keyed
-pub mod Graphed
-pub mod Leading
-pub mod Members
-pub mod Bitted
+pub mod FlagsClosed
+pub mod CallsByKey
+pub mod ComponentsFromFlags
+pub mod LeadsFlagged
+pub mod RoutineSets
+pub mod FlagsAsBits

@@ -21,8 +21,8 @@ use Rattle.repair.specs.Repairs.{repaired}
 use Rattle.program.specs.Sample.{lineBytes}
 use Rattle.desk.specs.Entries.{analyze, repair-inside-out, Back, analyzeBack, repairBack, programIn, Gives}
 use Rattle.demands.specs.Cases.{Fresh, Edited, Case, Said, lentFresh, Analyzed, lentEdit, Repaired, RepairedBoth, Holds, P1, P2, P3, P4, P5, P6, P7, P8, P9, P10, table}
-use Rattle.demands.proofs.Fixed.{one-number}
-use Rattle.demands.proofs.Reopened.{p5-reopened, p6-reopened}
+use Rattle.demands.proofs.OneAnswer.{one-number}
+use Rattle.demands.proofs.CasesReopened.{p5-reopened, p6-reopened}
 
 -- what the rows compute with: to unfold one of these two is to unfold all that it names
 editing : Unit {0}

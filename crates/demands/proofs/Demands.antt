@@ -19,20 +19,20 @@ use Rattle.components.specs.Passes.{Passed}
 use Rattle.report.specs.Report.{tooLong, benchText}
 use Rattle.transcript.specs.Transcript.{TurnGives, begun, Turns}
 use Rattle.transcript.specs.declared.Turn.{Turn}
-use Rattle.transcript.proofs.Turning.{turns-print}
+use Rattle.transcript.proofs.TurnsHold.{turns-print}
 use Rattle.desk.specs.Entries.{Entry, read, write, analyze, next-violation, prune, repair-forward, Lent, Back, programIn, Gives}
 use Rattle.demands.specs.Lists.{Call, wrote, Gave}
 use Rattle.demands.specs.Inputs.{SameInputs}
 use Rattle.demands.specs.Demands.{Demand1, Acceptance, Demand2, Safe, Next, Procedure, Demand3, keepingOf}
 use Rattle.demands.specs.Cases.{Case, Holds, table}
-use Rattle.demands.proofs.Returning.{gives-demanded}
-use Rattle.demands.proofs.Fixed.{given-once}
-use Rattle.demands.proofs.Accepted.{file-acceptance, comes-back}
-use Rattle.demands.proofs.Bench.{too-long}
-use Rattle.demands.proofs.Analyzing.{analyzed-exact, count-safe, next-given, procedure-ends}
-use Rattle.demands.proofs.Keeping.{pruned, drop-kept}
-use Rattle.demands.proofs.Depends.{depends}
-use Rattle.demands.proofs.Listed.{list-demanded}
+use Rattle.demands.proofs.RefusalsReturned.{gives-demanded}
+use Rattle.demands.proofs.OneAnswer.{given-once}
+use Rattle.demands.proofs.FilesAccepted.{file-acceptance, comes-back}
+use Rattle.demands.proofs.BenchTooLong.{too-long}
+use Rattle.demands.proofs.AnalysisAnswers.{analyzed-exact, count-safe, next-given, procedure-ends}
+use Rattle.demands.proofs.PruneKeeps.{pruned, drop-kept}
+use Rattle.demands.proofs.PassDepends.{depends}
+use Rattle.demands.proofs.ListsNeverDrift.{list-demanded}
 use Rattle.demands.proofs.Cases.{every-row}
 
 -- ---- demand 1

@@ -1,2 +1,2 @@
-pub mod Small
-pub mod Backs
+pub mod NumbersFit
+pub mod BackByParts

@@ -1,4 +1,4 @@
-pub mod Kept
-pub mod Linked
-pub mod Refusing
+pub mod EditsWellFormed
+pub mod KeysOfEdges
+pub mod EditRefusals
 pub mod Theorems

@@ -10,7 +10,7 @@ use Rattle.program.specs.Frames.{edgeFrame}
 use Rattle.program.specs.WellFormed.{WellFormed}
 use Rattle.program.specs.Writing.{written}
 use Rattle.program.specs.Reading.{accepted, readFile}
-use Rattle.program.proofs.Bytes.{edge-bytes}
+use Rattle.program.proofs.FramesFitBytes.{edge-bytes}
 use Rattle.program.proofs.Theorems.{read-again}
 use Rattle.edit.specs.Edits.{edgeOfStep, relabelled}
 use Rattle.edit.specs.EditLines.{readEdit}
@@ -20,8 +20,8 @@ use Rattle.edit.specs.declared.Step.{Step}
 use Rattle.edit.specs.declared.Edit.{Edit}
 use Rattle.edit.specs.declared.Edit.the-variants.{Add, Drop, Replace}
 use Rattle.edit.specs.declared.EditRead.the-variants.{Read}
-use Rattle.edit.proofs.Kept.{edited-well-formed}
-use Rattle.edit.proofs.Refusing.{read-fits, judged-applies, drop-not-refused, add-not-refused, room-left}
+use Rattle.edit.proofs.EditsWellFormed.{edited-well-formed}
+use Rattle.edit.proofs.EditRefusals.{read-fits, judged-applies, drop-not-refused, add-not-refused, room-left}
 
 -- An edit line that is not refused says an edit that applies.
 pub wanted-applies : (p : Program) (line : List ℕ) (e : Edit) → wantedEdit p line ≡ Read e → Applies e p

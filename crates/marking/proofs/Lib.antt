@@ -1,4 +1,4 @@
-pub mod Steps
-pub mod Branches
-pub mod Meaning
-pub mod Taken
+pub mod StepsMark
+pub mod BranchesChosen
+pub mod StepsOfProcedure
+pub mod TakingOfProcedure

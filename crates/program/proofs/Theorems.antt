@@ -9,13 +9,13 @@ use Rattle.program.specs.WellFormed.{WellFormed}
 use Rattle.program.specs.Writing.{text, written}
 use Rattle.program.specs.Reading.{start, accepted, readFile}
 use Rattle.program.specs.declared.Verdict.the-variants.{Accepted, Refused}
-use Rattle.program.proofs.Limit.{written-short}
-use Rattle.program.proofs.Sound.{start-sound}
-use Rattle.program.proofs.Refusals.{Small, small-refusals}
-use Rattle.program.proofs.Lines.{read-text}
-use Rattle.program.proofs.Back.{accepted-frames}
-use Rattle.program.proofs.Bytes.{all-bytes}
-use Rattle.program.proofs.Again.{again}
+use Rattle.program.proofs.ProgramLimits.{written-short}
+use Rattle.program.proofs.ProgressSound.{start-sound}
+use Rattle.program.proofs.RefusalsSmall.{Small, small-refusals}
+use Rattle.program.proofs.FilesAsFrames.{read-text}
+use Rattle.program.proofs.FramesWrittenBack.{accepted-frames}
+use Rattle.program.proofs.FramesFitBytes.{all-bytes}
+use Rattle.program.proofs.FramesReadAgain.{again}
 
 -- The program of an accepted file is well-formed.
 pub accepted-well-formed : (file : List ℕ) → readFile file .verdict ≡ Accepted → WellFormed (readFile file .program)

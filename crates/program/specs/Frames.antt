@@ -9,12 +9,12 @@ use Rattle.automaton.specs.Automaton.{Transition}
 use Rattle.program.specs.Program.{Edge}
 
 -- a kind's place in the table of kinds, from 1; 0 for an unknown kind
-abbrev pub rank : ℕ → ℕ
-rank k =
+abbrev pub kindOrder : ℕ → ℕ
+kindOrder k =
     cond (eqb k 0x50) 1 (cond (eqb k 0x52) 2 (cond (eqb k 0x53) 3 (cond (eqb k 0x54) 4
     (cond (eqb k 0x49) 5 (cond (eqb k 0x46) 6 (cond (eqb k 0x45) 7 0))))))
 
--- how many numbers a frame of that rank has, its kind among them
+-- how many numbers a frame of the kind at that place has, its kind among them
 abbrev pub size : ℕ → ℕ
 size k = cond (eqb k 1) 4 (cond (eqb k 2) 3 (cond (eqb k 3) 5 (cond (eqb k 4) 4 (cond (eqb k 7) 3 2))))
 
@@ -23,7 +23,7 @@ abbrev pub num : Line → ℕ → ℕ
 num l i = getD (l .numbers) i 0
 
 abbrev pub kind : Line → ℕ
-kind l = rank (num l 0)
+kind l = kindOrder (num l 0)
 
 -- four numbers as one in base 256, so that less means earlier, compared left to right
 abbrev pub packed : ℕ → ℕ → ℕ → ℕ → ℕ
@@ -32,7 +32,7 @@ packed a b c d = ((a * 256 + b) * 256 + c) * 256 + d
 abbrev pub word : Line → ℕ
 word l = packed (num l 1) (num l 2) (num l 3) (num l 4)
 
--- a frame's rank and numbers as one number, its key: less means that it stands earlier in a file
+-- the place of a frame's kind and its numbers as one number, its key: less means that it stands earlier in a file
 abbrev pub keyOf : ℕ → ℕ → ℕ
 keyOf k w = k * 0x100000000 + w
 

@@ -26,7 +26,7 @@ pub record Progress : Type 0 where
 abbrev pub start : Progress
 start = record { last = 0; frames = 0; ended = false; program = noProgram }
 
--- ---- what one line meets; k is the rank of its kind
+-- ---- what one line meets; k is the place of its kind in the table of kinds
 
 -- the routine frame that is due; with all of them there, one more is out of range (5) and not out of order
 abbrev pub due : ℕ → ℕ → ℕ → Bool

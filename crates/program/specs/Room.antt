@@ -1,4 +1,5 @@
--- What the reader's private functions ask: there is room for one more in the list that a frame of rank k adds to.
+-- What the reader's private functions ask: there is room for one more in the list that a frame whose kind has place k
+-- adds to.
 use Prim.Native.Nat.{ℕ, _<_}
 use mathlib.Core.Path.{_≡_}
 use lib.ListN.{length}

@@ -1,8 +1,8 @@
-pub mod Asked
-pub mod Scanned
-pub mod Sliced
-pub mod Passes
-pub mod Supporting
-pub mod Closed
-pub mod Answered
+pub mod SearchesAsk
+pub mod EdgeScanned
+pub mod PartSearched
+pub mod PassesKeep
+pub mod SupportFound
+pub mod KeptExact
+pub mod PruneAnswers
 pub mod Theorems

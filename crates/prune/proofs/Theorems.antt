@@ -7,10 +7,10 @@ use Rattle.program.specs.Program.{Program}
 use Rattle.program.specs.WellFormed.{WellFormed}
 use Rattle.reach.specs.Reachable.{Initial, Any, Reachable}
 use Rattle.reach.specs.Marks.{Marked, Shows, freshMarks}
-use Rattle.reach.proofs.Laws.{Within, grows, keeping}
+use Rattle.reach.proofs.LeastSetLaws.{Within, grows, keeping}
 use Rattle.reach.specs.Configurations.{Sub}
-use Rattle.reach.proofs.Sizes.{reachable-in-range}
-use Rattle.reach.proofs.Shown.{shows-same, one-list, reachable-shown}
+use Rattle.reach.proofs.ProgramInSizes.{reachable-in-range}
+use Rattle.reach.proofs.MarksShown.{shows-same, one-list, reachable-shown}
 use Rattle.prune.specs.Keeping.{Kept}
 
 -- on marks that have everything reachable, what is kept is the fresh marks

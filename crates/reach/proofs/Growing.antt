@@ -15,11 +15,11 @@ use Rattle.reach.specs.Runs.{HasStep, Moves}
 use Rattle.reach.specs.Reachable.{Derivable, seeded, by-action, by-call, by-return, Initial, initial, Any, Reachable, ClosedAt}
 use Rattle.reach.specs.Marks.{Marked, Shows, Between, ClosedBut, freshMarks}
 use Rattle.reach.proofs.Numbers.{node-span, routine-span}
-use Rattle.reach.proofs.Sizes.{reachable-state}
-use Rattle.reach.proofs.Kept.{marks-length, marks-bits}
-use Rattle.reach.proofs.Laws.{Within, grows, flat}
-use Rattle.reach.proofs.Exact.{analysis-exact}
-use Rattle.reach.proofs.Shown.{shows-same, one-list, reachable-shown}
+use Rattle.reach.proofs.ProgramInSizes.{reachable-state}
+use Rattle.reach.proofs.ShapeKept.{marks-length, marks-bits}
+use Rattle.reach.proofs.LeastSetLaws.{Within, grows, flat}
+use Rattle.reach.proofs.AnalysisExact.{analysis-exact}
+use Rattle.reach.proofs.MarksShown.{shows-same, one-list, reachable-shown}
 
 -- p′ has the steps of p, and others only from the nodes of A
 pub record Grown (p p′ : Program) (A : ℕ → ℕ → Type 0) : Type 0 where

@@ -8,7 +8,7 @@ use Rattle.automaton.specs.declared.Event.the-variants.{Action, Call}
 use Rattle.program.specs.Sizes.{firstCall}
 use Rattle.program.specs.Program.{isAction, isCall, calledBy}
 use Rattle.reach.specs.Runs.{labelOf}
-use Rattle.reach.proofs.Sizes.{label-call}
+use Rattle.reach.proofs.ProgramInSizes.{label-call}
 
 pub call-label : (a : ℕ) → isCall a ≡ true → labelOf a ≡ Call (calledBy a)
 call-label a e = rw (le-ltb a firstCall (leb-true firstCall a e))

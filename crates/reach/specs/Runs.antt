@@ -1,4 +1,5 @@
--- Runs of a program: a stack of activations, each with its root (000, section 2).
+-- Runs of a program: a stack of activations, each with its root (section 2 of the article by Conway, Namjoshi, Dams and
+-- Edwards).
 use Prim.Native.Nat.{ℕ}
 use mathlib.Core.Path.{_≡_}
 use mathlib.Core.Bool.{Bool, true, cond}
@@ -32,7 +33,7 @@ HasStep p f n l m = List·Memᴰ (record { routine = f; source = n; label = l; t
 abbrev pub Moves : Program → ℕ → Event → ℕ → Type 0
 Moves p q e s = moves (p .automaton) q e s ≡ true
 
--- an activation that waits for the one it called: its routine, the node to go on at, its root
+-- a suspended activation: the one that it called has not returned: its routine, the node to go on at, its root
 pub record Activation : Type 0 where
   pub routine : ℕ
   pub node : ℕ

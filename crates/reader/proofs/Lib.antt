@@ -1,2 +1,2 @@
-pub mod Views
-pub mod Loop
+pub mod ListsKept
+pub mod ReadingLoop

@@ -3,10 +3,10 @@ use program::frames::pack;
 use text::Line;
 ghost use mathlib.Core.Path.{_≡_};
 ghost use Prim.Native.Nat.{_<_};
-ghost use Rattle.program.specs.Frames.{rank, size, num, kind, word, keyOf};
+ghost use Rattle.program.specs.Frames.{kindOrder, size, num, kind, word, keyOf};
 
-fn rank_of(k: u8) -> u8
-    ensures { λ r. ⌜ r ≡ rank k ⌝ }
+fn kind_order(k: u8) -> u8
+    ensures { λ r. ⌜ r ≡ kindOrder k ⌝ }
 {
     if k == 0x50 {
         return 1;
@@ -65,7 +65,7 @@ pub fn number(l: Line, i: usize) -> u8
 pub fn kind_of(l: Line) -> u8
     ensures { λ r. ⌜ r ≡ kind l ⌝ }
 {
-    rank_of(number(l, 0))
+    kind_order(number(l, 0))
 }
 
 fn word_of(l: Line) -> u32

@@ -1,5 +1,5 @@
-pub mod Numbers
-pub mod Steps
-pub mod Numbered
-pub mod Answered
-pub mod Reworked
+pub mod EditRefusalNumbers
+pub mod EditedSteps
+pub mod InsideOutNumbers
+pub mod RepairsAnswer
+pub mod InsideOutMarks

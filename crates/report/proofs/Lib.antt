@@ -1,4 +1,4 @@
 pub mod Sample
-pub mod Ends
-pub mod Blocks
+pub mod LineEnds
+pub mod BlocksPut
 pub mod Theorems

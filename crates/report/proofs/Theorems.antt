@@ -8,9 +8,9 @@ use Rattle.program.specs.Program.{Program}
 use Rattle.program.specs.Writing.{text}
 use Rattle.reach.specs.Marks.{violationsFrom}
 use Rattle.base.specs.Flags.{countSet}
-use Rattle.reach.proofs.Shown.{count-small}
-use Rattle.reach.proofs.Violations.{violations-fewer}
-use Rattle.writer.proofs.Written.{long-append, long-one}
+use Rattle.reach.proofs.MarksShown.{count-small}
+use Rattle.reach.proofs.ViolationsExact.{violations-fewer}
+use Rattle.writer.proofs.FramesPut.{long-append, long-one}
 use Rattle.report.specs.Report.{violationFrame, countFrame, blockOf, blockSize}
 
 -- a violation takes 11 bytes

@@ -1,1 +1,1 @@
-pub mod Occurring
+pub mod RootsOccur

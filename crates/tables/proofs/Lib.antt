@@ -1,3 +1,3 @@
-pub mod Entries
-pub mod Changed
-pub mod Between
+pub mod KeysAsked
+pub mod TableChanged
+pub mod KeysBetween

@@ -1,5 +1,5 @@
 pub mod Digits
 pub mod RoundTrip
-pub mod Split
-pub mod Gather
-pub mod Stores
+pub mod LinesSplit
+pub mod NumbersGathered
+pub mod NumbersStored

@@ -1,5 +1,5 @@
-pub mod Parts
-pub mod Answered
-pub mod Given
-pub mod Limits
-pub mod Turning
+pub mod ListParts
+pub mod AnswersPrinted
+pub mod TurnsGiven
+pub mod TextLimits
+pub mod TurnsHold

@@ -1,6 +1,6 @@
-pub mod Lowest
-pub mod Following
-pub mod Begun
-pub mod Known
-pub mod Slice
-pub mod Awaited
+pub mod LowestFound
+pub mod LoopFollows
+pub mod AnalysisBegun
+pub mod SummariesKnown
+pub mod RoutinePart
+pub mod PartAwaited

@@ -1,2 +1,2 @@
-pub mod Written
-pub mod Answered
+pub mod FramesPut
+pub mod WriteAnswers

@@ -1,4 +1,4 @@
-use Rattle.analysis.proofs.Answered.{ready, analyze-answered}
+use Rattle.analysis.proofs.AnswersByChecks.{ready, analyze-answered}
 use mathlib.Core.Path.{_∙_}
 use borrow.Author.Needs.{needs}
 use Rattle.analysis.proofs.analyze.Statement.{statement}

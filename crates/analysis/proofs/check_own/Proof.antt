@@ -1,4 +1,4 @@
-use Rattle.analysis.proofs.Answered.{own-accepted, foreign-refused}
+use Rattle.analysis.proofs.AnswersByChecks.{own-accepted, foreign-refused}
 use Rattle.program.specs.Decoded.{programOf}
 use mathlib.Core.Path.{sym, _∙_}
 use borrow.Author.Needs.{needs}

@@ -1,4 +1,4 @@
-use Rattle.analysis.proofs.Answered.{ready, next-answered}
+use Rattle.analysis.proofs.AnswersByChecks.{ready, next-answered}
 use mathlib.Core.Path.{_∙_}
 use borrow.Author.Needs.{needs}
 use Rattle.analysis.proofs.next_violation.Statement.{statement}

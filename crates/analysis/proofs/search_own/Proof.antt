@@ -1,4 +1,4 @@
-use Rattle.analysis.proofs.Answered.{own-found}
+use Rattle.analysis.proofs.AnswersByChecks.{own-found}
 use Rattle.program.specs.Decoded.{programOf}
 use mathlib.Core.Path.{sym, _∙_}
 use borrow.Author.Needs.{needs}

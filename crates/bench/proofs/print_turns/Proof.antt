@@ -6,7 +6,7 @@ use Prim.Native.Nat.{ℕ, _≤_, _<_, _-_}
 use mathlib.Core.Path.{_≡_, _∙_}
 use lib.ListN.{length, length-replicate}
 use Rattle.transcript.specs.Transcript.{heldOf}
-use Rattle.transcript.proofs.Limits.{begun-short, turned-short, text-within, turn-advances}
+use Rattle.transcript.proofs.TextLimits.{begun-short, turned-short, text-within, turn-advances}
 use Rattle.bench.proofs.print_turns.Statement.{statement}
 use Rattle.bench.proofs.print_turns.Tie as tie
 

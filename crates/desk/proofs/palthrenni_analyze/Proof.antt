@@ -1,5 +1,5 @@
-use Rattle.desk.proofs.Backs.{same-back, same-counts}
-use Rattle.desk.proofs.Small.{analyze-fits}
+use Rattle.desk.proofs.BackByParts.{same-back, same-counts}
+use Rattle.desk.proofs.NumbersFit.{analyze-fits}
 use mathlib.Core.Path.{refl}
 use borrow.Author.Needs.{needs}
 use Rattle.desk.proofs.palthrenni_analyze.Statement.{statement}

@@ -1,5 +1,5 @@
-use Rattle.desk.proofs.Backs.{same-back}
-use Rattle.desk.proofs.Small.{next-fits}
+use Rattle.desk.proofs.BackByParts.{same-back}
+use Rattle.desk.proofs.NumbersFit.{next-fits}
 use Rattle.desk.specs.Entries.{finding}
 use mathlib.Core.Path.{refl, ap}
 use borrow.Author.Needs.{needs}

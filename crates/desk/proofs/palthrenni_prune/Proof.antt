@@ -1,5 +1,5 @@
-use Rattle.desk.proofs.Backs.{same-back}
-use Rattle.desk.proofs.Small.{checked-fits}
+use Rattle.desk.proofs.BackByParts.{same-back}
+use Rattle.desk.proofs.NumbersFit.{checked-fits}
 use mathlib.Core.Path.{refl}
 use borrow.Author.Needs.{needs}
 use Rattle.desk.proofs.palthrenni_prune.Statement.{statement}

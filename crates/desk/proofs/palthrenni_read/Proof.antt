@@ -1,5 +1,5 @@
-use Rattle.desk.proofs.Backs.{same-back}
-use Rattle.desk.proofs.Small.{read-fits}
+use Rattle.desk.proofs.BackByParts.{same-back}
+use Rattle.desk.proofs.NumbersFit.{read-fits}
 use Rattle.program.specs.Reading.{Outcome}
 use mathlib.Core.Path.{refl, ap}
 use borrow.Author.Needs.{needs}

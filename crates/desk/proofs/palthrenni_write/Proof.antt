@@ -1,5 +1,5 @@
-use Rattle.desk.proofs.Backs.{same-back, same-size}
-use Rattle.desk.proofs.Small.{write-fits}
+use Rattle.desk.proofs.BackByParts.{same-back, same-size}
+use Rattle.desk.proofs.NumbersFit.{write-fits}
 use mathlib.Core.Path.{refl}
 use borrow.Author.Needs.{needs}
 use Rattle.desk.proofs.palthrenni_write.Statement.{statement}

@@ -1,6 +1,6 @@
 use mathlib.Core.Path.{_∙_}
 use Rattle.edit.specs.Editing.{wantedEdit}
-use Rattle.edit.proofs.Refusing.{line-keyed}
+use Rattle.edit.proofs.EditRefusals.{line-keyed}
 use borrow.Author.Needs.{needs}
 use Rattle.edit.proofs.wanted_edit.Statement.{statement}
 use Rattle.edit.proofs.wanted_edit.Tie as tie

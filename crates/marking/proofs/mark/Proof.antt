@@ -1,5 +1,5 @@
 -- `marking::mark` meets its contract.
-use Rattle.marking.proofs.Steps.{mark-new, mark-old, mark-out, set-lowers}
+use Rattle.marking.proofs.StepsMark.{mark-new, mark-old, mark-out, set-lowers}
 use native.Mathlib.Omega.{arith}
 use borrow.Author.Needs.{needs}
 use Rattle.marking.proofs.mark.Statement.{statement}

@@ -1,7 +1,7 @@
 -- `marking::mark_each` meets its contract. The loop's invariant: the states from `s` on are left to try.
 use Rattle.automaton.specs.Sizes.{maxStates}
 use Rattle.marking.specs.Parts.{markFlag}
-use Rattle.marking.proofs.Steps.{Looping, loop-start, loop-turn, loop-end}
+use Rattle.marking.proofs.StepsMark.{Looping, loop-start, loop-turn, loop-end}
 use mathlib.Core.Path.{sym, _∙_}
 use native.Mathlib.Omega.{arith}
 use Prim.Native.Nat.{_-_}

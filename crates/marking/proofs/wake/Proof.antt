@@ -1,5 +1,5 @@
 -- `marking::wake` meets its contract.
-use Rattle.marking.proofs.Steps.{wake-marked, wake-unmarked, wake-out, set-lowers}
+use Rattle.marking.proofs.StepsMark.{wake-marked, wake-unmarked, wake-out, set-lowers}
 use native.Mathlib.Omega.{arith}
 use borrow.Author.Needs.{needs}
 use Rattle.marking.proofs.wake.Statement.{statement}

@@ -1,7 +1,7 @@
 -- `marking::wake_roots` meets its contract. The loop's invariant: the roots from `r` on are left to wake.
 use Rattle.automaton.specs.Sizes.{maxStates}
 use Rattle.marking.specs.Parts.{wakeAt}
-use Rattle.marking.proofs.Steps.{Looping, loop-start, loop-turn, loop-end}
+use Rattle.marking.proofs.StepsMark.{Looping, loop-start, loop-turn, loop-end}
 use mathlib.Core.Path.{refl, sym, _∙_}
 use native.Mathlib.Omega.{arith}
 use Prim.Native.Nat.{_-_}

@@ -2,7 +2,7 @@
 use mathlib.Core.Path.{refl, _∙_}
 use borrow.Author.Needs.{needs}
 use Rattle.program.specs.Decoded.{programOf}
-use Rattle.prune.proofs.Closed.{cleared-sound}
+use Rattle.prune.proofs.KeptExact.{cleared-sound}
 use Rattle.prune.proofs.keep.Statement.{statement}
 use Rattle.prune.proofs.keep.Tie as tie
 

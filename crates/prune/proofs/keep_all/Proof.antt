@@ -1,7 +1,7 @@
 -- `prune::keep_all` meets its contract. The loop's invariant: after a pass that kept nothing more, nothing is left.
 use mathlib.Core.Path.{_∙_}
 use Rattle.prune.specs.Parts.{keepsAt}
-use Rattle.prune.proofs.Passes.{Passing, passing-none, passing-more, passing-end, left, left-less}
+use Rattle.prune.proofs.PassesKeep.{Passing, passing-none, passing-more, passing-end, left, left-less}
 use Rattle.prune.proofs.keep_all.Statement.{statement}
 use Rattle.prune.proofs.keep_all.Tie as tie
 

@@ -3,8 +3,8 @@ use mathlib.Core.Path.{_≡_, _∙_}
 use Prim.Native.Nat.{_≤_, _+_, _-_, _*_, _/_}
 use native.Mathlib.Omega.{arith}
 use Rattle.prune.specs.Parts.{keepsAt, Passed}
-use Rattle.prune.proofs.Passes.{pass-none, pass-turn}
-use Rattle.prune.proofs.Closed.{keeps-free}
+use Rattle.prune.proofs.PassesKeep.{pass-none, pass-turn}
+use Rattle.prune.proofs.KeptExact.{keeps-free}
 use Rattle.reach.specs.Sizes.{routineSpan}
 use Rattle.reach.proofs.Numbers.{in-routine}
 use borrow.Author.Needs.{needs}

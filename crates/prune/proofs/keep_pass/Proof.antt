@@ -3,7 +3,7 @@ use mathlib.Core.Path.{_≡_, _∙_}
 use Prim.Native.Nat.{_≤_, _+_, _-_, _*_}
 use native.Mathlib.Omega.{arith}
 use Rattle.prune.specs.Parts.{keepsAt, Passed}
-use Rattle.prune.proofs.Passes.{pass-none, pass-on}
+use Rattle.prune.proofs.PassesKeep.{pass-none, pass-on}
 use Rattle.program.specs.Sizes.{maxRoutines, marksSize}
 use Rattle.reach.specs.Sizes.{routineSpan}
 use borrow.Author.Needs.{needs}

@@ -6,7 +6,7 @@ use lib.ListN.{length}
 use Rattle.automaton.specs.Flags.{Starts}
 use Rattle.program.specs.Program.{Program}
 use Rattle.prune.specs.Parts.{Sound, Started}
-use Rattle.prune.proofs.Closed.{start-none, start-turn}
+use Rattle.prune.proofs.KeptExact.{start-none, start-turn}
 use Rattle.automaton.specs.Sizes.{maxStates}
 use Rattle.program.specs.Sizes.{marksSize}
 use borrow.Author.Needs.{needs}

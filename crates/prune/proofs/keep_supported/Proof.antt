@@ -8,8 +8,8 @@ use borrow.Author.Needs.{needs}
 use Rattle.program.specs.Frames.{edgeKey}
 use Rattle.tables.specs.Keys.{Ascending}
 use Rattle.program.specs.Decoded.{edgeOf}
-use Rattle.worklist.proofs.Slice.{in-use-same}
-use Rattle.prune.proofs.Closed.{its-tables, settled-shows}
+use Rattle.worklist.proofs.RoutinePart.{in-use-same}
+use Rattle.prune.proofs.KeptExact.{its-tables, settled-shows}
 use Rattle.prune.proofs.keep_supported.Statement.{statement}
 use Rattle.prune.proofs.keep_supported.Tie as tie
 

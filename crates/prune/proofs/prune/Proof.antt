@@ -1,8 +1,8 @@
 -- `prune::prune` meets its contract.
 use mathlib.Core.Path.{refl}
 use borrow.Author.Needs.{needs}
-use Rattle.analysis.proofs.Answered.{ready}
-use Rattle.prune.proofs.Answered.{prune-answered}
+use Rattle.analysis.proofs.AnswersByChecks.{ready}
+use Rattle.prune.proofs.PruneAnswers.{prune-answered}
 use Rattle.prune.proofs.prune.Statement.{statement}
 use Rattle.prune.proofs.prune.Tie as tie
 

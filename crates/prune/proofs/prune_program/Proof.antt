@@ -1,6 +1,6 @@
 -- `prune::prune_program` meets its contract.
 use borrow.Author.Needs.{needs}
-use Rattle.prune.proofs.Closed.{cleared-is, copied-shows}
+use Rattle.prune.proofs.KeptExact.{cleared-is, copied-shows}
 use Rattle.prune.proofs.prune_program.Statement.{statement}
 use Rattle.prune.proofs.prune_program.Tie as tie
 

@@ -1,4 +1,4 @@
-use Rattle.reader.proofs.Views.{automaton-parts, program-parts}
+use Rattle.reader.proofs.ListsKept.{automaton-parts, program-parts}
 use Rattle.program.specs.Decoded.{edgeOf}
 use Rattle.program.specs.Program.{noProgram}
 use Rattle.automaton.specs.Decoded.{transitionOf}

@@ -1,4 +1,4 @@
-use Rattle.reader.proofs.Loop.{Reads, begins, few, over, faulty, complete, cut-short, has-room, proceeds, continues}
+use Rattle.reader.proofs.ReadingLoop.{Reads, begins, few, over, faulty, complete, cut-short, has-room, proceeds, continues}
 use Rattle.reader.specs.Parts.{progressOf}
 use Rattle.program.specs.Reading.{judge, after}
 use Rattle.text.specs.declared.ReadLine.{ReadLine}

@@ -2,8 +2,8 @@ use Rattle.writer.specs.Answers.{refusal}
 use Rattle.repair.specs.Repairs.{plain, reanalyzed}
 use lib.Dec.{eqb}
 use mathlib.Core.Path.{_∙_}
-use Rattle.repair.proofs.Answered.{checked-answer}
-use Rattle.repair.proofs.Numbered.{number-unchecked, number-checked}
+use Rattle.repair.proofs.RepairsAnswer.{checked-answer}
+use Rattle.repair.proofs.InsideOutNumbers.{number-unchecked, number-checked}
 use borrow.Author.Needs.{needs}
 use Rattle.repair.proofs.repair_file.Statement.{statement}
 use Rattle.repair.proofs.repair_file.Tie as tie

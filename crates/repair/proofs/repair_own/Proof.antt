@@ -1,6 +1,6 @@
-use Rattle.repair.proofs.Answered.{own-answer, foreign-answer, room, none-length}
-use Rattle.repair.proofs.Numbered.{number-foreign, bits-of-flags}
-use Rattle.analysis.proofs.Answered.{accepted-own}
+use Rattle.repair.proofs.RepairsAnswer.{own-answer, foreign-answer, room, none-length}
+use Rattle.repair.proofs.InsideOutNumbers.{number-foreign, bits-of-flags}
+use Rattle.analysis.proofs.AnswersByChecks.{accepted-own}
 use Rattle.program.specs.Decoded.{programOf}
 use lib.ListN.{length}
 use mathlib.Core.Path.{ap, sym, _∙_}

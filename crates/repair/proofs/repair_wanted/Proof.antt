@@ -1,8 +1,8 @@
 use Rattle.writer.specs.Answers.{refusal}
 use Rattle.repair.specs.Repairs.{plain, reanalyzed}
 use lib.Dec.{eqb}
-use Rattle.repair.proofs.Answered.{wanted-refused, wanted-read}
-use Rattle.repair.proofs.Numbered.{number-unwanted, number-wanted}
+use Rattle.repair.proofs.RepairsAnswer.{wanted-refused, wanted-read}
+use Rattle.repair.proofs.InsideOutNumbers.{number-unwanted, number-wanted}
 use Rattle.edit.proofs.Theorems.{wanted-applies}
 use Rattle.program.specs.Decoded.{programOf}
 use mathlib.Core.Path.{sym, _∙_}

@@ -4,7 +4,7 @@ use native.Mathlib.Omega.{arith}
 use lib.ListN.{length}
 use borrow.Author.Needs.{needs}
 use Rattle.program.specs.Decoded.{programOf}
-use Rattle.report.proofs.Blocks.{no-block, whole-block, block-text}
+use Rattle.report.proofs.BlocksPut.{no-block, whole-block, block-text}
 use Rattle.report.proofs.block.Statement.{statement}
 use Rattle.report.proofs.block.Tie as tie
 

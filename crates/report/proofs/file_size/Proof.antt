@@ -4,7 +4,7 @@ use Prim.Native.Nat.{_-_}
 use native.Mathlib.Omega.{arith}
 use lib.ListN.{length}
 use borrow.Author.Needs.{needs}
-use Rattle.report.proofs.Ends.{FileFrom, file-start, file-more, file-stop, file-end, line-inside}
+use Rattle.report.proofs.LineEnds.{FileFrom, file-start, file-more, file-stop, file-end, line-inside}
 use Rattle.report.proofs.file_size.Statement.{statement}
 use Rattle.report.proofs.file_size.Tie as tie
 

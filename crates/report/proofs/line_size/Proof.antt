@@ -3,7 +3,7 @@ use Prim.Native.Nat.{_-_}
 use lib.ListN.{length}
 use native.Mathlib.Omega.{arith}
 use borrow.Author.Needs.{needs}
-use Rattle.report.proofs.Ends.{Within, within-start, within-more, within-stop, within-end}
+use Rattle.report.proofs.LineEnds.{Within, within-start, within-more, within-stop, within-end}
 use Rattle.report.proofs.line_size.Statement.{statement}
 use Rattle.report.proofs.line_size.Tie as tie
 

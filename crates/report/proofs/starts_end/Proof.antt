@@ -6,7 +6,7 @@ use lib.Dec.{eqb}
 use lib.ListN.{getD, List·getD-eq-default}
 use native.Mathlib.Omega.{arith}
 use borrow.Author.Needs.{needs}
-use Rattle.report.proofs.Ends.{starts-at}
+use Rattle.report.proofs.LineEnds.{starts-at}
 use Rattle.report.proofs.starts_end.Statement.{statement}
 use Rattle.report.proofs.starts_end.Tie as tie
 

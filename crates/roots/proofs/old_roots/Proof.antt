@@ -1,8 +1,8 @@
 -- `roots::old_roots` meets its contract. The loop's invariant: the flags below `i` are the entries' bytes.
 use Rattle.reach.specs.Sizes.{rootsSize}
 use Rattle.reach.specs.Configurations.{entryAt}
-use Rattle.base.proofs.Filling.{Filling, filling-none, filling-more, filling-all}
-use Rattle.roots.proofs.Occurring.{entries-flagged}
+use Rattle.base.proofs.BytesFilled.{Filling, filling-none, filling-more, filling-all}
+use Rattle.roots.proofs.RootsOccur.{entries-flagged}
 use Prim.Native.Nat.{_-_}
 use borrow.Author.Needs.{needs}
 use native.Mathlib.Omega.{arith}

@@ -4,7 +4,7 @@ use native.Mathlib.Omega.{arith}
 use lib.ListN.{getD}
 use borrow.Author.Count.{below-none, below-more}
 use borrow.Author.Needs.{needs}
-use Rattle.tables.proofs.Entries.{first-at}
+use Rattle.tables.proofs.KeysAsked.{first-at}
 use Rattle.tables.proofs.first_from.Statement.{statement}
 use Rattle.tables.proofs.first_from.Tie as tie
 

@@ -5,8 +5,8 @@ use native.Mathlib.Omega.{arith}
 use borrow.Author.Needs.{needs}
 use borrow.Author.Tests.{eq-eqb, ne-eqb}
 use Rattle.tables.specs.Keys.{member}
-use Rattle.base.proofs.Entries.{Left, found, passed, none-left}
-use Rattle.tables.proofs.Entries.{asks-member}
+use Rattle.base.proofs.EntriesInUse.{Left, found, passed, none-left}
+use Rattle.tables.proofs.KeysAsked.{asks-member}
 use Rattle.tables.proofs.has_key.Statement.{statement}
 use Rattle.tables.proofs.has_key.Tie as tie
 

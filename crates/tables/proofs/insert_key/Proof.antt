@@ -2,7 +2,7 @@
 use Prim.Native.Nat.{_-_}
 use native.Mathlib.Omega.{arith}
 use borrow.Author.Needs.{needs}
-use Rattle.tables.proofs.Changed.{Putting, put-start, put-turn, put-end}
+use Rattle.tables.proofs.TableChanged.{Putting, put-start, put-turn, put-end}
 use Rattle.tables.proofs.insert_key.Statement.{statement}
 use Rattle.tables.proofs.insert_key.Tie as tie
 

@@ -3,7 +3,7 @@ use mathlib.Core.Logic.{⊎-elim}
 use Prim.Native.Nat.{_-_}
 use native.Mathlib.Omega.{arith}
 use borrow.Author.Needs.{needs}
-use Rattle.tables.proofs.Changed.{Keeping, keep-start, keep-not, keep-one, keep-end}
+use Rattle.tables.proofs.TableChanged.{Keeping, keep-start, keep-not, keep-one, keep-end}
 use Rattle.tables.proofs.remove_key.Statement.{statement}
 use Rattle.tables.proofs.remove_key.Tie as tie
 

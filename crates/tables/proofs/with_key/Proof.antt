@@ -1,6 +1,6 @@
 -- `tables::with_key` meets its contract.
 use borrow.Author.Needs.{needs}
-use Rattle.tables.proofs.Changed.{holds-more}
+use Rattle.tables.proofs.TableChanged.{holds-more}
 use Rattle.tables.proofs.with_key.Statement.{statement}
 use Rattle.tables.proofs.with_key.Tie as tie
 

@@ -1,6 +1,6 @@
 -- `text::digit_value` meets its contract: each way through the code is one of `digit`'s cases.
 use borrow.Author.Needs.{needs}
-use Rattle.base.proofs.Ways.{tests}
+use Rattle.base.proofs.TestsOnTheWay.{tests}
 use Rattle.text.proofs.digit_value.Statement.{statement}
 use Rattle.text.proofs.digit_value.Tie as tie
 

@@ -1,5 +1,5 @@
 -- `text::hex_digit` meets its contract: each way through the code is one of `hexDigit`'s cases.
-use Rattle.base.proofs.Ways.{tests}
+use Rattle.base.proofs.TestsOnTheWay.{tests}
 use borrow.Author.Needs.{needs}
 use Rattle.text.proofs.hex_digit.Statement.{statement}
 use Rattle.text.proofs.hex_digit.Tie as tie

@@ -1,5 +1,5 @@
 -- `text::join` meets its contract: each way through the code is one of `joined`'s cases.
-use Rattle.base.proofs.Ways.{tests}
+use Rattle.base.proofs.TestsOnTheWay.{tests}
 use borrow.Author.Needs.{needs}
 use Rattle.text.proofs.join.Statement.{statement}
 use Rattle.text.proofs.join.Tie as tie

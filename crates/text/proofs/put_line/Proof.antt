@@ -6,7 +6,7 @@ use mathlib.Core.List.{[], _∷_}
 use lib.ListN.{length, take, length-set}
 use lib.Seq.{sets}
 use Rattle.text.specs.Hex.{hex}
-use Rattle.text.proofs.Stores.{one-more, after-hex}
+use Rattle.text.proofs.NumbersStored.{one-more, after-hex}
 use borrow.Author.Needs.{needs}
 use Rattle.text.proofs.put_line.Statement.{statement}
 use Rattle.text.proofs.put_line.Tie as tie

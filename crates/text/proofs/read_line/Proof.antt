@@ -4,7 +4,7 @@ use mathlib.Core.List.{List}
 use lib.ListN.{length}
 use native.Mathlib.Omega.{arith}
 use borrow.Author.Needs.{needs}
-use Rattle.text.proofs.Gather.{Gathered, starts, count-le, goes-on, stops, fails, at-end, at-stop, at-odd, at-bad, at-more}
+use Rattle.text.proofs.NumbersGathered.{Gathered, starts, count-le, goes-on, stops, fails, at-end, at-stop, at-odd, at-bad, at-more}
 use Rattle.text.proofs.read_line.Statement.{statement}
 use Rattle.text.proofs.read_line.Tie as tie
 

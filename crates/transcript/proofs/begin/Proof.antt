@@ -2,7 +2,7 @@
 use mathlib.Core.Path.{_≡_}
 use lib.ListN.{length}
 use borrow.Author.Needs.{needs}
-use Rattle.transcript.proofs.Given.{gives-too-long, gives-file}
+use Rattle.transcript.proofs.TurnsGiven.{gives-too-long, gives-file}
 use Rattle.transcript.proofs.begin.Statement.{statement}
 use Rattle.transcript.proofs.begin.Tie as tie
 

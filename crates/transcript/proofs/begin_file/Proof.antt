@@ -4,9 +4,9 @@ use Prim.Native.Nat.{ℕ}
 use mathlib.Core.Path.{_≡_, sym, _∙_}
 use lib.ListN.{length, replicate, length-replicate}
 use borrow.Author.Needs.{needs}
-use Rattle.transcript.proofs.Parts.{file-counted}
-use Rattle.transcript.proofs.Answered.{analyze-refuses, analyze-accepts, fresh-after}
-use Rattle.transcript.proofs.Given.{gives-refusal, gives-block}
+use Rattle.transcript.proofs.ListParts.{file-counted}
+use Rattle.transcript.proofs.AnswersPrinted.{analyze-refuses, analyze-accepts, fresh-after}
+use Rattle.transcript.proofs.TurnsGiven.{gives-refusal, gives-block}
 use Rattle.transcript.proofs.begin_file.Statement.{statement}
 use Rattle.transcript.proofs.begin_file.Tie as tie
 

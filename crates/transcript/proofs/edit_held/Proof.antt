@@ -2,7 +2,7 @@
 use borrow.Author.Needs.{needs}
 use Rattle.reach.specs.Configurations.{none-set}
 use Rattle.transcript.specs.Transcript.{noOutput}
-use Rattle.transcript.proofs.Answered.{edited}
+use Rattle.transcript.proofs.AnswersPrinted.{edited}
 use Rattle.transcript.proofs.edit_held.Statement.{statement}
 use Rattle.transcript.proofs.edit_held.Tie as tie
 

@@ -2,8 +2,8 @@
 use borrow.Author.Needs.{needs}
 use mathlib.Core.Logic.{⊎-elim}
 use Rattle.transcript.specs.Transcript.{heldOf}
-use Rattle.transcript.proofs.Parts.{line-within}
-use Rattle.transcript.proofs.Given.{gives-turn}
+use Rattle.transcript.proofs.ListParts.{line-within}
+use Rattle.transcript.proofs.TurnsGiven.{gives-turn}
 use Rattle.transcript.proofs.edit_line.Statement.{statement}
 use Rattle.transcript.proofs.edit_line.Tie as tie
 

@@ -1,6 +1,6 @@
 -- `transcript::hold` meets its contract.
 use borrow.Author.Needs.{needs}
-use Rattle.transcript.proofs.Parts.{copied}
+use Rattle.transcript.proofs.ListParts.{copied}
 use lib.ListN.{replicate}
 use Rattle.transcript.proofs.hold.Statement.{statement}
 use Rattle.transcript.proofs.hold.Tie as tie

@@ -4,7 +4,7 @@ use mathlib.Core.Path.{_≡_, _∙_}
 use lib.ListN.{length}
 use borrow.Author.Needs.{needs}
 use Rattle.transcript.specs.Transcript.{heldOf}
-use Rattle.transcript.proofs.Answered.{file-stays, file-wrote}
+use Rattle.transcript.proofs.AnswersPrinted.{file-stays, file-wrote}
 use Rattle.transcript.proofs.hold_next.Statement.{statement}
 use Rattle.transcript.proofs.hold_next.Tie as tie
 

@@ -1,6 +1,6 @@
 -- `transcript::line_at` meets its contract.
 use borrow.Author.Needs.{needs}
-use Rattle.transcript.proofs.Parts.{line-ends, line-is}
+use Rattle.transcript.proofs.ListParts.{line-ends, line-is}
 use Rattle.transcript.proofs.line_at.Statement.{statement}
 use Rattle.transcript.proofs.line_at.Tie as tie
 

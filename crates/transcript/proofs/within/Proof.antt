@@ -1,5 +1,5 @@
 -- `transcript::within` meets its contract.
-use Rattle.transcript.proofs.Parts.{few, all}
+use Rattle.transcript.proofs.ListParts.{few, all}
 use Rattle.transcript.proofs.within.Statement.{statement}
 use Rattle.transcript.proofs.within.Tie as tie
 

@@ -1,4 +1,4 @@
-use Rattle.writer.proofs.Answered.{answered, has-room}
+use Rattle.writer.proofs.WriteAnswers.{answered, has-room}
 use Rattle.writer.specs.declared.WriteAnswer.the-variants.{Written}
 use mathlib.Core.Path.{ap, _∙_}
 use borrow.Author.Needs.{needs}

@@ -9,8 +9,8 @@ use borrow.Author.Needs.{needs}
 use Rattle.program.specs.Program.{Program}
 use Rattle.reach.specs.Marks.{violationsFrom}
 use Rattle.automaton.specs.Flags.{Rejects}
-use Rattle.analysis.proofs.Counts.{counts-violations}
-use Rattle.base.proofs.Counts.{Counted, counted-one, counted-none, counted-all}
+use Rattle.analysis.proofs.ViolationsCounted.{counts-violations}
+use Rattle.base.proofs.BytesCounted.{Counted, counted-one, counted-none, counted-all}
 use Rattle.analysis.proofs.count.count_violations.Statement.{statement}
 use Rattle.analysis.proofs.count.count_violations.Tie as tie
 

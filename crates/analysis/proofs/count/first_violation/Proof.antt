@@ -7,7 +7,7 @@ use lib.ListN.{length}
 use borrow.Author.Needs.{needs}
 use Rattle.program.specs.Program.{Program}
 use Rattle.automaton.specs.Flags.{Rejects}
-use Rattle.analysis.proofs.Counts.{Sought, sought-none, sought-here, sought-more, sought-all}
+use Rattle.analysis.proofs.ViolationsCounted.{Sought, sought-none, sought-here, sought-more, sought-all}
 use Rattle.analysis.proofs.count.first_violation.Statement.{statement}
 use Rattle.analysis.proofs.count.first_violation.Tie as tie
 

@@ -1,7 +1,7 @@
 -- `analysis::own::is_own` meets its contract.
 use Rattle.program.specs.Sizes.{marksSize}
 use Rattle.analysis.specs.Answers.{same}
-use Rattle.analysis.proofs.Answered.{same-decides}
+use Rattle.analysis.proofs.AnswersByChecks.{same-decides}
 use lib.ListN.{length-replicate}
 use mathlib.Core.Path.{ap, _∙_}
 use mathlib.Core.List.{List}

@@ -4,9 +4,9 @@ use Prim.Native.Nat.{_-_}
 use native.Mathlib.Omega.{arith}
 use lib.ListN.{length}
 use borrow.Author.Needs.{needs}
-use Rattle.base.proofs.Entries.{in-use-same}
+use Rattle.base.proofs.EntriesInUse.{in-use-same}
 use Rattle.automaton.specs.Sizes.{maxStates}
-use Rattle.automaton.proofs.Flagged.{Members, members-none, members-more, members-all}
+use Rattle.automaton.proofs.TablesFilled.{Members, members-none, members-more, members-all}
 use Rattle.automaton.proofs.flags.flags_of.Statement.{statement}
 use Rattle.automaton.proofs.flags.flags_of.Tie as tie
 

@@ -5,10 +5,10 @@ use Prim.Native.Nat.{_-_}
 use native.Mathlib.Omega.{arith}
 use lib.ListN.{length}
 use borrow.Author.Needs.{needs}
-use Rattle.base.proofs.Entries.{in-use-same}
+use Rattle.base.proofs.EntriesInUse.{in-use-same}
 use Rattle.automaton.specs.Sizes.{maxTransitions}
 use Rattle.automaton.specs.Decoded.{transitionOf}
-use Rattle.automaton.proofs.Flagged.{Allowed, allowed-none, allowed-more, allowed-all}
+use Rattle.automaton.proofs.TablesFilled.{Allowed, allowed-none, allowed-more, allowed-all}
 use Rattle.automaton.proofs.next.next_states.Statement.{statement}
 use Rattle.automaton.proofs.next.next_states.Tie as tie
 

@@ -1,7 +1,7 @@
 -- `automaton::next::place_of` meets its contract.
 use native.Mathlib.Omega.{arith}
 use borrow.Author.Needs.{needs}
-use Rattle.automaton.proofs.Flagged.{no-place, its-place}
+use Rattle.automaton.proofs.TablesFilled.{no-place, its-place}
 use Rattle.automaton.proofs.next.place_of.Statement.{statement}
 use Rattle.automaton.proofs.next.place_of.Tie as tie
 

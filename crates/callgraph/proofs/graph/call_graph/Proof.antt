@@ -5,9 +5,9 @@ use Rattle.program.specs.Program.{Program}
 use Rattle.program.specs.Decoded.{programOf}
 use Rattle.base.proofs.SetFlags.{none-on}
 use Rattle.callgraph.specs.Parts.{leadsSize}
-use Rattle.callgraph.proofs.Growth.{Growing, growing-start, growing-turn, growing-less, left}
-use Rattle.callgraph.proofs.Keyed.{KeysOf, keys-of}
-use Rattle.callgraph.proofs.Leading.{LeadAt, LeadsRules, edges-obey, graph-flagged}
+use Rattle.callgraph.proofs.FlagsClosed.{Growing, growing-start, growing-turn, growing-less, left}
+use Rattle.callgraph.proofs.CallsByKey.{KeysOf, keys-of}
+use Rattle.callgraph.proofs.LeadsFlagged.{LeadAt, LeadsRules, edges-obey, graph-flagged}
 use borrow.Author.Needs.{needs}
 use native.Mathlib.Omega.{arith}
 use mathlib.Core.Path.{_≡_, refl, sym, _∙_}

@@ -2,7 +2,7 @@
 -- component.
 use Rattle.program.specs.Sizes.{maxRoutines}
 use Rattle.callgraph.specs.Parts.{togetherFlag}
-use Rattle.base.proofs.Filling.{Filling, filling-none, filling-more, filling-all}
+use Rattle.base.proofs.BytesFilled.{Filling, filling-none, filling-more, filling-all}
 use borrow.Author.Needs.{needs}
 use native.Mathlib.Omega.{arith}
 use Prim.Native.Nat.{_-_}

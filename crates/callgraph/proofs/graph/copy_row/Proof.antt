@@ -2,7 +2,7 @@
 -- whole row.
 use Rattle.program.specs.Sizes.{maxRoutines}
 use Rattle.callgraph.specs.Parts.{copyLead}
-use Rattle.callgraph.proofs.Growth.{Turning, turning-start, turning-turn, turning-end}
+use Rattle.callgraph.proofs.FlagsClosed.{Turning, turning-start, turning-turn, turning-end}
 use borrow.Author.Needs.{needs}
 use native.Mathlib.Omega.{arith}
 use Prim.Native.Nat.{_-_}

@@ -1,7 +1,7 @@
 -- `callgraph::graph::lead_by_edge` meets its contract.
 use mathlib.Core.Path.{sym, _∙_}
 use borrow.Author.Needs.{needs}
-use Rattle.callgraph.proofs.Leading.{call-leads, no-call-leads}
+use Rattle.callgraph.proofs.LeadsFlagged.{call-leads, no-call-leads}
 use Rattle.callgraph.proofs.graph.lead_by_edge.Statement.{statement}
 use Rattle.callgraph.proofs.graph.lead_by_edge.Tie as tie
 

@@ -1,6 +1,6 @@
 -- `callgraph::graph::rank` meets its contract. The loop's invariant: `n` is the count of the routines below `g`.
 use Rattle.program.specs.Sizes.{maxRoutines}
-use Rattle.callgraph.proofs.Graphed.{rank-none, rank-next, rank-all}
+use Rattle.callgraph.proofs.ComponentsFromFlags.{rank-none, rank-next, rank-all}
 use Rattle.callgraph.specs.Parts.{rankBelow}
 use borrow.Author.Needs.{needs}
 use native.Mathlib.Omega.{arith}

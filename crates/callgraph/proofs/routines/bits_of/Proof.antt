@@ -1,5 +1,5 @@
 -- `callgraph::routines::bits_of` meets its contract. The loop's invariant: the flags from `i` on are the bits of `n`.
-use Rattle.callgraph.proofs.Bitted.{Bitted, bitted-start, bitted-small, bitted-turn, bitted-end}
+use Rattle.callgraph.proofs.FlagsAsBits.{Bitted, bitted-start, bitted-small, bitted-turn, bitted-end}
 use borrow.Author.Needs.{needs}
 use native.Mathlib.Omega.{arith}
 use Rattle.callgraph.proofs.routines.bits_of.Statement.{statement}

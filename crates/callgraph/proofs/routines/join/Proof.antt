@@ -4,7 +4,7 @@ use mathlib.Core.Path.{_≡_}
 use lib.ListN.{length}
 use borrow.Author.Tests.{eq-eqb, ne-eqb}
 use Rattle.program.specs.Sizes.{maxRoutines}
-use Rattle.base.proofs.Filling.{Filling, filling-none, filling-more, filling-kept, filling-all}
+use Rattle.base.proofs.BytesFilled.{Filling, filling-none, filling-more, filling-kept, filling-all}
 use Rattle.callgraph.specs.Parts.{joinedFlag}
 use borrow.Author.Needs.{needs}
 use native.Mathlib.Omega.{arith}

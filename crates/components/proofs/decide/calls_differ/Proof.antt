@@ -4,8 +4,8 @@ use mathlib.Core.Path.{_≡_}
 use lib.ListN.{length}
 use borrow.Author.Needs.{needs}
 use Rattle.program.specs.Sizes.{maxEdges}
-use Rattle.callgraph.proofs.Keyed.{keys-of}
-use Rattle.components.proofs.Turning.{differing-call, call-differing}
+use Rattle.callgraph.proofs.CallsByKey.{keys-of}
+use Rattle.components.proofs.TurnsTaken.{differing-call, call-differing}
 use Rattle.components.proofs.decide.calls_differ.Statement.{statement}
 use Rattle.components.proofs.decide.calls_differ.Tie as tie
 

@@ -2,8 +2,8 @@
 use mathlib.Core.Path.{sym, _∙_}
 use mathlib.Core.Logic.{inl, inr, ⊎-elim}
 use borrow.Author.Needs.{needs}
-use Rattle.callgraph.proofs.Members.{true-member, false-member}
-use Rattle.components.proofs.Deciding.{said-yes}
+use Rattle.callgraph.proofs.RoutineSets.{true-member, false-member}
+use Rattle.components.proofs.ReopeningDecided.{said-yes}
 use Rattle.components.proofs.decide.is_reopened.Statement.{statement}
 use Rattle.components.proofs.decide.is_reopened.Tie as tie
 

@@ -1,7 +1,7 @@
 -- `components::drop::drop_inside_out` meets its contract.
 use mathlib.Core.Path.{_∙_}
 use borrow.Author.Needs.{needs}
-use Rattle.components.proofs.Turning.{fresh-length, turning-start, turning-marks, turning-reopened, all-cleared}
+use Rattle.components.proofs.TurnsTaken.{fresh-length, turning-start, turning-marks, turning-reopened, all-cleared}
 use Rattle.components.proofs.drop.drop_inside_out.Statement.{statement}
 use Rattle.components.proofs.drop.drop_inside_out.Tie as tie
 

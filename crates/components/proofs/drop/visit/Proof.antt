@@ -1,7 +1,7 @@
 -- `components::drop::visit` meets its contract.
 use native.Mathlib.Omega.{arith}
 use borrow.Author.Needs.{needs}
-use Rattle.components.proofs.Turning.{done-skipped, rank-skipped, at-turn, from-turn}
+use Rattle.components.proofs.TurnsTaken.{done-skipped, rank-skipped, at-turn, from-turn}
 use Rattle.components.proofs.drop.visit.Statement.{statement}
 use Rattle.components.proofs.drop.visit.Tie as tie
 

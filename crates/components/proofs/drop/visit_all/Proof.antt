@@ -6,7 +6,7 @@ use lib.ListN.{length}
 use Rattle.program.specs.Sizes.{marksSize}
 use Rattle.program.specs.Decoded.{programOf}
 use Rattle.components.specs.TurnParts.{firstTurn, endTurn, Advances}
-use Rattle.components.proofs.Turning.{turning-end}
+use Rattle.components.proofs.TurnsTaken.{turning-end}
 use Rattle.components.proofs.drop.visit_all.Statement.{statement}
 use Rattle.components.proofs.drop.visit_all.Tie as tie
 

@@ -1,8 +1,8 @@
 -- `components::drop::work_component` meets its contract.
 use borrow.Author.Needs.{needs}
-use Rattle.callgraph.proofs.Graphed.{component-members}
-use Rattle.callgraph.proofs.Members.{joined-members}
-use Rattle.components.proofs.Turning.{may-pass, component-kept, component-worked}
+use Rattle.callgraph.proofs.ComponentsFromFlags.{component-members}
+use Rattle.callgraph.proofs.RoutineSets.{joined-members}
+use Rattle.components.proofs.TurnsTaken.{may-pass, component-kept, component-worked}
 use Rattle.components.proofs.drop.work_component.Statement.{statement}
 use Rattle.components.proofs.drop.work_component.Tie as tie
 

@@ -1,5 +1,5 @@
 -- `components::pass::component_pass` meets its contract.
-use Rattle.components.proofs.Passing.{first-ready, passed}
+use Rattle.components.proofs.PassDerives.{first-ready, passed}
 use Rattle.reach.specs.Configurations.{none-set}
 use Prim.Native.Nat.{ℕ}
 use mathlib.Core.Path.{ap, _∙_}

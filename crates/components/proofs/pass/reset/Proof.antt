@@ -1,6 +1,6 @@
 -- `components::pass::reset` meets its contract. The loop's invariant: the first `i` marks are written, the others are as they were.
 use Rattle.program.specs.Sizes.{marksSize}
-use Rattle.base.proofs.Filling.{Filling, filling-none, filling-more, filling-all}
+use Rattle.base.proofs.BytesFilled.{Filling, filling-none, filling-more, filling-all}
 use Rattle.components.specs.PassParts.{firstMarks}
 use borrow.Author.Needs.{needs}
 use native.Mathlib.Omega.{arith}

@@ -2,7 +2,7 @@
 use Rattle.program.specs.Sizes.{maxRoutines, marksSize}
 use Rattle.program.specs.Decoded.{programOf}
 use Rattle.components.specs.PassParts.{Round}
-use Rattle.components.proofs.Rounds.{grown-ready, round-none, round-turn}
+use Rattle.components.proofs.RoundsClose.{grown-ready, round-none, round-turn}
 use native.Mathlib.Omega.{arith}
 use Prim.Native.Nat.{_≤_, _-_}
 use mathlib.Core.Path.{_≡_, sym, _∙_}

@@ -3,7 +3,7 @@ use Rattle.program.specs.Sizes.{marksSize}
 use Rattle.program.specs.Decoded.{programOf}
 use Rattle.base.specs.Flags.{countSet}
 use Rattle.components.specs.PassParts.{Grows}
-use Rattle.components.proofs.Rounds.{grows-none, grown-ready, grows-then, rounds-less, rounds-end}
+use Rattle.components.proofs.RoundsClose.{grows-none, grown-ready, grows-then, rounds-less, rounds-end}
 use Prim.Native.Nat.{_-_}
 use mathlib.Core.Path.{_≡_, sym, _∙_}
 use lib.ListN.{length}

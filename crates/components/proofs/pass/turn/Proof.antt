@@ -1,9 +1,9 @@
 -- `components::pass::turn` meets its contract: the part of the table that is handed on has the edges of routine `f`.
 use Rattle.program.specs.Sizes.{maxEdges}
-use Rattle.worklist.proofs.Slice.{part-starts}
-use Rattle.callgraph.proofs.Members.{true-member}
-use Rattle.components.proofs.Slice.{routine-edges}
-use Rattle.components.proofs.Rounds.{no-turn, turn-followable, turn-shown}
+use Rattle.worklist.proofs.RoutinePart.{part-starts}
+use Rattle.callgraph.proofs.RoutineSets.{true-member}
+use Rattle.components.proofs.RoutinePartOfTable.{routine-edges}
+use Rattle.components.proofs.RoundsClose.{no-turn, turn-followable, turn-shown}
 use Rattle.reach.proofs.Numbers.{first-number}
 use native.Mathlib.Omega.{arith}
 use mathlib.Core.Path.{_≡_, sym, _∙_}

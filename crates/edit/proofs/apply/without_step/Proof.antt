@@ -3,7 +3,7 @@ use mathlib.Core.List.{map}
 use borrow.Author.Needs.{needs}
 use Rattle.program.specs.Decoded.{edgeKeysOf, edgeOf, programOf}
 use Rattle.edit.specs.Editing.{withEdges}
-use Rattle.edit.proofs.Linked.{edges-without}
+use Rattle.edit.proofs.KeysOfEdges.{edges-without}
 use Rattle.edit.proofs.apply.without_step.Statement.{statement}
 use Rattle.edit.proofs.apply.without_step.Tie as tie
 

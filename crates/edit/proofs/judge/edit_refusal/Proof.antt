@@ -2,7 +2,7 @@ use mathlib.Core.Path.{_≡_, _∙_}
 use lib.ListN.{length}
 use borrow.Author.Needs.{needs}
 use Rattle.program.specs.Sizes.{maxEdges}
-use Rattle.edit.proofs.Refusing.{refusal-by, full-table}
+use Rattle.edit.proofs.EditRefusals.{refusal-by, full-table}
 use Rattle.edit.proofs.judge.edit_refusal.Statement.{statement}
 use Rattle.edit.proofs.judge.edit_refusal.Tie as tie
 

@@ -1,4 +1,4 @@
-use Rattle.base.proofs.Ways.{tests}
+use Rattle.base.proofs.TestsOnTheWay.{tests}
 use Rattle.edit.proofs.judge.edit_unless.Statement.{statement}
 use Rattle.edit.proofs.judge.edit_unless.Tie as tie
 

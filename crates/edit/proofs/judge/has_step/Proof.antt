@@ -1,7 +1,7 @@
 use mathlib.Core.Path.{_∙_}
 use borrow.Author.Needs.{needs}
 use Rattle.program.specs.Decoded.{edgeKeysOf}
-use Rattle.edit.proofs.Linked.{edges-member}
+use Rattle.edit.proofs.KeysOfEdges.{edges-member}
 use Rattle.edit.proofs.judge.has_step.Statement.{statement}
 use Rattle.edit.proofs.judge.has_step.Tie as tie
 

@@ -1,4 +1,4 @@
-use Rattle.base.proofs.Ways.{tests}
+use Rattle.base.proofs.TestsOnTheWay.{tests}
 use Rattle.edit.proofs.line.edit_by.Statement.{statement}
 use Rattle.edit.proofs.line.edit_by.Tie as tie
 

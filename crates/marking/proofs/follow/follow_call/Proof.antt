@@ -1,6 +1,6 @@
 -- `marking::follow::follow_call` meets its contract.
 use Rattle.reach.proofs.Numbers.{summaries-fit}
-use Rattle.marking.proofs.Branches.{then}
+use Rattle.marking.proofs.BranchesChosen.{then}
 use mathlib.Core.Path.{_∙_}
 use native.Mathlib.Omega.{arith}
 use borrow.Author.Needs.{needs}

@@ -1,6 +1,6 @@
 -- `marking::follow::follow_edge` meets its contract.
 use Rattle.program.specs.Decoded.{edgeView}
-use Rattle.marking.proofs.Branches.{edge-here, edge-other}
+use Rattle.marking.proofs.BranchesChosen.{edge-here, edge-other}
 use borrow.Author.Needs.{needs}
 use Rattle.marking.proofs.follow.follow_edge.Statement.{statement}
 use Rattle.marking.proofs.follow.follow_edge.Tie as tie

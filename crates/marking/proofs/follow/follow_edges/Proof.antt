@@ -1,7 +1,7 @@
 -- `marking::follow::follow_edges` meets its contract. The loop's invariant: the edges from `i` on are left to follow.
 use Rattle.program.specs.Decoded.{edgeOf}
 use Rattle.marking.specs.Parts.{edgeStep}
-use Rattle.marking.proofs.Steps.{Looping, loop-start, loop-turn, loop-end}
+use Rattle.marking.proofs.StepsMark.{Looping, loop-start, loop-turn, loop-end}
 use mathlib.Core.Path.{sym, _∙_}
 use lib.ListN.{getD}
 use native.Mathlib.Omega.{arith}

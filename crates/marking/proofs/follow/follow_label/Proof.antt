@@ -1,5 +1,5 @@
 -- `marking::follow::follow_label` meets its contract.
-use Rattle.marking.proofs.Branches.{label-call, label-past, label-action, label-none}
+use Rattle.marking.proofs.BranchesChosen.{label-call, label-past, label-action, label-none}
 use mathlib.Core.Path.{sym, _∙_}
 use borrow.Author.Needs.{needs}
 use Rattle.marking.proofs.follow.follow_label.Statement.{statement}

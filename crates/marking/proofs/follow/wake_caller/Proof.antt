@@ -1,6 +1,6 @@
 -- `marking::follow::wake_caller` meets its contract.
 use Rattle.program.specs.Decoded.{edgeView}
-use Rattle.marking.proofs.Branches.{caller-here, caller-other, caller-none}
+use Rattle.marking.proofs.BranchesChosen.{caller-here, caller-other, caller-none}
 use mathlib.Core.Path.{sym, _∙_}
 use borrow.Author.Needs.{needs}
 use Rattle.marking.proofs.follow.wake_caller.Statement.{statement}

@@ -1,7 +1,7 @@
 -- `marking::follow::wake_callers` meets its contract. The loop's invariant: the edges from `i` on are left to try.
 use Rattle.program.specs.Decoded.{edgeOf}
 use Rattle.marking.specs.Parts.{callerStep}
-use Rattle.marking.proofs.Steps.{Looping, loop-start, loop-turn, loop-end}
+use Rattle.marking.proofs.StepsMark.{Looping, loop-start, loop-turn, loop-end}
 use mathlib.Core.Path.{refl, sym, _∙_}
 use lib.ListN.{getD}
 use native.Mathlib.Omega.{arith}

@@ -1,6 +1,6 @@
 -- `marking::take::take` meets its contract.
 use Rattle.reach.proofs.Numbers.{summary-fits}
-use Rattle.marking.proofs.Taken.{at-exit, elsewhere, past-lowest}
+use Rattle.marking.proofs.TakingOfProcedure.{at-exit, elsewhere, past-lowest}
 use lib.ListN.{length-set}
 use native.Mathlib.Omega.{arith}
 use mathlib.Core.Path.{_∙_}

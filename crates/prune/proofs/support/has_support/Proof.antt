@@ -1,7 +1,7 @@
 -- `prune::support::has_support` meets its contract.
 use mathlib.Core.Path.{_∙_}
 use borrow.Author.Needs.{needs}
-use Rattle.prune.proofs.Sliced.{part-supports}
+use Rattle.prune.proofs.PartSearched.{part-supports}
 use Rattle.prune.proofs.support.has_support.Statement.{statement}
 use Rattle.prune.proofs.support.has_support.Tie as tie
 

@@ -3,7 +3,7 @@ use mathlib.Core.Bool.{_&&_}
 use Prim.Native.Nat.{_+_, _-_, _*_}
 use Rattle.base.specs.Flags.{isSet}
 use Rattle.prune.specs.Parts.{returnKept}
-use Rattle.prune.proofs.Asked.{Trying, try-all, try-found, try-next, try-none}
+use Rattle.prune.proofs.SearchesAsk.{Trying, try-all, try-found, try-next, try-none}
 use borrow.Author.Needs.{needs}
 use Rattle.prune.proofs.support.return_kept.Statement.{statement}
 use Rattle.prune.proofs.support.return_kept.Tie as tie

@@ -5,12 +5,12 @@ use mathlib.Core.Bool.{false}
 use Prim.Native.Nat.{ℕ, _<_, _≤_, _-_}
 use native.Mathlib.Omega.{arith}
 use lib.ListN.{length}
-use Rattle.base.proofs.Entries.{Left, found, passed, none-left}
+use Rattle.base.proofs.EntriesInUse.{Left, found, passed, none-left}
 use Rattle.program.specs.Program.{Edge}
 use Rattle.program.specs.Decoded.{edgeOf}
 use Rattle.prune.specs.Parts.{anyKey, lineSupports, edgeSupports, supports}
-use Rattle.prune.proofs.Asked.{asks-key}
-use Rattle.prune.proofs.Scanned.{edge-calls, edge-is}
+use Rattle.prune.proofs.SearchesAsk.{asks-key}
+use Rattle.prune.proofs.EdgeScanned.{edge-calls, edge-is}
 use borrow.Author.Needs.{needs}
 use Rattle.prune.proofs.support.supported.Statement.{statement}
 use Rattle.prune.proofs.support.supported.Tie as tie

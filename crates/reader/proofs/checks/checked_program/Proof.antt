@@ -1,6 +1,6 @@
 use Rattle.program.specs.Checks.{checkedBy, checked}
 use Rattle.program.specs.Reading.{Outcome}
-use Rattle.program.proofs.Checked.{passes}
+use Rattle.program.proofs.ChecksPassed.{passes}
 use mathlib.Core.Path.{_≡_, sym, ap, _∙_}
 use borrow.Author.Needs.{needs}
 use Rattle.reader.proofs.checks.checked_program.Statement.{statement}

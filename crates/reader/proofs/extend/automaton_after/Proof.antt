@@ -1,6 +1,6 @@
 use Rattle.program.specs.Reading.{transitionIn}
 use lib.Dec.{eqb}
-use Rattle.reader.proofs.Views.{as-many, map-more, automaton-parts}
+use Rattle.reader.proofs.ListsKept.{as-many, map-more, automaton-parts}
 use Rattle.automaton.specs.Decoded.{transitionKeysOf, transitionOf}
 use Rattle.automaton.specs.Sizes.{maxTransitions}
 use borrow.Author.Tests.{eqb-true}

@@ -1,6 +1,6 @@
 use Rattle.program.specs.Reading.{edgeIn}
 use lib.Dec.{eqb}
-use Rattle.reader.proofs.Views.{as-many, map-more, program-parts}
+use Rattle.reader.proofs.ListsKept.{as-many, map-more, program-parts}
 use Rattle.program.specs.Decoded.{edgeKeysOf, edgeOf}
 use Rattle.program.specs.Sizes.{maxEdges}
 use borrow.Author.Tests.{eqb-true}

@@ -1,4 +1,4 @@
-use Rattle.base.proofs.Ways.{tests}
+use Rattle.base.proofs.TestsOnTheWay.{tests}
 use Rattle.reader.proofs.frame.size_of.Statement.{statement}
 use Rattle.reader.proofs.frame.size_of.Tie as tie
 

@@ -1,13 +1,13 @@
 use mathlib.Core.Path.{_≡_, _∙_}
 use lib.ListN.{length}
 use borrow.Author.Needs.{needs}
-use Rattle.base.proofs.Entries.{in-use-length}
+use Rattle.base.proofs.EntriesInUse.{in-use-length}
 use Rattle.automaton.specs.Sizes.{maxTransitions}
 use Rattle.automaton.specs.Decoded.{transitionOf}
 use Rattle.program.specs.Sizes.{maxRoutines, maxEdges}
 use Rattle.program.specs.Reading.{judge, judgeAs}
 use Rattle.program.specs.Decoded.{edgeOf}
-use Rattle.reader.proofs.Views.{counted}
+use Rattle.reader.proofs.ListsKept.{counted}
 use Rattle.reader.proofs.judge.fault_of.Statement.{statement}
 use Rattle.reader.proofs.judge.fault_of.Tie as tie
 

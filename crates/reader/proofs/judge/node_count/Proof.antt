@@ -4,7 +4,7 @@ use lib.ListN.{length}
 use lib.Seq.{getD-take}
 use borrow.Author.Needs.{needs}
 use Rattle.program.specs.Sizes.{maxRoutines}
-use Rattle.reader.proofs.Views.{past-used}
+use Rattle.reader.proofs.ListsKept.{past-used}
 use Rattle.reader.proofs.judge.node_count.Statement.{statement}
 use Rattle.reader.proofs.judge.node_count.Tie as tie
 

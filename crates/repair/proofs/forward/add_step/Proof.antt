@@ -1,5 +1,5 @@
-use Rattle.repair.proofs.Steps.{add-from}
-use Rattle.repair.proofs.Answered.{added-well-formed, added-closed, added}
+use Rattle.repair.proofs.EditedSteps.{add-from}
+use Rattle.repair.proofs.RepairsAnswer.{added-well-formed, added-closed, added}
 use Rattle.edit.proofs.Theorems.{add-ready}
 use Rattle.program.specs.Decoded.{programOf}
 use borrow.Author.Needs.{needs}

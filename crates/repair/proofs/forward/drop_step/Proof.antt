@@ -1,4 +1,4 @@
-use Rattle.repair.proofs.Answered.{dropped-well-formed, keeps}
+use Rattle.repair.proofs.RepairsAnswer.{dropped-well-formed, keeps}
 use Rattle.edit.proofs.Theorems.{drop-ready}
 use Rattle.program.specs.Decoded.{programOf}
 use borrow.Author.Needs.{needs}

@@ -1,6 +1,6 @@
-use Rattle.repair.proofs.Answered.{dropped, between-well-formed, between-applies, replaced, none-length}
+use Rattle.repair.proofs.RepairsAnswer.{dropped, between-well-formed, between-applies, replaced, none-length}
 use Rattle.edit.proofs.Theorems.{drop-applies}
-use Rattle.reach.proofs.Kept.{marks-length}
+use Rattle.reach.proofs.ShapeKept.{marks-length}
 use Rattle.program.specs.Decoded.{programOf}
 use lib.ListN.{length}
 use mathlib.Core.Path.{ap, _∙_}

@@ -1,6 +1,6 @@
 -- `repair::inside_out::add_step_inside_out` meets its contract.
-use Rattle.repair.proofs.Reworked.{copied-fresh, added-flags}
-use Rattle.reach.proofs.Kept.{marks-length}
+use Rattle.repair.proofs.InsideOutMarks.{copied-fresh, added-flags}
+use Rattle.reach.proofs.ShapeKept.{marks-length}
 use Rattle.program.specs.Decoded.{programOf}
 use lib.ListN.{length}
 use mathlib.Core.Path.{_≡_, ap, _∙_}

@@ -1,5 +1,5 @@
 -- `repair::inside_out::drop_step_inside_out` meets its contract.
-use Rattle.repair.proofs.Reworked.{none-dropped, drop-of, dropped-inside-out}
+use Rattle.repair.proofs.InsideOutMarks.{none-dropped, drop-of, dropped-inside-out}
 use Rattle.edit.proofs.Theorems.{drop-ready}
 use Rattle.program.specs.Decoded.{programOf}
 use borrow.Author.Needs.{needs}

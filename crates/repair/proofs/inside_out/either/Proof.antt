@@ -1,6 +1,6 @@
 -- `repair::inside_out::either` meets its contract.
 use Rattle.program.specs.Sizes.{maxRoutines}
-use Rattle.callgraph.proofs.Members.{joined-members}
+use Rattle.callgraph.proofs.RoutineSets.{joined-members}
 use mathlib.Core.Path.{_≡_}
 use lib.ListN.{length}
 use borrow.Author.Needs.{needs}

@@ -1,6 +1,6 @@
 -- `repair::inside_out::gained` meets its contract. The loop's invariant: the flags are those of the new marks below `i`.
 use mathlib.Core.Logic.{⊎-elim}
-use Rattle.repair.proofs.Reworked.{Gaining, gaining-start, gaining-on, gaining-off, gaining-end, more-yes, more-no}
+use Rattle.repair.proofs.InsideOutMarks.{Gaining, gaining-start, gaining-on, gaining-off, gaining-end, more-yes, more-no}
 use Rattle.program.specs.Sizes.{marksSize}
 use Rattle.reach.proofs.Numbers.{routine-small}
 use borrow.Author.Needs.{needs}

@@ -1,6 +1,6 @@
 -- `repair::inside_out::replace_step_inside_out` meets its contract.
-use Rattle.repair.proofs.Answered.{between-well-formed, between-applies, replaced, none-length}
-use Rattle.repair.proofs.Reworked.{replaced-flags}
+use Rattle.repair.proofs.RepairsAnswer.{between-well-formed, between-applies, replaced, none-length}
+use Rattle.repair.proofs.InsideOutMarks.{replaced-flags}
 use Rattle.edit.proofs.Theorems.{drop-applies}
 use Rattle.program.specs.Decoded.{programOf}
 use lib.ListN.{length}

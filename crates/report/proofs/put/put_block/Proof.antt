@@ -4,11 +4,11 @@ use native.Mathlib.Omega.{arith}
 use borrow.Author.Needs.{needs}
 use Rattle.text.specs.declared.Line.{Line}
 use Rattle.program.specs.Decoded.{programOf}
-use Rattle.reach.proofs.Shown.{count-small}
-use Rattle.writer.proofs.Written.{put-one}
+use Rattle.reach.proofs.MarksShown.{count-small}
+use Rattle.writer.proofs.FramesPut.{put-one}
 use Rattle.report.specs.Report.{countFrame}
 use Rattle.report.proofs.Theorems.{violations-limited}
-use Rattle.report.proofs.Blocks.{block-put}
+use Rattle.report.proofs.BlocksPut.{block-put}
 use Rattle.report.proofs.put.put_block.Statement.{statement}
 use Rattle.report.proofs.put.put_block.Tie as tie
 

@@ -3,9 +3,9 @@ use mathlib.Core.Path.{_≡_, ap}
 use native.Mathlib.Omega.{arith}
 use borrow.Author.Needs.{needs}
 use Rattle.text.specs.declared.Line.{Line}
-use Rattle.writer.proofs.Written.{put-one}
+use Rattle.writer.proofs.FramesPut.{put-one}
 use Rattle.report.specs.Report.{violationFrame}
-use Rattle.report.proofs.Blocks.{put-violation, put-nothing}
+use Rattle.report.proofs.BlocksPut.{put-violation, put-nothing}
 use Rattle.report.proofs.put.put_violation.Statement.{statement}
 use Rattle.report.proofs.put.put_violation.Tie as tie
 

@@ -2,7 +2,7 @@
 -- they were.
 use Rattle.program.specs.Sizes.{marksSize}
 use Rattle.reach.proofs.Numbers.{parts-routine, parts-root}
-use Rattle.base.proofs.Filling.{Filling, filling-none, filling-more, filling-all}
+use Rattle.base.proofs.BytesFilled.{Filling, filling-none, filling-more, filling-all}
 use Rattle.roots.specs.Parts.{keptByte}
 use borrow.Author.Needs.{needs}
 use native.Mathlib.Omega.{arith}

@@ -1,6 +1,6 @@
 -- `roots::cut::cut_to_live` meets its contract.
 use Rattle.program.specs.Decoded.{programOf}
-use Rattle.roots.proofs.Occurring.{cut-shows}
+use Rattle.roots.proofs.RootsOccur.{cut-shows}
 use borrow.Author.Needs.{needs}
 use Rattle.roots.proofs.cut.cut_to_live.Statement.{statement}
 use Rattle.roots.proofs.cut.cut_to_live.Tie as tie

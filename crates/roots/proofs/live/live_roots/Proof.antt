@@ -4,9 +4,9 @@ use Rattle.program.specs.Sizes.{maxEdges}
 use Rattle.program.specs.Program.{Program}
 use Rattle.program.specs.Decoded.{programOf}
 use Rattle.reach.specs.Sizes.{rootsSize}
-use Rattle.callgraph.proofs.Growth.{Growing, growing-turn, growing-less, left}
-use Rattle.callgraph.proofs.Keyed.{keys-of}
-use Rattle.roots.proofs.Occurring.{LiveAt, RootsRules, Started, started, live-obeys, live-start, live-flagged}
+use Rattle.callgraph.proofs.FlagsClosed.{Growing, growing-turn, growing-less, left}
+use Rattle.callgraph.proofs.CallsByKey.{keys-of}
+use Rattle.roots.proofs.RootsOccur.{LiveAt, RootsRules, Started, started, live-obeys, live-start, live-flagged}
 use borrow.Author.Needs.{needs}
 use native.Mathlib.Omega.{arith}
 use mathlib.Core.Path.{_≡_, refl, sym, _∙_}

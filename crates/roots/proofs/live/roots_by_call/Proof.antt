@@ -3,7 +3,7 @@
 use Rattle.reach.specs.Sizes.{nodeSpan}
 use Rattle.reach.proofs.Numbers.{parts-root, parts-state}
 use Rattle.roots.specs.Parts.{copyRoot}
-use Rattle.callgraph.proofs.Growth.{Turning, turning-start, turning-turn, turning-end}
+use Rattle.callgraph.proofs.FlagsClosed.{Turning, turning-start, turning-turn, turning-end}
 use borrow.Author.Needs.{needs}
 use native.Mathlib.Omega.{arith}
 use Prim.Native.Nat.{_-_}

@@ -1,7 +1,7 @@
 -- `roots::live::roots_by_edge` meets its contract.
 use mathlib.Core.Path.{sym, _∙_}
 use borrow.Author.Needs.{needs}
-use Rattle.roots.proofs.Occurring.{call-roots, no-call-roots}
+use Rattle.roots.proofs.RootsOccur.{call-roots, no-call-roots}
 use Rattle.roots.proofs.live.roots_by_edge.Statement.{statement}
 use Rattle.roots.proofs.live.roots_by_edge.Tie as tie
 

@@ -2,7 +2,7 @@
 -- the whole.
 use Rattle.program.specs.Decoded.{edgeOf}
 use Rattle.roots.specs.Parts.{rootsByEdge}
-use Rattle.callgraph.proofs.Growth.{Turning, turning-start, turning-turn, turning-end}
+use Rattle.callgraph.proofs.FlagsClosed.{Turning, turning-start, turning-turn, turning-end}
 use borrow.Author.Needs.{needs}
 use native.Mathlib.Omega.{arith}
 use Prim.Native.Nat.{_-_}

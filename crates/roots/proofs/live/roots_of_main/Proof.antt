@@ -2,7 +2,7 @@
 -- the whole.
 use Rattle.automaton.specs.Sizes.{maxStates}
 use Rattle.reach.specs.Configurations.{rootPlace}
-use Rattle.callgraph.proofs.Growth.{Turning, turning-start, turning-turn, turning-end}
+use Rattle.callgraph.proofs.FlagsClosed.{Turning, turning-start, turning-turn, turning-end}
 use borrow.Author.Needs.{needs}
 use native.Mathlib.Omega.{arith}
 use Prim.Native.Nat.{_-_}

@@ -1,7 +1,7 @@
 -- `worklist::exits::summaries_of` meets its contract. The loop's invariant: the flags below `i` are the exits' bytes.
 use Rattle.reach.specs.Sizes.{summariesSize}
 use Rattle.reach.specs.Configurations.{exitAt}
-use Rattle.base.proofs.Filling.{Filling, filling-none, filling-more, filling-all}
+use Rattle.base.proofs.BytesFilled.{Filling, filling-none, filling-more, filling-all}
 use Prim.Native.Nat.{ℕ, _-_}
 use borrow.Author.Needs.{needs}
 use native.Mathlib.Omega.{arith}

@@ -1,8 +1,8 @@
 -- `worklist::part::await_between` meets its contract. The loop's invariant: the bytes below `i` are written, the others are 0.
 use Rattle.program.specs.Sizes.{marksSize}
 use Rattle.worklist.specs.Parts.{firstPending}
-use Rattle.base.proofs.Filling.{Filling, filling-more}
-use Rattle.worklist.proofs.Awaited.{pending-inside, await-start, await-end}
+use Rattle.base.proofs.BytesFilled.{Filling, filling-more}
+use Rattle.worklist.proofs.PartAwaited.{pending-inside, await-start, await-end}
 use borrow.Author.Needs.{needs}
 use native.Mathlib.Omega.{arith}
 use Prim.Native.Nat.{ℕ, _≤_, _-_}

@@ -1,5 +1,5 @@
 -- `worklist::part::follow_part` meets its contract: following starts from these marks, so it ends with what follows from them.
-use Rattle.worklist.proofs.Awaited.{none-under, part-ends, part-shows, part-clear}
+use Rattle.worklist.proofs.PartAwaited.{none-under, part-ends, part-shows, part-clear}
 use native.Mathlib.Omega.{arith}
 use borrow.Author.Needs.{needs}
 use Rattle.worklist.proofs.part.follow_part.Statement.{statement}

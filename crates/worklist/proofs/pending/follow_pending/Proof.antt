@@ -1,6 +1,6 @@
 -- `worklist::pending::follow_pending` meets its contract. The loop's invariant: the bytes are on the way to the result.
 use Rattle.reach.specs.Sizes.{enoughIterations}
-use Rattle.worklist.proofs.Following.{Going, going-start, not-used-up, going-turn, going-end}
+use Rattle.worklist.proofs.LoopFollows.{Going, going-start, not-used-up, going-turn, going-end}
 use native.Mathlib.Omega.{arith}
 use mathlib.Core.Path.{sym, _∙_}
 use Prim.Native.Nat.{_-_, _<_}

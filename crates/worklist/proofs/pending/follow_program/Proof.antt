@@ -3,7 +3,7 @@ use Rattle.automaton.specs.Sizes.{nextStatesSize}
 use Rattle.program.specs.Sizes.{maxEdges}
 use Rattle.program.specs.Decoded.{programOf}
 use Rattle.worklist.specs.Parts.{Ends}
-use Rattle.worklist.proofs.Slice.{table-edges}
+use Rattle.worklist.proofs.RoutinePart.{table-edges}
 use lib.ListN.{length}
 use native.Mathlib.Omega.{arith}
 use mathlib.Core.Path.{_≡_}

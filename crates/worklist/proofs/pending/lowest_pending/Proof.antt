@@ -1,6 +1,6 @@
 -- `worklist::pending::lowest_pending` meets its contract. The loop's invariant: nothing below `i` is pending.
 use Rattle.program.specs.Sizes.{marksSize}
-use Rattle.worklist.proofs.Lowest.{is-lowest, none-lowest, none-here}
+use Rattle.worklist.proofs.LowestFound.{is-lowest, none-lowest, none-here}
 use Rattle.marking.specs.Parts.{NoneBelow}
 use native.Mathlib.Omega.{arith}
 use Prim.Native.Nat.{_-_}

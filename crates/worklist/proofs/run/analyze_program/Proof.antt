@@ -1,5 +1,5 @@
 -- `worklist::run::analyze_program` meets its contract: what is followed is the opened worklist.
-use Rattle.worklist.proofs.Begun.{none-yet, start-shape, comes-to-an-end, analyzed}
+use Rattle.worklist.proofs.AnalysisBegun.{none-yet, start-shape, comes-to-an-end, analyzed}
 use Rattle.program.specs.Decoded.{programOf}
 use borrow.Author.Needs.{needs}
 use Rattle.worklist.proofs.run.analyze_program.Statement.{statement}

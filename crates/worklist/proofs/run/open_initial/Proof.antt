@@ -2,8 +2,8 @@
 use Rattle.automaton.specs.Sizes.{maxStates}
 use Rattle.reach.specs.Configurations.{number}
 use Rattle.reach.specs.Worklist.{mark as marked}
-use Rattle.marking.proofs.Steps.{Looping, loop-start, loop-turn, loop-end}
-use Rattle.worklist.proofs.Begun.{all-opened, take-min}
+use Rattle.marking.proofs.StepsMark.{Looping, loop-start, loop-turn, loop-end}
+use Rattle.worklist.proofs.AnalysisBegun.{all-opened, take-min}
 use lib.ListN.{length, getD}
 use native.Mathlib.Omega.{arith}
 use mathlib.Core.Path.{_≡_, sym, _∙_}

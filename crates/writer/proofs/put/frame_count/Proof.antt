@@ -6,7 +6,7 @@ use borrow.Author.Needs.{needs}
 use Rattle.automaton.specs.Sizes.{maxStates, maxTransitions}
 use Rattle.program.specs.Sizes.{maxRoutines, maxEdges}
 use Rattle.program.specs.Writing.{framesOf}
-use Rattle.writer.proofs.Written.{nodes-long}
+use Rattle.writer.proofs.FramesPut.{nodes-long}
 use Rattle.writer.proofs.put.frame_count.Statement.{statement}
 use Rattle.writer.proofs.put.frame_count.Tie as tie
 

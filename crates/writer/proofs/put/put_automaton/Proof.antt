@@ -10,7 +10,7 @@ use Rattle.automaton.specs.Decoded.{statesOf, transitionKeysOf, automatonOf}
 use Rattle.program.specs.Frames.{transitionFrame, initialFrame, rejectingFrame}
 use Rattle.program.specs.Writing.{text}
 use Rattle.writer.specs.Parts.{keyFrame}
-use Rattle.writer.proofs.Written.{transition-frames, long-append, put-both}
+use Rattle.writer.proofs.FramesPut.{transition-frames, long-append, put-both}
 use Rattle.writer.proofs.put.put_automaton.Statement.{statement}
 use Rattle.writer.proofs.put.put_automaton.Tie as tie
 

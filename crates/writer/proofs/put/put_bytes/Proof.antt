@@ -4,7 +4,7 @@ use native.Mathlib.Omega.{arith}
 use lib.ListN.{take}
 use borrow.Author.Needs.{needs}
 use Rattle.writer.specs.Parts.{byteFrame, byteFrames}
-use Rattle.writer.proofs.Written.{PutSoFar, either, none-yet, room, more, all-put, same-long}
+use Rattle.writer.proofs.FramesPut.{PutSoFar, either, none-yet, room, more, all-put, same-long}
 use Rattle.writer.proofs.put.put_bytes.Statement.{statement}
 use Rattle.writer.proofs.put.put_bytes.Tie as tie
 

@@ -5,7 +5,7 @@ use native.Mathlib.Omega.{arith}
 use lib.ListN.{take}
 use borrow.Author.Needs.{needs}
 use Rattle.writer.specs.Parts.{keyFrame}
-use Rattle.writer.proofs.Written.{PutSoFar, mapped, none-yet, room, more, all-put, same-long, key-short}
+use Rattle.writer.proofs.FramesPut.{PutSoFar, mapped, none-yet, room, more, all-put, same-long, key-short}
 use Rattle.writer.proofs.put.put_keys.Statement.{statement}
 use Rattle.writer.proofs.put.put_keys.Tie as tie
 

@@ -11,7 +11,7 @@ use Rattle.program.specs.Sizes.{maxRoutines}
 use Rattle.program.specs.Writing.{nodesFrames, text}
 use Rattle.program.specs.Decoded.{nodesOf, edgeKeysOf, programOf}
 use Rattle.writer.specs.Parts.{keyFrame, automatonFrames}
-use Rattle.writer.proofs.Written.{edge-frames, put-one, file-long, file-put}
+use Rattle.writer.proofs.FramesPut.{edge-frames, put-one, file-long, file-put}
 use Rattle.writer.proofs.put.write_program.Statement.{statement}
 use Rattle.writer.proofs.put.write_program.Tie as tie
 

@@ -1,0 +1,188 @@
+-- The turns as the code takes them: what it has at hand is what the mathematics asks for.
+use mathlib.Core.Path.{_≡_, refl, sym, ap, subst, _∙_}
+use mathlib.Core.Logic.{_⊎_, _↔_, _≢_}
+use mathlib.Core.List.{List}
+use Prim.Native.Nat.{ℕ, _+_, _/_, _%_, _≤_, _<_}
+use native.Mathlib.Omega.{arith}
+use lib.ListN.{length, getD, replicate, length-replicate}
+use Rattle.automaton.specs.Sizes.{maxStates}
+use Rattle.program.specs.Sizes.{maxRoutines, marksSize}
+use Rattle.program.specs.Program.{Program, calledBy}
+use Rattle.reach.specs.Configurations.{none-set}
+use Rattle.reach.specs.Reachable.{Reachable}
+use Rattle.reach.specs.Worklist.{summary}
+use Rattle.reach.specs.Marks.{Marked, Shows, freshMarks}
+use Rattle.base.proofs.SetFlags.{zeros}
+use Rattle.reach.proofs.ShapeKept.{marks-length}
+use Rattle.reach.proofs.AnalysisExact.{analysis-exact}
+use Rattle.worklist.specs.Parts.{Learnt}
+use Rattle.worklist.proofs.SummariesKnown.{exit-byte}
+use Rattle.callgraph.specs.Components.{Leads, Together, Anew, Reopened, Member}
+use Rattle.callgraph.specs.Parts.{LeadFlags, rankOf, Joined}
+use Rattle.roots.specs.Roots.{LiveMarked}
+use Rattle.roots.specs.Parts.{RootFlags}
+use Rattle.components.specs.Passes.{Passed}
+use Rattle.components.specs.PassParts.{Passable}
+use Rattle.components.specs.TurnParts.{DropOf, Ranks, turnOf, firstTurn, endTurn, Working, Turning, CallsDiffering, SomeDiffering}
+use Rattle.callgraph.proofs.ComponentsFromFlags.{called-small, rank-positive, rank-limited, rank-same, rank-less, dec-together}
+use Rattle.callgraph.proofs.CallsByKey.{edgeAt, KeysOf, key-step, step-key}
+use Rattle.roots.proofs.RootsOccur.{byte-tells}
+use Rattle.components.proofs.TurnsWork.{skipped, kept-turn, worked-turn}
+use Rattle.components.proofs.TurnsFinished.{pass-is, passable, reopened-is, first-turn, all-right, cut-fresh}
+
+-- ---- the edges that decide, by their keys
+
+module _ {p : Program} {members before marks keys : List ℕ} {count : ℕ} (o : KeysOf p keys count) where
+  pub differing-call : SomeDiffering members before marks keys count → CallsDiffering p members before marks
+  differing-call s =
+      let d = s .differing in
+      let e = edgeAt keys (s .at) in
+      record {
+        member = e .routine;
+        called = calledBy (e .label);
+        is-member = d .is-member;
+        calls = record { source = e .source; target = e .target; edge = key-step o (s .at) (s .below) (d .is-call) };
+        outside = d .outside;
+        differing = d .differing;
+      }
+
+  pub call-differing : CallsDiffering p members before marks → SomeDiffering members before marks keys count
+  call-differing c =
+      let z = step-key o (c .calls .edge) in
+      record {
+        at = z .place;
+        below = z .within;
+        differing = record {
+          is-member = rw (z .caller) at (c .is-member);
+          is-call = z .is-call;
+          small = rw (z .called) at (called-small p (o .well-formed) (c .calls));
+          outside = rw (z .called) at (c .outside);
+          differing = rw (z .called) at (c .differing);
+        };
+      }
+
+-- ---- the order of the components
+
+ranks : {p : Program} {leads : List ℕ} → LeadFlags (Leads p) leads → Ranks p (rankOf leads)
+ranks l =
+    record {
+      low = λ f hf. rank-positive l hf;
+      high = λ f hf. rank-limited l hf;
+      equal = λ f g hf hg t. rank-same l hf hg t;
+      lower = λ f g hf hg e n. rank-less l hf hg e n;
+      decides = λ f g hf hg. dec-together l hf hg;
+    }
+
+-- ---- a turn
+
+module _ {p p′ : Program} {edited i : ℕ} {leads roots before marks done reopened : List ℕ} (t : Turning p p′ edited leads roots before i marks done reopened) where
+  next : {marks′ done′ reopened′ : List ℕ} → Working p p′ edited (rankOf leads) (i + 1) marks′ done′ reopened′
+      → Turning p p′ edited leads roots before (i + 1) marks′ done′ reopened′
+  next w = record { drop = t .drop; graph = t .graph; old-roots = t .old-roots; old-summaries = t .old-summaries; working = w }
+
+  -- the routine whose turn it may be is done
+  pub done-skipped : getD done (i % maxRoutines) 0 ≢ 0 → Turning p p′ edited leads roots before (i + 1) marks done reopened
+  done-skipped m =
+      next (skipped (t .drop) (ranks (t .graph)) (t .working) (λ f hf e. let z : i % maxRoutines ≡ f = omega arith in subst (Member done) z m))
+
+  -- or has another rank
+  pub rank-skipped : {n : ℕ} → n ≡ rankOf leads (i % maxRoutines) → n ≢ i / maxRoutines → Turning p p′ edited leads roots before (i + 1) marks done reopened
+  rank-skipped e x =
+      next (skipped (t .drop) (ranks (t .graph)) (t .working) (λ f hf z.
+      let same : i % maxRoutines ≡ f = omega arith in
+      let rank : rankOf leads f ≡ i / maxRoutines = omega arith in
+      absurd (x (e ∙ ap (rankOf leads) same ∙ rank))))
+
+  -- it is the turn of this routine
+  module _ {n : ℕ} (e : n ≡ rankOf leads (i % maxRoutines)) (x : n ≡ i / maxRoutines) where
+    its-turn : turnOf (rankOf leads) (i % maxRoutines) ≡ i
+    its-turn = omega (arith, e, x)
+
+    pub at-turn : Turning p p′ edited leads roots before (turnOf (rankOf leads) (i % maxRoutines)) marks done reopened
+    at-turn = subst (λ (j : ℕ). Turning p p′ edited leads roots before j marks done reopened) (sym its-turn) t
+
+    pub from-turn : {marks′ done′ reopened′ : List ℕ} → Turning p p′ edited leads roots before (turnOf (rankOf leads) (i % maxRoutines) + 1) marks′ done′ reopened′
+        → Turning p p′ edited leads roots before (i + 1) marks′ done′ reopened′
+    from-turn {marks′} {done′} {reopened′} y = subst (λ (j : ℕ). Turning p p′ edited leads roots before (j + 1) marks′ done′ reopened′) its-turn y
+
+  -- after the last turn
+  pub turning-end : i ≤ endTurn → endTurn ≤ i → Turning p p′ edited leads roots before endTurn marks done reopened
+  turning-end a b = let e : i ≡ endTurn = omega arith in subst (λ (j : ℕ). Turning p p′ edited leads roots before j marks done reopened) e t
+
+-- ---- the turn of routine f, with its component
+
+module _ {p p′ : Program} {edited : ℕ} (f : ℕ) {leads roots before marks done reopened : List ℕ}
+    (t : Turning p p′ edited leads roots before (turnOf (rankOf leads) f) marks done reopened) (hf : f < maxRoutines) (waits : getD done f 0 ≡ 0)
+    {members : List ℕ} (len : length members ≡ maxRoutines) (is : (g : ℕ) → g < maxRoutines → (getD members g 0 ≢ 0) ↔ Together p′ f g) where
+  pub may-pass : Passable p′ members roots marks
+  may-pass = passable (t .drop) (ranks (t .graph)) (t .working) f hf refl (λ m. m waits) members len is roots (t .old-roots)
+
+  decides : (Member members edited ⊎ CallsDiffering p′ members before marks) ↔ Reopened p p′ edited f
+  decides = reopened-is (t .drop) (ranks (t .graph)) (t .working) f hf refl (λ m. m waits) members len is before (t .old-summaries)
+
+  pub component-kept : ¬ (Member members edited ⊎ CallsDiffering p′ members before marks) → {done′ : List ℕ} → Joined done members done′
+      → Turning p p′ edited leads roots before (turnOf (rankOf leads) f + 1) marks done′ reopened
+  component-kept n {done′} j =
+      next t (kept-turn (t .drop) (ranks (t .graph)) (t .working) f hf refl (λ m. m waits) members len is (λ o. n (decides .1 o)) done′ j)
+
+  pub component-worked : Member members edited ⊎ CallsDiffering p′ members before marks → {marks′ done′ reopened′ : List ℕ}
+      → Passed p′ members roots marks marks′ → Joined reopened members reopened′ → Joined done members done′
+      → Turning p p′ edited leads roots before (turnOf (rankOf leads) f + 1) marks′ done′ reopened′
+  component-worked o {marks′} {done′} {reopened′} s k j =
+      next t (worked-turn (t .drop) (ranks (t .graph)) (t .working) f hf refl (λ m. m waits) members len is (decides .0 o) marks′ done′ reopened′ j k
+      (s .marks-length) (s .marks-bits) inside (s .outside))
+    where
+      inside : (g n r q : ℕ) → Member members g → Marked marks′ g n r q ↔ Anew p p′ g n r q
+      inside g n r q m =
+          let a = s .inside g n r q m in
+          let b = pass-is (t .drop) (ranks (t .graph)) (t .working) f hf refl (λ m. m waits) members len is roots (t .old-roots) g n r q m in
+          (λ x. b .0 (a .0 x), λ x. a .1 (b .1 x))
+
+-- ---- before the first turn, and after the last
+
+pub fresh-length : (p : Program) {marks : List ℕ} → marks ≡ freshMarks p → length marks ≡ marksSize
+fresh-length p e = ap length e ∙ marks-length p
+
+pub all-cleared : {n : ℕ} {l : List ℕ} → n ≡ marksSize → l ≡ replicate n 0 → l ≡ none-set
+unfolding none-set
+all-cleared e z = z ∙ ap (λ (n : ℕ). replicate n 0) e
+
+exits-flagged : (marks : List ℕ) {flags : List ℕ} → Learnt marks flags
+    → (f x q : ℕ) → f < maxRoutines → x < maxStates → q < maxStates → (getD flags (summary f x q) 0 ≢ 0) ↔ Marked marks f 1 x q
+exits-flagged marks w f x q hf hx hq =
+    byte-tells marks (record { routine = hf; node = omega arith; root = hx; state = hq }) (exit-byte marks w f x q hf hx hq)
+
+module _ {p p′ : Program} {edited : ℕ} (h : DropOf p p′ edited) where
+  fresh-marked : {marks : List ℕ} → marks ≡ freshMarks p → (f n r q : ℕ) → Marked marks f n r q ↔ Reachable p f n r q
+  fresh-marked e f n r q = subst (λ (l : List ℕ). Marked l f n r q ↔ Reachable p f n r q) (sym e) (analysis-exact p (h .old-well-formed) f n r q)
+
+  pub turning-start : {leads roots before marks : List ℕ} → marks ≡ freshMarks p → LeadFlags (Leads p′) leads
+      → RootFlags (λ (f x : ℕ). Marked marks f 0 x x) roots
+      → Learnt marks before → Turning p p′ edited leads roots before firstTurn marks (replicate maxRoutines 0) (replicate maxRoutines 0)
+  turning-start {marks = marks} e l r b =
+      record {
+        drop = h;
+        graph = l;
+        old-roots = record {
+          len = r .len;
+          flagged = λ f x hf hx.
+              let y = r .flagged f x hf hx in
+              let z = fresh-marked e f 0 x x in
+              (λ o. z .0 (y .0 o), λ o. y .1 (z .1 o));
+        };
+        old-summaries = record {
+          len = b .len;
+          flagged = λ f x q hf hx hq.
+              let y = exits-flagged marks b f x q hf hx hq in
+              let z = fresh-marked e f 1 x q in
+              (λ o. z .0 (y .0 o), λ o. y .1 (z .1 o));
+        };
+        working = rw e (first-turn h (ranks l) (replicate maxRoutines 0) (replicate maxRoutines 0) (length-replicate {A = ℕ} maxRoutines 0) (length-replicate {A = ℕ} maxRoutines 0) (zeros maxRoutines) (zeros maxRoutines));
+      }
+
+module _ {p p′ : Program} {edited : ℕ} {leads roots before marks done reopened : List ℕ} (t : Turning p p′ edited leads roots before endTurn marks done reopened) where
+  pub turning-marks : {marks′ : List ℕ} → Shows (LiveMarked p′ marks) marks′ → marks′ ≡ freshMarks p′
+  turning-marks {marks′} s = cut-fresh (t .drop) (ranks (t .graph)) (t .working) marks′ s
+
+  pub turning-reopened : (f : ℕ) → f < maxRoutines → Member reopened f ↔ Reopened p p′ edited f
+  turning-reopened f hf = all-right (t .drop) (ranks (t .graph)) (t .working) f hf

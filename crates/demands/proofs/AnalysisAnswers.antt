@@ -1,0 +1,162 @@
+-- A full analysis that is not refused: its marks, its counts, its iterations; and the next violation.
+use mathlib.Core.Path.{_≡_, refl, sym, ap, subst, _∙_}
+use mathlib.Core.Logic.{_↔_}
+use mathlib.Core.Bool.{Bool, true, false}
+use mathlib.Core.Option.{Option, none, some}
+use mathlib.Core.List.{List, [], _∷_, List·Memᴰ, List·Memᴰ·head, List·Memᴰ·not-nil}
+use Prim.Native.Nat.{ℕ}
+use native.Mathlib.Omega.{arith}
+use lib.ListN.{length, getD}
+use Rattle.automaton.specs.Automaton.{isRejecting}
+use Rattle.program.specs.Program.{Program}
+use Rattle.program.specs.WellFormed.{WellFormed}
+use Rattle.program.specs.declared.Verdict.{Verdict}
+use Rattle.program.specs.declared.Verdict.the-variants.{Accepted, Refused}
+use Rattle.program.specs.declared.Length.the-variants.{NotAsked, Of}
+use Rattle.program.proofs.ChecksPassed.{passes, few-checks}
+use Rattle.reach.specs.Configurations.{InRange, number, stateOf}
+use Rattle.reach.specs.Runs.{Activation, Run, Occurs}
+use Rattle.reach.specs.Worklist.{analysis}
+use Rattle.reach.specs.Marks.{Shows, freshMarks, violations, firstFrom}
+use Rattle.base.specs.Flags.{countSet}
+use Rattle.reach.specs.Violations.{Violation, First, nowhere, at}
+use Rattle.reach.proofs.Numbers.{routine-of, node-of, root-of, state-of, number-fits}
+use Rattle.reach.proofs.TakingsBounded.{iterations-taken, most-times}
+use Rattle.reach.proofs.AnalysisExact.{pending-clear}
+use Rattle.reach.proofs.MarksShown.{every-byte, fresh-shows, occurs-in-range}
+use Rattle.reach.proofs.ViolationsExact.{listed-iff, next-violation, violations-ascend}
+use Rattle.analysis.specs.Answers.{checkedMarks, analyzeBy, analyzeAnswer, analyzeRefusal, configurationCount, violationCount, iterationCount, onSuccess, marksAfter, owned, foundOf, foundBy, nextBy, nextAnswer, nextRefusal, nextFound}
+use Rattle.analysis.specs.declared.NextAnswer.{NextAnswer}
+use Rattle.analysis.proofs.AnswersByChecks.{by-marks}
+use Rattle.desk.specs.Entries.{Entry, analyze, next-violation as next-entry, Lent, Values, counts, Back, programIn, Gives}
+use Rattle.demands.specs.Demands.{Demand2, Safe, Next, least, nothing, Procedure}
+use Rattle.demands.proofs.RefusalsReturned.{both-ways}
+
+-- a call whose checks are passed has a well-formed program
+checked-well-formed : (b : Lent) → checkedMarks (b .file) (b .marks) (b .work) ≡ Accepted → WellFormed (programIn b)
+checked-well-formed b e = passes (b .file) (Of (length (b .marks))) NotAsked (Of (length (b .work))) e .well-formed
+
+-- and a refusal has a number
+not-none : (b : Lent) {n line : ℕ} {A : Type 0} → checkedMarks (b .file) (b .marks) (b .work) ≡ Refused n line → n ≡ 0 → A
+not-none b e z = absurd (omega (arith, few-checks (b .file) (Of (length (b .marks))) NotAsked (Of (length (b .work))) e))
+
+-- ---- what is given back
+
+abbrev numbersBy : Verdict → Program → Values
+numbersBy v p = counts (configurationCount (analyzeBy v p)) (violationCount (analyzeBy v p)) (iterationCount (analyzeBy v p))
+
+record Analyzed (b : Lent) (a : Back) : Type 0 where
+  well-formed : WellFormed (programIn b)
+  marks : a .marks ≡ freshMarks (programIn b)
+  values : a .values ≡ counts (countSet (freshMarks (programIn b))) (length (violations (programIn b))) (analysis (programIn b) .iterations)
+
+analyzed : (b : Lent) (a : Back) → Gives analyze b a → a .refusal ≡ 0 → Analyzed b a
+unfolding analyzeAnswer marksAfter
+analyzed b a g z =
+    go (checkedMarks (b .file) (b .marks) (b .work)) refl
+    (ap (λ (x : Back). x .values) g) (ap (λ (x : Back). x .marks) g) (sym (ap (λ (x : Back). x .refusal) g) ∙ z)
+  where
+    go : (v : Verdict) → checkedMarks (b .file) (b .marks) (b .work) ≡ v → a .values ≡ numbersBy v (programIn b)
+        → a .marks ≡ onSuccess v (freshMarks (programIn b)) (b .marks) → analyzeRefusal (analyzeBy v (programIn b)) ≡ 0 → Analyzed b a
+    go Accepted e n m y = record { well-formed = checked-well-formed b e; marks = m; values = n }
+    go (Refused n line) e i m y = not-none b e y
+
+-- ---- demand 2
+
+pub analyzed-exact : (b : Lent) (a : Back) → Gives analyze b a → a .refusal ≡ 0 → Demand2 (programIn b) a
+analyzed-exact b a g z =
+    let x = analyzed b a g z in
+    let p = programIn b in
+    let s = subst (Shows (Occurs p)) (sym (x .marks)) (fresh-shows p (x .well-formed)) in
+    record {
+      bytes = s .len;
+      marked = s .shown;
+      numbered = occurs-in-range p (x .well-formed);
+      others = every-byte s;
+      configurations = ap (λ (v : Values). v .configurations) (x .values) ∙ ap countSet (sym (x .marks));
+      violation-count = ap (λ (v : Values). v .violations) (x .values);
+      violating = listed-iff (fresh-shows p (x .well-formed));
+      ascending = violations-ascend p (freshMarks p) 0;
+    }
+
+-- ---- no violation, and no run into a rejecting state
+
+module _ (p : Program) (w : WellFormed p) where
+  listed : (i : ℕ) → List·Memᴰ i (violations p) ↔ Violation p i
+  listed = listed-iff (fresh-shows p w)
+
+  -- a run into a rejecting state is a violation
+  violates : {f n r q : ℕ} → Occurs p f n r q → isRejecting (p .automaton) q ≡ true → Violation p (number f n r q)
+  violates {f} {n} {r} {q} o h =
+      let i = occurs-in-range p w o in
+      record {
+        inside = number-fits i;
+        occurs = rw (routine-of i, node-of i, root-of i, state-of i) o;
+        rejects = rw (state-of i) h;
+      }
+
+  none-safe : length (violations p) ≡ 0 → Safe p
+  none-safe e f n r q below run = go (isRejecting (p .automaton) q) refl
+    where
+      empty : (vs : List ℕ) → length vs ≡ 0 → {i : ℕ} → List·Memᴰ i vs → ⊥
+      empty [] h m = List·Memᴰ·not-nil m
+      empty (v ∷ vs) h m = absurd (omega arith)
+
+      go : (t : Bool) → isRejecting (p .automaton) q ≡ t → isRejecting (p .automaton) q ≡ false
+      go true h = absurd (empty (violations p) e (listed (number f n r q) .1 (violates (record { below = below; run = run }) h)))
+      go false h = h
+
+  safe-none : Safe p → length (violations p) ≡ 0
+  safe-none s = go (violations p) (λ i m. listed i .0 m)
+    where
+      go : (vs : List ℕ) → ((i : ℕ) → List·Memᴰ i vs → Violation p i) → length vs ≡ 0
+      go [] k = refl
+      go (v ∷ vs) k =
+          let x = k v (List·Memᴰ·head refl) in
+          let no = s _ _ _ _ (x .occurs .below) (x .occurs .run) in
+          absurd (both-ways (sym no ∙ x .rejects))
+
+pub count-safe : (b : Lent) (a : Back) → Gives analyze b a → a .refusal ≡ 0 → (a .values .violations ≡ 0) ↔ Safe (programIn b)
+count-safe b a g z =
+    let x = analyzed b a g z in
+    let n = ap (λ (v : Values). v .violations) (x .values) in
+    (λ h. none-safe (programIn b) (x .well-formed) (sym n ∙ h), λ s. n ∙ safe-none (programIn b) (x .well-formed) s)
+
+-- ---- the procedure
+
+pub procedure-ends : (b : Lent) (a : Back) → Gives analyze b a → a .refusal ≡ 0 → Procedure (programIn b) a
+procedure-ends b a g z =
+    let x = analyzed b a g z in
+    record {
+      ends = pending-clear (programIn b) (x .well-formed);
+      iterations = ap (λ (v : Values). v .iterations) (x .values) ∙ iterations-taken (programIn b);
+      at-most = most-times (programIn b) (x .well-formed);
+    }
+
+-- ---- the next violation
+
+pub next-given : (b : Lent) (a : Back) → Gives next-entry b a → a .refusal ≡ 0 → Next (programIn b) (b .from) (a .values .found)
+unfolding nextAnswer
+next-given b a g z =
+    subst (Next (programIn b) (b .from)) (sym (ap (λ (x : Back). x .values .found) g))
+    (go (checkedMarks (b .file) (b .marks) (b .work)) refl (sym (ap (λ (x : Back). x .refusal) g) ∙ z))
+  where
+    p : Program
+    p = programIn b
+
+    found : (o : Option ℕ) → First (Violation p) (b .from) o → Next p (b .from) (nextFound (foundOf o))
+    found none (nowhere h) = nothing h
+    found (some i) (at x h y) = least x h y
+
+    by : Verdict → NextAnswer
+    by v = foundBy v (firstFrom (b .from) (violations p))
+
+    own : WellFormed p → nextRefusal (by (owned p (b .marks))) ≡ 0 → Next p (b .from) (nextFound (by (owned p (b .marks))))
+    own w =
+        by-marks p (b .marks) (λ v. nextRefusal (by v) ≡ 0 → Next p (b .from) (nextFound (by v)))
+        (λ t y. found (firstFrom (b .from) (violations p)) (next-violation (fresh-shows p w) (b .from))) (λ t y. absurd (omega arith))
+
+    go : (v : Verdict) → checkedMarks (b .file) (b .marks) (b .work) ≡ v → nextRefusal (nextBy v p (b .marks) (b .from)) ≡ 0
+        → Next p (b .from) (nextFound (nextBy v p (b .marks) (b .from)))
+    go Accepted e y = own (checked-well-formed b e) y
+    go (Refused n line) e y = not-none b e y

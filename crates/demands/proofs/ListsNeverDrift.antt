@@ -1,0 +1,192 @@
+-- A list of repair calls never drifts from the reference model: one call, and then the whole list.
+use mathlib.Core.Path.{_≡_, refl, sym, ap, subst, _∙_}
+use mathlib.Core.Bool.{Bool, true, false, cond}
+use mathlib.Core.List.{List, [], _∷_, map}
+use Prim.Native.Nat.{ℕ}
+use native.Mathlib.Omega.{arith}
+use lib.Dec.{eqb}
+use lib.ListN.{length, drop}
+use lib.Seq.{take-append-seam}
+use borrow.Author.Tests.{ne-eqb}
+use Rattle.program.specs.Program.{Program}
+use Rattle.program.specs.WellFormed.{WellFormed}
+use Rattle.program.specs.Reading.{Outcome, accepted, readFile}
+use Rattle.program.specs.Checks.{firstMet, bufferRows, checked}
+use Rattle.program.specs.Writing.{written}
+use Rattle.program.specs.declared.Verdict.the-variants as verdict
+use Rattle.program.specs.declared.Length.the-variants.{NotAsked, Of}
+use Rattle.program.proofs.Theorems.{accepted-well-formed}
+use Rattle.reach.specs.Marks.{freshMarks}
+use Rattle.reach.proofs.ShapeKept.{marks-length}
+use Rattle.analysis.specs.Answers.{same}
+use Rattle.analysis.proofs.AnswersByChecks.{same-self, own-accepted}
+use Rattle.edit.specs.Editing.{withEdges, editedProgram, wantedEdit, Applies}
+use Rattle.edit.specs.declared.Edit.{Edit}
+use Rattle.edit.specs.declared.EditRead.{EditRead}
+use Rattle.edit.specs.declared.EditRead.the-variants as read
+use Rattle.edit.proofs.Theorems.{wanted-applies, applied-well-formed, edited-read}
+use Rattle.repair.specs.Repairs.{untouched, repairedTo, wantedBy, repairedBy, repaired}
+use Rattle.repair.specs.Desk.{Desk, started}
+use Rattle.repair.specs.Reanalyzed.{insideOutNumber}
+use Rattle.repair.proofs.EditRefusalNumbers.{wanted-number}
+use Rattle.desk.specs.Entries.{Back, repairBack, Gives}
+use Rattle.demands.specs.Book.{bookEdges, bookRefusal, bookEdited, unlessRefused, bookAfter, bookProgram, editReadRefusal}
+use Rattle.demands.specs.Lists.{Repair, forward, inside-out, Call, entry, lentTo, after, Gave, Seen, seen, foreseen, bookCall, bookRefuses, bookPlayed, RoutinesBy, BookRoutines, editOf, LeavesOthers, BookLeaves}
+use Rattle.demands.specs.Demands.{Demand3}
+use Rattle.demands.proofs.BookSorted.{book-well-formed, wanted-sorted, booked}
+use Rattle.demands.proofs.LocalChange.{local-change}
+
+-- the desk has a file that is read as the model's program, and the marks of that program
+record Agrees (d : Desk) (b : Program) : Type 0 where
+  file : readFile (d .file) ≡ accepted (bookProgram b)
+  marks : d .marks ≡ freshMarks (bookProgram b)
+  well-formed : WellFormed (bookProgram b)
+
+-- they do at the start
+agreed : (file : List ℕ) → readFile file .verdict ≡ verdict.Accepted → Agrees (started file) (readFile file .program)
+agreed file h =
+    let w = accepted-well-formed file h in
+    let e = book-well-formed (readFile file .program) w in
+    record {
+      file = (λ i. record { verdict = h i; program = readFile file .program }) ∙ ap accepted (sym e);
+      marks = ap freshMarks (sym e);
+      well-formed = subst WellFormed (sym e) w;
+    }
+
+-- ---- one call
+
+-- what is seen of a call and what the model says, and they agree again
+record Step (d : Desk) (a : Back) (n : ℕ) (b′ : Program) : Type 0 where
+  same-seen : seen a ≡ foreseen n (bookProgram b′)
+  again : Agrees (after d a) b′
+
+module _ (d : Desk) (b : Program) (g : Agrees d b) (k : ℕ) where
+  abbrev p : Program
+  p = bookProgram b
+
+  -- a refusal before 17 leaves both as they were
+  stays : (n line : ℕ) (output work : List ℕ) → eqb n 0 ≡ false → Step d (repairBack (untouched n line (d .marks) output work) k) n b
+  stays n line output work h =
+      record {
+        same-seen = rw (h, g .marks);
+        again = record { file = rw h (g .file); marks = g .marks; well-formed = g .well-formed };
+      }
+
+  -- an accepted call leaves the edited program's marks and file
+  goes : (e : Edit) (output : List ℕ) → Applies e p → Step d (repairBack (repairedTo (editedProgram e p) output) k) 0 (withEdges b (bookEdges e (b .edges)))
+  goes e output h =
+      let q = editedProgram e p in
+      let x : bookProgram (withEdges b (bookEdges e (b .edges))) ≡ q = booked b e in
+      let w = take-append-seam (written q) (drop (length (written q)) output) in
+      record {
+        same-seen = rw (x, w);
+        again = record { file = rw (x, w) (edited-read e p (g .well-formed) h); marks = rw x; well-formed = rw x (applied-well-formed e p (g .well-formed) h) };
+      }
+
+  wanted : (w : EditRead) (line output work : List ℕ) → wantedEdit p line ≡ w
+      → Step d (repairBack (wantedBy w p (d .marks) output work) k) (editReadRefusal w) (bookEdited w b)
+  wanted (read.Read e) line output work h =
+      let t : same (d .marks) (freshMarks p) ≡ true =
+      subst (λ (l : List ℕ). same l (freshMarks (bookProgram b)) ≡ true) (sym (g .marks)) (same-self (freshMarks (bookProgram b))) in
+      rw (← own-accepted p (d .marks) t) (goes e output (wanted-applies p line e h))
+  wanted (read.Refused n) line output work h = stays n 0 output work (ne-eqb n 0 (λ z. absurd (omega (arith, wanted-number p line n h))))
+
+  zero-when : (w : EditRead) (line : List ℕ) → wantedEdit p line ≡ w → unlessRefused (editReadRefusal w) (bookEdited w b) b ≡ bookEdited w b
+  zero-when (read.Read e) line h = refl
+  zero-when (read.Refused n) line h = rw (ne-eqb n 0 (λ z. absurd (omega (arith, wanted-number p line n h))))
+
+  one-call : (c : Call) → Step d (repairBack (repaired (d .file) (d .marks) (c .line) (c .output) (c .work)) k) (bookRefuses b c) (bookCall b c)
+  unfolding repaired checked bookRefusal bookAfter
+  one-call c = rw (g .file, m) (go lengths (eqb lengths 0) refl (wantedEdit b (c .line)) (wanted-sorted b (c .line)))
+    where
+      m : length (d .marks) ≡ 16384
+      m = ap length (g .marks) ∙ marks-length (bookProgram b)
+
+      -- what the lengths of output and working buffer meet
+      lengths : ℕ
+      lengths = firstMet (bufferRows NotAsked (Of (length (c .output))) (Of (length (c .work))))
+
+      go : (n : ℕ) (t : Bool) → eqb n 0 ≡ t → (w : EditRead) → wantedEdit p (c .line) ≡ w
+          → Step d (repairBack (repairedBy (cond t verdict.Accepted (verdict.Refused n 0)) p (d .marks) (c .line) (c .output) (c .work)) k)
+          (cond t (editReadRefusal w) n)
+          (unlessRefused (cond t (editReadRefusal w) n) (bookEdited w b) b)
+      go n true e w h = rw (h, zero-when w (c .line) h) (wanted w (c .line) (c .output) (c .work) h)
+      go n false e w h = rw e (stays n 0 (c .output) (c .work) e)
+
+-- ---- one call, by what its function promises
+
+-- both repairs give back what `repaired` says, but for the reanalyzed routines
+given : (r : Repair) (d : Desk) (c : Call) (a : Back) → Gives (entry r) (lentTo d c) a
+    → a ≡ repairBack (repaired (d .file) (d .marks) (c .line) (c .output) (c .work)) (a .values .reanalyzed)
+given forward d c a x = x ∙ ap (repairBack (repaired (d .file) (d .marks) (c .line) (c .output) (c .work))) (sym (ap (λ (y : Back). y .values .reanalyzed) x))
+given inside-out d c a x = x .0
+
+module _ (d : Desk) (b : Program) (g : Agrees d b) (c : Call) (a : Back) (x : Gives (entry (c .repair)) (lentTo d c) a) where
+  step : Step d a (bookRefuses b c) (bookCall b c)
+  step =
+      subst (λ (y : Back). Step d y (bookRefuses b c) (bookCall b c)) (sym (given (c .repair) d c a x)) (one-call d b g (a .values .reanalyzed) c)
+
+  -- the routines by the file's program are those by the model's
+  by-model : insideOutNumber (eqb (a .refusal) 0) (wantedEdit (readFile (d .file) .program) (c .line)) (readFile (d .file) .program) (a .values .reanalyzed)
+      → insideOutNumber (eqb (bookRefuses b c) 0) (wantedEdit b (c .line)) (bookProgram b) (a .values .reanalyzed)
+  by-model y =
+      let n = a .values .reanalyzed in
+      let z = subst (λ (t : ℕ). insideOutNumber (eqb t 0) (wantedEdit (readFile (d .file) .program) (c .line)) (readFile (d .file) .program) n) (ap (λ (s : Seen). s .refused) (step .same-seen)) y in
+      let w = subst (λ (o : Outcome). insideOutNumber (eqb (bookRefuses b c) 0) (wantedEdit (o .program) (c .line)) (o .program) n) (g .file) z in
+      subst (λ (e : EditRead). insideOutNumber (eqb (bookRefuses b c) 0) e (bookProgram b) n) (wanted-sorted b (c .line)) w
+
+  routines : RoutinesBy (c .repair) (bookRefuses b c) b (c .line) (a .values .reanalyzed)
+  routines = go (c .repair) x
+    where
+      go : (r : Repair) → Gives (entry r) (lentTo d c) a → RoutinesBy r (bookRefuses b c) b (c .line) (a .values .reanalyzed)
+      go forward y = ap (λ (z : Back). z .values .reanalyzed) y
+      go inside-out y = by-model (y .1)
+
+-- ---- the whole list
+
+never-drifts : (cs : List Call) (gs : List Back) (d : Desk) (b : Program) → Agrees d b → Gave cs gs d → map seen gs ≡ bookPlayed cs b
+unfolding Gave bookPlayed
+never-drifts [] [] d b g x = refl
+never-drifts [] (a ∷ gs) d b g x = absurd x
+never-drifts (c ∷ cs) [] d b g x = absurd x
+never-drifts (c ∷ cs) (a ∷ gs) d b g x =
+    let s = step d b g c a (x .0) in
+    λ i. s .same-seen i ∷ never-drifts cs gs (after d a) (bookCall b c) (s .again) (x .1) i
+
+routines-right : (cs : List Call) (gs : List Back) (d : Desk) (b : Program) → Agrees d b → Gave cs gs d → BookRoutines cs gs b
+unfolding Gave BookRoutines
+routines-right [] [] d b g x = tt
+routines-right [] (a ∷ gs) d b g x = x
+routines-right (c ∷ cs) [] d b g x = x
+routines-right (c ∷ cs) (a ∷ gs) d b g x =
+    (routines d b g c a (x .0), routines-right cs gs (after d a) (bookCall b c) (step d b g c a (x .0) .again) (x .1))
+
+-- ---- what edits leave alone
+
+one-leaves : (b : Program) (c : Call) → LeavesOthers (editOf (bookRefuses b c) (wantedEdit b (c .line))) (bookProgram b) (bookProgram (bookCall b c))
+unfolding bookAfter
+one-leaves b c = go (eqb (bookRefuses b c) 0) (wantedEdit b (c .line))
+  where
+    go : (t : Bool) (w : EditRead) → LeavesOthers (cond t w (read.Refused (bookRefuses b c))) (bookProgram b) (bookProgram (cond t (bookEdited w b) b))
+    go false w = tt
+    go true (read.Refused n) = tt
+    go true (read.Read e) =
+        let k = booked b e in
+        subst (λ (q : Program). LeavesOthers (read.Read e) (bookProgram b) q) (sym k) (λ x g n r q ne. local-change e (bookProgram b) x ne)
+
+leaves-others : (cs : List Call) (b : Program) → BookLeaves cs b
+unfolding BookLeaves
+leaves-others [] b = tt
+leaves-others (c ∷ cs) b = (one-leaves b c, leaves-others cs (bookCall b c))
+
+-- ---- demand 3
+
+pub list-demanded : (file : List ℕ) → readFile file .verdict ≡ verdict.Accepted → (cs : List Call) (gs : List Back) → Gave cs gs (started file) → Demand3 file cs gs
+list-demanded file h cs gs x =
+    let p = readFile file .program in
+    let g = agreed file h in
+    record {
+      seen = never-drifts cs gs (started file) p g x;
+      reanalyzed = routines-right cs gs (started file) p g x;
+      others = leaves-others cs p;
+    }

@@ -1,0 +1,87 @@
+-- What a function promises leaves nothing open: it allows one answer only.
+use Prim.Native.Nat.{ℕ, zero, suc, _+_, _*_, _/_, _%_, _^_, _<_}
+use mathlib.Core.Path.{_≡_, refl, sym, ap, subst, _∙_}
+use mathlib.Core.Logic.{_↔_}
+use mathlib.Core.Bool.{Bool, true, false}
+use mathlib.Core.List.{List}
+use native.Mathlib.Omega.{arith}
+use native.Mathlib.Nat.{pow-succ', div-div-eq-div-mul}
+use lib.Dec.{eqb}
+use Rattle.program.specs.Program.{Program}
+use Rattle.program.specs.declared.Verdict.{Verdict}
+use Rattle.program.specs.declared.Verdict.the-variants.{Accepted, Refused}
+use Rattle.reach.proofs.MarksShown.{one-list}
+use Rattle.analysis.specs.Answers.{checkedMarks, workAfter}
+use Rattle.prune.specs.Keeping.{Pruned}
+use Rattle.callgraph.specs.Components.{Bits}
+use Rattle.edit.specs.Editing.{wantedEdit}
+use Rattle.edit.specs.declared.EditRead.{EditRead}
+use Rattle.edit.specs.declared.EditRead.the-variants as read
+use Rattle.repair.specs.Reanalyzed.{insideOutNumber}
+use Rattle.repair.specs.Repairs.{repaired}
+use Rattle.desk.specs.Entries.{Entry, read as reads, write, analyze, next-violation, prune, repair-forward, repair-inside-out, Lent, Back, pruneBack, repairBack, programIn, Gives}
+
+-- ---- a set of routines has one number
+
+-- the same bits below w
+abbrev SameBits : ℕ → ℕ → ℕ → Type 0
+SameBits w n m = (f : ℕ) → f < w → (n / 2 ^ f % 2 ≡ 1) ↔ (m / 2 ^ f % 2 ≡ 1)
+
+-- a bit is 0 or 1
+bit-same : (x y : ℕ) → (x % 2 ≡ 1) ↔ (y % 2 ≡ 1) → x % 2 ≡ y % 2
+bit-same x y h = go (x % 2) (y % 2) (omega arith) (omega arith) (h .0) (h .1)
+  where
+    go : (a b : ℕ) → a < 2 → b < 2 → (a ≡ 1 → b ≡ 1) → (b ≡ 1 → a ≡ 1) → a ≡ b
+    go zero zero p q f g = refl
+    go zero (suc b) p q f g = let e : b ≡ 0 = omega arith in absurd (let z : _≡_ {A = ℕ} 0 1 = g (ap suc e) in omega arith)
+    go (suc a) zero p q f g = let e : a ≡ 0 = omega arith in absurd (let z : _≡_ {A = ℕ} 0 1 = f (ap suc e) in omega arith)
+    go (suc a) (suc b) p q f g = omega arith
+
+half-bit : (n f : ℕ) → n / 2 / 2 ^ f ≡ n / 2 ^ suc f
+half-bit n f = div-div-eq-div-mul n 2 (2 ^ f) ∙ ap (λ (x : ℕ). n / x) (sym (pow-succ' 2 f))
+
+same-number : (w n m : ℕ) → n < 2 ^ w → m < 2 ^ w → SameBits w n m → n ≡ m
+same-number zero n m a b h = omega arith
+same-number (suc w) n m a b h =
+    let e = pow-succ' 2 w in
+    let last : n % 2 ≡ m % 2 = bit-same n m (rw (div-one n, div-one m) at (h 0 (omega arith))) in
+    let rest : n / 2 ≡ m / 2 = same-number w (n / 2) (m / 2) (omega (arith, e, a)) (omega (arith, e, b)) (λ f l. rw (half-bit n f, half-bit m f) (h (suc f) (omega arith))) in
+    omega (arith, last, rest)
+  where
+    div-one : (k : ℕ) → k / 2 ^ 0 ≡ k
+    div-one k = omega arith
+
+pub one-number : {R : ℕ → Type 0} {n m : ℕ} → Bits R n → Bits R m → n ≡ m
+one-number {n = n} {m = m} x y =
+    same-number 16 n m (x .small) (y .small)
+    (λ f h. let a = x .bit f h in let b = y .bit f h in (λ e. b .1 (a .0 e), λ e. a .1 (b .0 e)))
+
+routines-once : (t : Bool) (w : EditRead) (p : Program) (n m : ℕ) → insideOutNumber t w p n → insideOutNumber t w p m → n ≡ m
+routines-once true (read.Read e) p n m x y = one-number x y
+routines-once true (read.Refused k) p n m x y = x ∙ sym y
+routines-once false w p n m x y = x ∙ sym y
+
+-- ---- marks that are pruned are fixed
+
+marks-once : (v : Verdict) (p : Program) (old l k : List ℕ) → Pruned v p old l → Pruned v p old k → l ≡ k
+marks-once Accepted p old l k x y = one-list x y
+marks-once (Refused n line) p old l k x y = x ∙ sym y
+
+-- ---- every function
+
+pub given-once : (e : Entry) (b : Lent) (a c : Back) → Gives e b a → Gives e b c → a ≡ c
+given-once reads b a c g h = g ∙ sym h
+given-once write b a c g h = g ∙ sym h
+given-once analyze b a c g h = g ∙ sym h
+given-once next-violation b a c g h = g ∙ sym h
+given-once prune b a c g h =
+    let v = checkedMarks (b .file) (b .marks) (b .work) in
+    g .0 ∙ ap (λ (l : List ℕ). pruneBack b v l (workAfter (b .file) (b .marks) (b .work))) (marks-once v (programIn b) (b .marks) (a .marks) (c .marks) (g .1) (h .1))
+    ∙ sym (h .0)
+given-once repair-forward b a c g h = g ∙ sym h
+given-once repair-inside-out b a c g h =
+    let r = repaired (b .file) (b .marks) (b .edit) (b .output) (b .work) in
+    let w = wantedEdit (programIn b) (b .edit) in
+    let same : a .refusal ≡ c .refusal = ap (λ (x : Back). x .refusal) (g .0) ∙ sym (ap (λ (x : Back). x .refusal) (h .0)) in
+    let n = subst (λ (k : ℕ). insideOutNumber (eqb k 0) w (programIn b) (a .values .reanalyzed)) same (g .1) in
+    g .0 ∙ ap (repairBack r) (routines-once (eqb (c .refusal) 0) w (programIn b) (a .values .reanalyzed) (c .values .reanalyzed) n (h .1)) ∙ sym (h .0)

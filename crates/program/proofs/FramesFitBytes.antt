@@ -1,0 +1,98 @@
+-- The numbers of a well-formed program's frames fit a byte.
+use mathlib.Core.Path.{_≡_, refl}
+use mathlib.Core.Bool.{Bool, true, false, _&&_, _||_}
+use mathlib.Core.List.{List, [], _∷_, _++_, map}
+use Prim.Native.Nat.{ℕ, _+_, _≤_, _<_}
+use native.Mathlib.Omega.{arith}
+use lib.Dec.{ltb, leb}
+use lib.ListN.{length, getD}
+use borrow.Author.Tests.{ltb-true}
+use Rattle.text.specs.Lines.{Bytes}
+use Rattle.automaton.specs.Automaton.{Transition}
+use Rattle.program.specs.Sizes.{maxFrames}
+use Rattle.program.specs.Program.{Edge, Program, within, placed, labelFits, edgeFits, transitionFits}
+use Rattle.program.specs.Frames.{edgeFrame, transitionFrame, initialFrame, rejectingFrame, endFrame}
+use Rattle.program.specs.WellFormed.{All, WellFormed}
+use Rattle.program.specs.Writing.{nodesFrames, framesOf}
+use Rattle.program.proofs.SectionsAscend.{all-at}
+use Rattle.program.proofs.LinesJudged.{at-most}
+use Rattle.base.proofs.Bools.{both}
+use Rattle.program.proofs.ProgramLimits.{Limits, length-frames, well-formed-limits}
+use Rattle.program.proofs.FilesAsFrames.{Frames}
+
+bytes-first : (f : List ℕ) (fs : List (List ℕ)) → Bytes f → Frames fs → Frames (f ∷ fs)
+unfolding Frames
+bytes-first f fs a b = (a, b)
+
+bytes-append : (fs gs : List (List ℕ)) → Frames fs → Frames gs → Frames (fs ++ gs)
+unfolding Frames
+bytes-append [] gs a b = b
+bytes-append (f ∷ fs) gs a b = (a .0, bytes-append fs gs (a .1) b)
+
+bytes-map : {A : Type 0} (frame : A → List ℕ) (fits : A → Bool) → ((x : A) → fits x ≡ true → Bytes (frame x)) → (xs : List A) → All fits xs → Frames (map frame xs)
+unfolding Frames All
+bytes-map frame fits h [] a = tt
+bytes-map frame fits h (x ∷ xs) a = (h x (a .0), bytes-map frame fits h xs (a .1))
+
+bytes-nodes : (f : ℕ) (ns : List ℕ) → f + length ns ≤ 16 → All (within 2 16) ns → Frames (nodesFrames f ns)
+unfolding Frames All nodesFrames
+bytes-nodes f [] h a = tt
+bytes-nodes f (n ∷ ns) h a = let z = at-most 2 16 n (a .0) in (omega arith, bytes-nodes (f + 1) ns (omega arith) (a .1))
+
+label-small : (r a x : ℕ) → labelFits r a x ≡ true → r ≤ 16 → a ≤ 32 → x < 80
+label-small r a x f h i = go (ltb x a) refl f
+  where
+    go : (t : Bool) → ltb x a ≡ t → t || (leb 0x40 x && ltb x (0x40 + r)) ≡ true → x < 80
+    go true e f = omega (arith, ltb-true x a e)
+    go false e f = omega (arith, ltb-true x (0x40 + r) (both (leb 0x40 x) _ f .1))
+
+module _ (p : Program) (w : WellFormed p) where
+  limit : Limits p
+  limit = well-formed-limits p w
+
+  nodes-small : (f : ℕ) → f < p .routines → getD (p .nodes) f 0 ≤ 16
+  nodes-small f h = at-most 2 16 (getD (p .nodes) f 0) (all-at (within 2 16) (p .nodes) f 0 (w .nodes-fit) (omega (arith, w .complete)))
+
+  pub edge-bytes : (e : Edge) → edgeFits p e ≡ true → Bytes (edgeFrame e)
+  edge-bytes e f =
+      let n = getD (p .nodes) (e .routine) 0 in
+      let a = both (ltb (e .routine) (p .routines) && placed n (e .source) (e .target)) _ f in
+      let b = both (ltb (e .routine) (p .routines)) _ (a .0) in
+      let c = both (ltb (e .source) n && ltb (e .target) n) _ (b .1) .0 in
+      let d = both (ltb (e .source) n) (ltb (e .target) n) c in
+      let r = ltb-true (e .routine) (p .routines) (b .0) in
+      omega (
+        arith,
+        limit,
+        nodes-small (e .routine) r,
+        ltb-true (e .source) n (d .0),
+        ltb-true (e .target) n (d .1),
+        label-small (p .routines) (p .automaton .actions) (e .label) (a .1) (limit .routines) (limit .actions),
+      )
+
+  pub transition-bytes : (t : Transition) → transitionFits (p .automaton) t ≡ true → Bytes (transitionFrame t)
+  transition-bytes t f =
+      let q = p .automaton .states in
+      let a = both (ltb (t .before) q && ltb (t .action) (p .automaton .actions)) (ltb (t .after) q) f in
+      let b = both (ltb (t .before) q) (ltb (t .action) (p .automaton .actions)) (a .0) in
+      omega (arith, limit, ltb-true (t .before) q (b .0), ltb-true (t .action) (p .automaton .actions) (b .1), ltb-true (t .after) q (a .1))
+
+  pub state-bytes : (b q : ℕ) → b < 256 → ltb q (p .automaton .states) ≡ true → Bytes (b ∷ q ∷ [])
+  state-bytes b q h f = omega (arith, limit, ltb-true q (p .automaton .states) f)
+
+  sections-bytes : Frames (framesOf p)
+  unfolding framesOf
+  sections-bytes =
+      let state : ℕ → Bool = λ q. ltb q (p .automaton .states) in
+      let nodes = bytes-nodes 0 (p .nodes) (omega (arith, limit)) (w .nodes-fit) in
+      let edges = bytes-map edgeFrame (edgeFits p) edge-bytes (p .edges) (w .edges-fit) in
+      let transitions = bytes-map transitionFrame (transitionFits (p .automaton)) transition-bytes (p .automaton .transitions) (w .transitions-fit) in
+      let initial = bytes-map initialFrame state (λ q. state-bytes 0x49 q (omega arith)) (p .automaton .initial) (w .initial-fit) in
+      let rejecting = bytes-map rejectingFrame state (λ q. state-bytes 0x46 q (omega arith)) (p .automaton .rejecting) (w .rejecting-fit) in
+      bytes-first _ _ (omega (arith, limit)) (bytes-append _ _ nodes (bytes-append _ _ edges (bytes-append _ _ transitions (bytes-append _ _ initial rejecting))))
+
+  pub all-bytes : Frames (framesOf p ++ endFrame (length (framesOf p)) ∷ [])
+  unfolding Frames
+  all-bytes =
+      let n : length (framesOf p) ≤ maxFrames = omega (arith, length-frames p, limit) in
+      bytes-append (framesOf p) _ sections-bytes (omega arith)

@@ -1,0 +1,121 @@
+-- The limits of a well-formed program, and the longest file.
+use mathlib.Core.Path.{_≡_, refl, ap}
+use mathlib.Core.Bool.{true, _&&_}
+use mathlib.Core.List.{List, [], _∷_, _++_, map, append-assoc}
+use Prim.Native.Nat.{ℕ, suc, _+_, _*_, _≤_}
+use native.Mathlib.Omega.{arith}
+use native.Mathlib.Nat.{suc-mul}
+use lib.Dec.{ltb}
+use lib.ListN.{length, length-append, length-map}
+use Rattle.text.specs.Hex.{hexLine}
+use Rattle.text.proofs.RoundTrip.{length-hex}
+use Rattle.program.specs.Program.{Program, within, countsFit}
+use Rattle.program.specs.Frames.{packed, keyOf, nodesFrame, edgeFrame, transitionFrame, initialFrame, rejectingFrame, initialKey, rejectingKey}
+use Rattle.program.specs.WellFormed.{All, WellFormed}
+use Rattle.tables.specs.Keys.{Ascending}
+use Rattle.program.specs.Writing.{nodesFrames, framesOf, text, written}
+use Rattle.program.proofs.SectionsAscend.{few}
+use Rattle.program.proofs.LinesJudged.{at-most}
+use Rattle.base.proofs.Bools.{both}
+
+-- ---- the limits
+
+pub record Limits (p : Program) : Type 0 where
+  pub routines : p .routines ≤ 16
+  pub states : p .automaton .states ≤ 8
+  pub actions : p .automaton .actions ≤ 32
+  pub nodes : length (p .nodes) ≤ 16
+  pub edges : length (p .edges) ≤ 256
+  pub transitions : length (p .automaton .transitions) ≤ 256
+  pub initial : length (p .automaton .initial) ≤ 8
+  pub rejecting : length (p .automaton .rejecting) ≤ 8
+
+-- a list of states ascends, so there are at most as many as there are states
+states-few : (r n : ℕ) (qs : List ℕ) → n ≤ 8 → Ascending 0 (map (λ q. keyOf r (packed q 0 0 0)) qs) → All (λ q. ltb q n) qs → length qs ≤ 8
+states-few r n qs h s a = omega (arith, few (λ q. keyOf r (packed q 0 0 0)) (λ a b z. omega arith) n 0 qs s a)
+
+pub limits : (p : Program) → countsFit (p .routines) (p .automaton .states) (p .automaton .actions) ≡ true → length (p .nodes) ≤ p .routines
+    → length (p .edges) ≤ 256 → length (p .automaton .transitions) ≤ 256
+    → Ascending 0 (map initialKey (p .automaton .initial)) → All (λ q. ltb q (p .automaton .states)) (p .automaton .initial)
+    → Ascending 0 (map rejectingKey (p .automaton .rejecting)) → All (λ q. ltb q (p .automaton .states)) (p .automaton .rejecting) → Limits p
+limits p c n e t si ai sr ar =
+    let r = p .routines in let q = p .automaton .states in let a = p .automaton .actions in
+    let w = both (within 1 16 r && within 1 8 q) (within 1 32 a) c in
+    let v = both (within 1 16 r) (within 1 8 q) (w .0) in
+    let x = at-most 1 16 r (v .0) in
+    let y = at-most 1 8 q (v .1) in
+    record {
+      routines = x;
+      states = y;
+      actions = at-most 1 32 a (w .1);
+      nodes = omega arith;
+      edges = e;
+      transitions = t;
+      initial = states-few 5 q (p .automaton .initial) y si ai;
+      rejecting = states-few 6 q (p .automaton .rejecting) y sr ar;
+    }
+
+-- how many frames a program is, without the end frame
+abbrev pub frameCount : Program → ℕ
+frameCount p =
+    1 + length (p .nodes) + length (p .edges) + length (p .automaton .transitions) + length (p .automaton .initial) + length (p .automaton .rejecting)
+
+count-nodes : (f : ℕ) (ns : List ℕ) → length (nodesFrames f ns) ≡ length ns
+unfolding nodesFrames
+count-nodes f [] = refl
+count-nodes f (n ∷ ns) = ap suc (count-nodes (f + 1) ns)
+
+pub length-frames : (p : Program) → length (framesOf p) ≡ frameCount p
+unfolding framesOf
+length-frames p = simp (length-append, length-map, count-nodes) (omega arith)
+
+pub well-formed-limits : (p : Program) → WellFormed p → Limits p
+well-formed-limits p w =
+    limits p (w .counts-fit) (omega (arith, w .complete)) (w .edges-limited) (w .transitions-limited) (w .initial-ascend) (w .initial-fit) (w .rejecting-ascend) (w .rejecting-fit)
+
+-- ---- the longest file
+
+pub text-append : (fs gs : List (List ℕ)) → text (fs ++ gs) ≡ text fs ++ text gs
+unfolding text
+text-append [] gs = refl
+text-append (f ∷ fs) gs = rw (text-append fs gs, append-assoc (hexLine f) (text fs) (text gs))
+
+-- a line has two digits for each number, and 0A
+length-line : (f : List ℕ) (fs : List (List ℕ)) → length (text (f ∷ fs)) ≡ 2 * length f + 1 + length (text fs)
+unfolding text
+length-line f fs = simp (length-append, length-hex)
+
+-- frames that all have n numbers
+length-section : {A : Type 0} (frame : A → List ℕ) (n : ℕ) → ((x : A) → length (frame x) ≡ n) → (xs : List A) → length (text (map frame xs)) ≡ length xs * (2 * n + 1)
+length-section frame n h [] = unfold text in omega arith
+length-section frame n h (x ∷ xs) = rw (length-line (frame x) (map frame xs), suc-mul (length xs) (2 * n + 1)) (omega (arith, h x, length-section frame n h xs))
+
+length-nodes : (f : ℕ) (ns : List ℕ) → length (text (nodesFrames f ns)) ≡ length ns * 7
+unfolding nodesFrames
+length-nodes f [] = unfold text in refl
+length-nodes f (n ∷ ns) = rw (length-line (nodesFrame f n) (nodesFrames (f + 1) ns)) (omega (arith, length-nodes (f + 1) ns))
+
+nothing : length (text []) ≡ 0
+unfolding text
+nothing = refl
+
+-- 9 for the header, and 16 * 7 + 256 * 11 + 256 * 9 + 8 * 5 + 8 * 5 for the sections
+sections-short : (p : Program) → WellFormed p → length (text (framesOf p)) ≤ 5321
+unfolding framesOf
+sections-short p w =
+    simp (
+      text-append,
+      length-append,
+      length-line,
+      length-nodes,
+      length-section edgeFrame 5 (λ e. refl),
+      length-section transitionFrame 4 (λ t. refl),
+      length-section initialFrame 2 (λ q. refl),
+      length-section rejectingFrame 2 (λ q. refl),
+    )
+    (omega (arith, well-formed-limits p w))
+
+-- and 7 for the end frame
+pub written-short : (p : Program) → WellFormed p → length (written p) ≤ 5328
+unfolding written
+written-short p w = simp (text-append, length-append, length-line, nothing) (omega (arith, sections-short p w))

@@ -1,0 +1,229 @@
+-- What the keeping means: what is kept has support back to a start, and when nothing is left to be kept, all that has such
+-- support is kept.
+use mathlib.Core.Path.{_≡_, refl, sym, ap, _∙_}
+use mathlib.Core.Logic.{⊎-elim}
+use mathlib.Core.Bool.{Bool, true, false, cond, _&&_, or-true}
+use mathlib.Core.List.{List, [], _∷_, _++_, map, append-nil, List·Memᴰ, List·Memᴰ·head, List·Memᴰ·tail}
+use Prim.Native.Nat.{ℕ, min, _+_, _≤_, _<_}
+use native.Mathlib.Omega.{arith}
+use native.Mathlib.Nat.{eq-or-lt-of-le}
+use lib.Dec.{eqb}
+use lib.ListN.{length, getD, set, take, drop, replicate, length-set, length-replicate}
+use lib.Seq.{take-length, drop-length}
+use borrow.Author.Tests.{eqb-true, eq-eqb, not-false}
+use Rattle.automaton.specs.Automaton.{isInitial}
+use Rattle.tables.specs.Keys.{member}
+use Rattle.automaton.specs.Decoded.{transitionKeysOf, transitionOf}
+use Rattle.base.specs.Flags.{isSet, On}
+use Rattle.automaton.specs.declared.transitions.Transitions.{Transitions}
+use Rattle.program.specs.declared.edges.Edges.{Edges}
+use Rattle.program.specs.Program.{Program}
+use Rattle.program.specs.WellFormed.{WellFormed}
+use Rattle.program.specs.Decoded.{edgeKeysOf, edgeOf}
+use Rattle.base.proofs.Bools.{both, either, never}
+use Rattle.reach.specs.Configurations.{Set, InRange, number, routineOf, nodeOf, rootOf, stateOf, none-set, At}
+use Rattle.reach.specs.Reachable.{seeded, by-action, by-call, by-return, initial}
+use Rattle.reach.specs.Marks.{Marked, Shows}
+use Rattle.reach.proofs.Numbers.{number-of, number-fits, routine-of, node-of, root-of, state-of, parts-in-range, to-number, from-number}
+use Rattle.reach.proofs.ProgramInSizes.{Sizes, sizes, initial-proper, derivable-state, call-stays, return-stays, may-call, may-return}
+use Rattle.base.proofs.SetFlags.{set-on, on-set, set-inv, set-bits, zeros, set-byte, byte-set}
+use Rattle.reach.proofs.MarksShown.{shows-marked}
+use Rattle.worklist.proofs.AnalysisBegun.{take-min}
+use Rattle.prune.specs.Keeping.{Kept}
+use Rattle.prune.specs.Parts.{supports, keepsAt, Keeps, same, more, Settled, Tables, Sound, Started}
+use Rattle.prune.proofs.PassesKeep.{keeps-on}
+use Rattle.prune.proofs.SupportFound.{Supported, by-edge, as-called, as-returned, supports-sound, supports-found}
+
+-- ---- what is kept next
+
+module _ (keys : List ℕ) (m : ℕ) (lines : List ℕ) (k : ℕ) (marks kept : List ℕ) (i : ℕ) where
+  record Next : Type 0 where
+    marked : isSet marks i ≡ true
+    free : isSet kept i ≡ false
+    supported : supports keys m lines k kept (routineOf i) (nodeOf i) (rootOf i) (stateOf i) ≡ true
+
+  next : keepsAt keys m lines k marks kept i ≡ true → Next
+  unfolding keepsAt
+  next e = go (isSet marks i) refl (isSet kept i) refl e
+    where
+      go : (a : Bool) → isSet marks i ≡ a → (b : Bool) → isSet kept i ≡ b
+          → cond a (cond b false (supports keys m lines k kept (routineOf i) (nodeOf i) (rootOf i) (stateOf i))) false ≡ true → Next
+      go true x true y e = never e refl
+      go true x false y e = record { marked = x; free = y; supported = e }
+      go false x b y e = never e refl
+
+  keeps-when : isSet marks i ≡ true → isSet kept i ≡ false → supports keys m lines k kept (routineOf i) (nodeOf i) (rootOf i) (stateOf i) ≡ true
+      → keepsAt keys m lines k marks kept i ≡ true
+  unfolding keepsAt
+  keeps-when a b c = rw (a, b, c) refl
+
+  pub keeps-free : keepsAt keys m lines k marks kept i ≡ true → getD kept i 0 ≡ 0
+  keeps-free e = eqb-true (getD kept i 0) 0 (not-false (eqb (getD kept i 0) 0) (next e .free))
+
+-- ---- what is kept has support
+
+-- nothing is kept yet
+pub none-kept : (p : Program) (marks : List ℕ) → Sound p marks none-set
+unfolding none-set
+none-kept p marks =
+    record {
+      len = length-replicate {A = ℕ} 16384 0;
+      bits = λ i. rw (zeros 16384 i) (omega arith);
+      supported = λ i o. absurd (o .on (zeros 16384 i));
+    }
+
+-- one more that has support
+sound-more : {p : Program} {marks kept : List ℕ} → Sound p marks kept → (i : ℕ) → At (Kept p marks) i → Sound p marks (set kept i 1)
+sound-more {p} {marks} {kept} s i d =
+    record {
+      len = simp length-set (s .len);
+      bits = set-bits kept i 1 (omega arith) (s .bits);
+      supported = λ j o. ⊎-elim (λ e. rw e d) (λ k. s .supported j k) (set-inv kept i j o);
+    }
+
+module _ {p : Program} {marks kept : List ℕ} (s : Sound p marks kept) where
+  pub kept-is : {f n r q : ℕ} → Marked kept f n r q → Kept p marks f n r q
+  kept-is {f} {n} {r} {q} o = from-number (Kept p marks) (o .0) (s .supported (number f n r q) (record { on = o .1 }))
+
+  -- a marked configuration that has support in kept ones has support back to a start
+  supported-kept : Sizes p → {f n r q : ℕ} → Marked marks f n r q → Supported p (Marked kept) f n r q → Kept p marks f n r q
+  supported-kept z w (by-edge e v o) = by-action (kept-is o) e v w
+  supported-kept z w (as-called {f = f} {q = q} e o) =
+      let d = kept-is o in by-call d e (may-call p q f (derivable-state z (initial-proper p z) d)) w
+  supported-kept z {q = q} w (as-returned {g = g} {y = y} e o o′) =
+      let d = kept-is o in
+      let d′ = kept-is o′ in
+      by-return d e (may-call p y g (derivable-state z (initial-proper p z) d)) d′ (may-return p q g (derivable-state z (initial-proper p z) d′)) w
+
+marked-at : (marks : List ℕ) (i : ℕ) → i < 16384 → isSet marks i ≡ true → At (Marked marks) i
+marked-at marks i h e = (parts-in-range i h, rw (number-of i) (set-byte marks i e))
+
+module _ {p : Program} {keys : List ℕ} {m : ℕ} {lines : List ℕ} {k : ℕ} (t : Tables p keys m lines k) {marks : List ℕ} where
+  pub keeps-sound : {old new : List ℕ} → Sound p marks old → Keeps (keepsAt keys m lines k marks) old new → Sound p marks new
+  keeps-sound s same = s
+  keeps-sound s (more {kept = kept} l i h e) =
+      let s′ = keeps-sound s l in
+      let x = next keys m lines k marks kept i e in
+      let y = supports-sound p keys m lines k t kept (parts-in-range i h) (x .supported) in
+      sound-more s′ i (supported-kept s′ (sizes p (t .well-formed)) (marked-at marks i h (x .marked)) y)
+
+-- ---- nothing is left to be kept
+
+module _ {p : Program} {keys : List ℕ} {m : ℕ} {lines : List ℕ} {k : ℕ} (t : Tables p keys m lines k) (marks new : List ℕ)
+    (settled : (j : ℕ) → j < 16384 → keepsAt keys m lines k marks new j ≡ false) where
+  -- a marked configuration that has support in kept ones is kept
+  closed : {f n r q : ℕ} → Marked marks f n r q → Supported p (Marked new) f n r q → On new (number f n r q)
+  closed {f} {n} {r} {q} w s = go (isSet new (number f n r q)) refl
+    where
+      go : (b : Bool) → isSet new (number f n r q) ≡ b → On new (number f n r q)
+      go true e = record { on = set-byte new (number f n r q) e }
+      go false e =
+          let i = number f n r q in
+          let h = w .0 in
+          let x : supports keys m lines k new (routineOf i) (nodeOf i) (rootOf i) (stateOf i) ≡ true =
+          rw (routine-of h, node-of h, root-of h, state-of h) (supports-found p keys m lines k t new s) in
+          never (keeps-when keys m lines k marks new i (byte-set marks i (w .1)) e x) (settled i (number-fits h))
+
+  -- so is all that has support back to a start
+  module _ (starts : (q : ℕ) → List·Memᴰ q (p .automaton .initial) → Marked marks 0 0 q q → On new (number 0 0 q q)) where
+    all-kept : {f n r q : ℕ} → Kept p marks f n r q → Marked new f n r q
+    all-kept (seeded (initial {q = q} x) w) = (w .0, starts q x w .on)
+    all-kept (by-action d e v w) = (w .0, closed w (by-edge e v (all-kept d)) .on)
+    all-kept (by-call {f = f} {n = n} {r = r} {q = q} {g = g} {s = s} d e v w) =
+        let o : Marked new f n r s = rw (call-stays p q g s v) (all-kept d) in (w .0, closed w (as-called e o) .on)
+    all-kept (by-return {q = q} {g = g} {s = s} {x = x} {t = u} d e v d′ v′ w) =
+        let o : Marked new g 1 q u = rw (return-stays p x g u v′, ← (call-stays p q g s v)) (all-kept d′) in
+        (w .0, closed w (as-returned e (all-kept d) o) .on)
+
+-- from the starts, when nothing is left, exactly what has support back to a start is kept
+pub settled-shows : {p : Program} {keys : List ℕ} {m : ℕ} {lines : List ℕ} {k : ℕ} → Tables p keys m lines k → (marks : List ℕ) {old new : List ℕ}
+    → Started p marks old 8 → Settled (keepsAt keys m lines k marks) old new → Shows (Kept p marks) new
+settled-shows {p} t marks {old} {new} a b =
+    let s = keeps-sound t (a .sound) (b .keeps) in
+    let starts : (q : ℕ) → List·Memᴰ q (p .automaton .initial) → Marked marks 0 0 q q → On new (number 0 0 q q) =
+    λ q x w. keeps-on (b .keeps) (number 0 0 q q) (a .starts q (w .0 .state) x w) in
+    shows-marked (s .len) (s .bits) (λ f n r q. (λ o. kept-is s o, λ d. all-kept t marks new (b .none-left) starts d))
+
+-- ---- the starts
+
+member-in : (q : ℕ) (l : List ℕ) → member q l ≡ true → List·Memᴰ q l
+unfolding member
+member-in q [] e = never e refl
+member-in q (s ∷ ss) e =
+    either (eqb s q) (member q ss) e (λ x. List·Memᴰ·head (sym (eqb-true s q x))) (λ x. List·Memᴰ·tail (member-in q ss x))
+
+in-member : (q : ℕ) (l : List ℕ) → List·Memᴰ q l → member q l ≡ true
+unfolding member
+in-member q [] x = elim x [ ]
+in-member q (s ∷ ss) (List·Memᴰ·head e) = rw (eq-eqb s q (sym e)) refl
+in-member q (s ∷ ss) (List·Memᴰ·tail x) = rw (in-member q ss x, or-true (eqb s q)) refl
+
+pub start-none : {p : Program} {marks kept : List ℕ} → Sound p marks kept → Started p marks kept 0
+start-none s = record { sound = s; starts = λ q h. absurd (omega arith) }
+
+module _ {p : Program} {marks kept : List ℕ} (q : ℕ) (s : Started p marks kept q) (h : q < 8) where
+  range : InRange 0 0 q q
+  range = record { routine = omega arith; node = omega arith; root = h; state = h }
+
+  -- state q is tried
+  start-turn-to : (b : Bool) → isInitial (p .automaton) q && isSet marks (number 0 0 q q) ≡ b
+      → Started p marks (cond b (set kept (number 0 0 q q) 1) kept) (q + 1)
+  start-turn-to true e =
+      let at = number 0 0 q q in
+      let c = both (isInitial (p .automaton) q) (isSet marks at) e in
+      let d : Kept p marks 0 0 q q = seeded (initial (member-in q (p .automaton .initial) (c .0))) (range, set-byte marks at (c .1)) in
+      let fits : at < length kept = omega (arith, number-fits range, s .sound .len) in
+      record {
+        sound = sound-more (s .sound) at (to-number (Kept p marks) range d);
+        starts = λ j l x w.
+            let le : j ≤ q = omega arith in
+            ⊎-elim (λ y. rw y (set-on kept at fits)) (λ y. on-set kept at (number 0 0 j j) (s .starts j y x w)) (eq-or-lt-of-le le);
+      }
+  start-turn-to false e =
+      record {
+        sound = s .sound;
+        starts = λ j l x w.
+            let le : j ≤ q = omega arith in
+            ⊎-elim (λ y. none j y x w) (λ y. s .starts j y x w) (eq-or-lt-of-le le);
+      }
+    where
+      none : (j : ℕ) → j ≡ q → List·Memᴰ j (p .automaton .initial) → Marked marks 0 0 j j → On kept (number 0 0 j j)
+      none j y x w =
+          let a : isInitial (p .automaton) q ≡ true = rw y at (in-member j (p .automaton .initial) x) in
+          let b : isSet marks (number 0 0 q q) ≡ true = rw y at (byte-set marks (number 0 0 j j) (w .1)) in
+          let c : isInitial (p .automaton) q && isSet marks (number 0 0 q q) ≡ true = rw (a, b) refl in
+          never c e
+
+  pub start-turn : {yes : Bool} → yes ≡ isInitial (p .automaton) q → {at : ℕ} → at ≡ number 0 0 q q → {kept′ : List ℕ}
+      → kept′ ≡ cond (yes && isSet marks at) (set kept at 1) kept → Started p marks kept′ (q + 1)
+  start-turn y a e = rw (e, a, y) (start-turn-to (isInitial (p .automaton) q && isSet marks (number 0 0 q q)) refl)
+
+-- ---- the tables of a program
+
+pub its-tables : (p : Program) → WellFormed p → (edges : Edges) (transitions : Transitions) → p .edges ≡ map edgeOf (edgeKeysOf edges)
+    → p .automaton .transitions ≡ map transitionOf (transitionKeysOf transitions) → length (edges .keys) ≡ 256 → length (transitions .keys) ≡ 256
+    → {m k : ℕ} → m ≡ min (edges .count) 256 → k ≡ min (transitions .count) 256 → Tables p (edges .keys) m (transitions .keys) k
+its-tables p w edges transitions e f a b u v =
+    record {
+      well-formed = w;
+      edges = e ∙ rw u (ap (map edgeOf) (sym (rw a at (take-min (edges .count) (edges .keys)))));
+      transitions = f ∙ rw v (ap (map transitionOf) (sym (rw b at (take-min (transitions .count) (transitions .keys)))));
+    }
+
+-- ---- the bytes of a buffer
+
+-- cleared
+pub cleared-is : {l : List ℕ} {n : ℕ} → l ≡ replicate n 0 → n ≡ 16384 → l ≡ none-set
+unfolding none-set
+cleared-is e h = rw h at e
+
+pub cleared-sound : (p : Program) (marks : List ℕ) {l : List ℕ} {n : ℕ} → l ≡ replicate n 0 → n ≡ 16384 → Sound p marks l
+cleared-sound p marks e h = rw (cleared-is e h) (none-kept p marks)
+
+-- copied to one of the same length
+pub copied-shows : {S : Set} {from : List ℕ} → Shows S from → (to : List ℕ) {new : List ℕ} → new ≡ take (length from) from ++ drop (length from) to
+    → length to ≡ 16384 → Shows S new
+copied-shows {S} {from} s to e h =
+    let same-length : length from ≡ length to = s .len ∙ sym h in
+    let past : drop (length from) to ≡ [] = rw same-length (drop-length to) in
+    rw (e, past, take-length from, append-nil from) s

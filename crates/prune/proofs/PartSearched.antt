@@ -1,0 +1,68 @@
+-- The search over the part of the table that has one routine's edges: it finds what the search over the whole table finds,
+-- unless the configuration can be a called entry.
+use mathlib.Core.Path.{_≡_, refl, ap, subst}
+use mathlib.Core.Logic.{_≢_}
+use mathlib.Core.Bool.{Bool, false, _||_, _&&_}
+use mathlib.Core.List.{List, [], _∷_, map}
+use Prim.Native.Nat.{ℕ, zero, suc, _+_, _-_, _≤_, _<_}
+use native.Mathlib.Omega.{arith}
+use native.Mathlib.Nat.{sub-zero}
+use lib.Dec.{eqb}
+use lib.ListN.{length, getD, take, drop}
+use lib.Seq.{take-length}
+use borrow.Author.Tests.{ne-eqb}
+use Rattle.program.specs.Frames.{edgeKey}
+use Rattle.tables.specs.Keys.{Ascending}
+use Rattle.program.specs.Decoded.{edgeOf}
+use Rattle.worklist.specs.Slice.{FirstOf}
+use Rattle.worklist.proofs.RoutinePart.{part-starts, part-in-use, part-ends, before-part, after-part}
+use Rattle.prune.specs.Parts.{anyKey, entrySupports, returnSupports, callSupports, linesToTry, actionSupports, edgeSupports, supports, PartOf}
+
+-- ---- the part of a list outside which a test fails
+
+none-met : (t : ℕ → Bool) (ks : List ℕ) → ((j : ℕ) → j < length ks → t (getD ks j 0) ≡ false) → false ≡ anyKey t ks
+unfolding anyKey
+none-met t [] none = refl
+none-met t (k ∷ ks) none = rw (none 0 (omega arith)) (none-met t ks (λ j h. none (suc j) (omega arith)))
+
+met-in-part : (t : ℕ → Bool) (ks : List ℕ) (a b : ℕ) → a ≤ b → b ≤ length ks → ((j : ℕ) → j < a → t (getD ks j 0) ≡ false)
+    → ((j : ℕ) → b ≤ j → j < length ks → t (getD ks j 0) ≡ false) → anyKey t (take (b - a) (drop a ks)) ≡ anyKey t ks
+unfolding anyKey
+met-in-part t [] zero b l h low high = let e : b - 0 ≡ 0 = omega arith in rw e refl
+met-in-part t [] (suc a) b l h low high = let e : b - suc a ≡ 0 = omega arith in rw e refl
+met-in-part t (k ∷ ks) (suc a) zero l h low high = absurd (omega arith)
+met-in-part t (k ∷ ks) (suc a) (suc b) l h low high =
+    let e : suc b - suc a ≡ b - a = omega arith in
+    rw (low 0 (omega arith), e)
+    (met-in-part t ks a b (omega arith) (omega arith) (λ j x. low (suc j) (omega arith)) (λ j x y. high (suc j) (omega arith) (omega arith)))
+met-in-part t (k ∷ ks) zero zero l h low high = none-met t (k ∷ ks) (λ j x. high j (omega arith) x)
+met-in-part t (k ∷ ks) zero (suc b) l h low high =
+    let e = met-in-part t ks zero b (omega arith) (omega arith) (λ j x. absurd (omega arith)) (λ j x y. high (suc j) (omega arith) (omega arith)) in
+    let s : suc b - 0 ≡ suc b = omega arith in
+    rw s (ap (λ (z : Bool). t k || z) (rw (sub-zero b) at e))
+
+-- ---- the part of one routine
+
+pub its-part : {keys : List ℕ} {m f a b : ℕ} → FirstOf keys m f a → FirstOf keys m (f + 1) b → m ≤ length keys
+    → Ascending 0 (map edgeKey (map edgeOf (take m keys))) → PartOf keys m f (take (b - a) (drop a keys))
+its-part {keys} {m} {f} {a} {b} x y fits up =
+    record {
+      decides = λ t other.
+          let ks = take m keys in
+          subst (λ (l : List ℕ). anyKey t l ≡ anyKey t ks) (part-in-use x y)
+          (met-in-part t ks a b (part-starts x y) (part-ends x y fits) (λ j h. other (getD ks j 0) (before-part x y fits j h))
+          (λ j l h. other (getD ks j 0) (after-part x y fits up j l h)));
+    }
+
+-- ---- what an edge of another routine supports
+
+module _ (kept lines : List ℕ) (k f n r q : ℕ) (no-entry : eqb n 0 && eqb r q ≡ false) where
+  other-supports : (key : ℕ) → edgeOf key .routine ≢ f → edgeSupports kept lines k f n r q (edgeOf key) ≡ false
+  unfolding edgeSupports callSupports entrySupports returnSupports actionSupports linesToTry anyKey
+  other-supports key h = rw (no-entry, ne-eqb (edgeOf key .routine) f h) refl
+
+  -- the search over the part and the one over the table find the same
+  pub part-supports : {keys : List ℕ} {m : ℕ} {part : List ℕ} → PartOf keys m f part
+      → supports part (length part) lines k kept f n r q ≡ supports keys m lines k kept f n r q
+  unfolding supports
+  part-supports {part = part} z = rw (take-length part) (z .decides (λ key. edgeSupports kept lines k f n r q (edgeOf key)) other-supports)

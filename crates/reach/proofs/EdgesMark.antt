@@ -1,0 +1,276 @@
+-- What following the steps of a configuration marks.
+use mathlib.Core.Path.{_≡_, refl, sym, ap, subst, _∙_}
+use mathlib.Core.Logic.{_⊎_, inl, inr}
+use mathlib.Core.Bool.{Bool, true, false, _&&_, not}
+use mathlib.Core.List.{List, [], _∷_, List·Memᴰ, List·Memᴰ·head, List·Memᴰ·tail}
+use Prim.Native.Nat.{ℕ, zero, suc, _+_, _≤_, _<_}
+use native.Mathlib.Omega.{arith}
+use native.Mathlib.Decide.{ℕ-discrete}
+use lib.Dec.{eqb}
+use borrow.Author.Tests.{eqb-true, eq-eqb, not-true}
+use Rattle.automaton.specs.Automaton.{moves}
+use Rattle.automaton.specs.declared.Event.{Event}
+use Rattle.automaton.specs.declared.Event.the-variants.{Action, Call, Return}
+use Rattle.program.specs.Program.{Program}
+use Rattle.base.proofs.Bools.{both}
+use Rattle.reach.specs.Configurations.{number}
+use Rattle.reach.specs.Runs.{Step, stepsOf, HasStep, Moves}
+use Rattle.reach.specs.Worklist.{Worklist, Shape, mark, markWhen, summary, isKnown, onAction, onReturns, onLabel, labelWhen, onSteps, opened}
+use Rattle.reach.proofs.Numbers.{number-fits}
+use Rattle.reach.proofs.ProgramInSizes.{Sizes}
+use Rattle.base.specs.Flags.{On}
+use Rattle.base.proofs.SetFlags.{eqb-on, eqb-off, on-eqb, set-on, on-set, set-inv}
+use Rattle.reach.proofs.ShapeKept.{mark-by, when-kept, label-when-kept, shape-kept}
+
+-- t is s with the numbers A marked; those that are new are pending
+pub record Marks (A : ℕ → Type 0) (s t : Worklist) : Type 0 where
+  pub keep : {j : ℕ} → On (s .marks) j → On (t .marks) j
+  pub all : {j : ℕ} → A j → On (t .marks) j
+  pub new : {j : ℕ} → On (t .marks) j → On (s .marks) j ⊎ (A j × On (t .pending) j)
+  pub wait : {j : ℕ} → On (s .pending) j → On (t .pending) j
+  pub waits : {j : ℕ} → On (t .pending) j → On (s .pending) j ⊎ (On (t .marks) j × (¬ (On (s .marks) j)))
+  pub known : t .known ≡ s .known
+
+marks-none : {A : ℕ → Type 0} → ((j : ℕ) → ¬ (A j)) → (s : Worklist) → Marks A s s
+marks-none h s = record { keep = λ x. x; all = λ {j} x. absurd (h j x); new = λ x. inl x; wait = λ x. x; waits = λ x. inl x; known = refl }
+
+marks-same : {A C : ℕ → Type 0} {s t : Worklist} → ((j : ℕ) → C j → A j) → ((j : ℕ) → A j → C j) → Marks A s t → Marks C s t
+marks-same to from a =
+    record {
+      keep = a .keep;
+      all = λ {j} x. a .all (to j x);
+      new = λ {j} x. elim (a .new x) [ inl y ↦ inl y | inr y ↦ inr (from j (y .0), y .1) ];
+      wait = a .wait;
+      waits = a .waits;
+      known = a .known;
+    }
+
+marks-join : {A B C : ℕ → Type 0} {s t u : Worklist} → ((j : ℕ) → C j → A j ⊎ B j) → ((j : ℕ) → A j → C j) → ((j : ℕ) → B j → C j)
+    → Marks A s t → Marks B t u → Marks C s u
+marks-join c ca cb a b =
+    record {
+      keep = λ h. b .keep (a .keep h);
+      all = λ {j} h. elim (c j h) [ inl x ↦ b .keep (a .all x) | inr x ↦ b .all x ];
+      new = λ {j} h.
+          elim (b .new h) [
+            | inl m ↦ elim (a .new m) [ inl x ↦ inl x | inr x ↦ inr (ca j (x .0), b .wait (x .1)) ]
+            | inr m ↦ inr (cb j (m .0), m .1)
+          ];
+      wait = λ h. b .wait (a .wait h);
+      waits = λ h.
+          elim (b .waits h) [
+            | inl m ↦ elim (a .waits m) [ inl x ↦ inl x | inr x ↦ inr (b .keep (x .0), x .1) ]
+            | inr m ↦ inr (m .0, λ x. m .1 (a .keep x))
+          ];
+      known = b .known ∙ a .known;
+    }
+
+-- ---- one number
+
+mark-one : (i : ℕ) (s : Worklist) → i < 16384 → Shape s → Marks (λ j. j ≡ i) s (mark i s)
+mark-one i s h z =
+    let hm = set-on (s .marks) i (omega (arith, z .marks-length)) in
+    let hp = set-on (s .pending) i (omega (arith, z .pending-length)) in
+    mark-by (λ t. Marks (λ j. j ≡ i) s t) i s
+    (λ e. record {
+      keep = λ {j} x. on-set (s .marks) i j x;
+      all = λ x. rw x hm;
+      new = λ {j} x. elim (set-inv (s .marks) i j x) [ inl y ↦ inr (y, rw y hp) | inr y ↦ inl y ];
+      wait = λ {j} x. on-set (s .pending) i j x;
+      waits = λ {j} x. elim (set-inv (s .pending) i j x) [ inl y ↦ inr (rw y hm, λ o. eqb-off (s .marks) i e (rw y at o)) | inr y ↦ inl y ];
+      known = refl;
+    })
+    (λ e. record {
+      keep = λ x. x;
+      all = λ x. rw x (eqb-on (s .marks) i e);
+      new = λ x. inl x;
+      wait = λ x. x;
+      waits = λ x. inl x;
+      known = refl;
+    })
+
+mark-when : (b : Bool) (i : ℕ) (s : Worklist) → i < 16384 → Shape s → Marks (λ j. (b ≡ true) × (j ≡ i)) s (markWhen b i s)
+unfolding markWhen
+mark-when true i s h z = marks-same (λ j c. c .1) (λ j c. (refl, c)) (mark-one i s h z)
+mark-when false i s h z = marks-none (λ j c. let w : _≡_ {A = ℕ} 0 1 = cc (c .0) in omega arith) s
+
+-- ---- k numbers, from that of x on
+
+-- j is the number at some y of lo, .., lo + k - 1 that passes
+pub record Within (lo k : ℕ) (ok : ℕ → Type 0) (place : ℕ → ℕ) (j : ℕ) : Type 0 where
+  pub at : ℕ
+  pub low : lo ≤ at
+  pub high : at < lo + k
+  pub passes : ok at
+  pub is : j ≡ place at
+
+module _ {ok : ℕ → Type 0} {place : ℕ → ℕ} {j : ℕ} where
+  pub within-none : (lo : ℕ) → ¬ (Within lo 0 ok place j)
+  within-none lo c = let l = c .low in let u = c .high in omega arith
+
+  pub within-split : {lo k : ℕ} → Within lo (suc k) ok place j → (ok lo × (j ≡ place lo)) ⊎ Within (suc lo) k ok place j
+  within-split {lo} c =
+      let l = c .low in
+      let u = c .high in
+      elim (ℕ-discrete (c .at) lo) [
+        | yes e ↦ inl (subst ok e (c .passes), c .is ∙ ap place e)
+        | no ne ↦ inr (record { at = c .at; low = omega arith; high = omega arith; passes = c .passes; is = c .is })
+      ]
+
+  pub within-here : {lo k : ℕ} → ok lo → j ≡ place lo → Within lo (suc k) ok place j
+  within-here {lo} h e = record { at = lo; low = omega arith; high = omega arith; passes = h; is = e }
+
+  pub within-there : {lo k : ℕ} → Within (suc lo) k ok place j → Within lo (suc k) ok place j
+  within-there c = let l = c .low in let u = c .high in record { at = c .at; low = omega arith; high = omega arith; passes = c .passes; is = c .is }
+
+-- a node of a routine, and a root
+pub record Small (f m r : ℕ) : Type 0 where
+  pub routine : f < 16
+  pub node : m < 16
+  pub root : r < 8
+
+pub small-fits : {f m r : ℕ} → Small f m r → (x : ℕ) → x < 8 → number f m r x < 16384
+small-fits b x h = number-fits (record { routine = b .routine; node = b .node; root = b .root; state = h })
+
+-- what a step by an action marks
+on-action : (k x : ℕ) (p : Program) (f m r q a : ℕ) (s : Worklist) → Small f m r → x + k ≤ 8 → Shape s
+    → Marks (Within x k (λ y. Moves p q (Action a) y) (number f m r)) s (onAction k x p f m r q a s)
+unfolding onAction
+on-action zero x p f m r q a s b h z = marks-none (λ j. within-none x) s
+on-action (suc k) x p f m r q a s b h z =
+    let t = moves (p .automaton) q (Action a) x in
+    let i = number f m r x in
+    marks-join (λ j. within-split) (λ j c. within-here (c .0) (c .1)) (λ j. within-there)
+    (mark-when t i s (small-fits b x (omega arith)) z)
+    (on-action k (suc x) p f m r q a (markWhen t i s) b (omega arith) (when-kept shape-kept t i s z))
+
+is-known : (s : Worklist) (g q x : ℕ) → On (s .known) (summary g q x) → isKnown s g q x ≡ true
+is-known s g q x h = ap not (on-eqb (s .known) (summary g q x) h)
+
+known-is : (s : Worklist) (g q x : ℕ) → isKnown s g q x ≡ true → On (s .known) (summary g q x)
+known-is s g q x h = eqb-on (s .known) (summary g q x) (not-true _ h)
+
+-- what a call marks by the known summaries
+on-returns : (k x f m r q g : ℕ) (s : Worklist) (ks : List ℕ) → s .known ≡ ks → Small f m r → x + k ≤ 8 → Shape s
+    → Marks (Within x k (λ y. On ks (summary g q y)) (number f m r)) s (onReturns k x f m r q g s)
+unfolding onReturns
+on-returns zero x f m r q g s ks e b h z = marks-none (λ j. within-none x) s
+on-returns (suc k) x f m r q g s ks e b h z =
+    let t = isKnown s g q x in
+    let i = number f m r x in
+    let d = mark-when t i s (small-fits b x (omega arith)) z in
+    marks-join
+    (λ j c. elim (within-split c) [ inl y ↦ inl (is-known s g q x (rw e (y .0)), y .1) | inr y ↦ inr y ])
+    (λ j c. within-here (rw e at (known-is s g q x (c .0))) (c .1)) (λ j. within-there) d
+    (on-returns k (suc x) f m r q g (markWhen t i s) ks (d .known ∙ e) b (omega arith) (when-kept shape-kept t i s z))
+
+-- ---- a label, and all the steps
+
+pub data ByLabel (p : Program) (ks : List ℕ) (f m r q : ℕ) : Event → ℕ → Type 0 where
+  by-move : {a j : ℕ} → Within 0 8 (λ y. Moves p q (Action a) y) (number f m r) j → ByLabel p ks f m r q (Action a) j
+  by-entry : {g j : ℕ} → j ≡ number g 0 q q → ByLabel p ks f m r q (Call g) j
+  by-summary : {g j : ℕ} → Within 0 8 (λ y. On ks (summary g q y)) (number f m r) j → ByLabel p ks f m r q (Call g) j
+
+on-label : (p : Program) (f m r q : ℕ) (l : Event) (n : ℕ) (s : Worklist) → Sizes p → HasStep p f n l m → r < 8 → q < 8 → Shape s
+    → Marks (ByLabel p (s .known) f m r q l) s (onLabel p f m r q l s)
+unfolding onLabel
+on-label p f m r q (Action a) n s i e hr hq z =
+    marks-same (λ j. back j) (λ j c. by-move c)
+    (on-action 8 0 p f m r q a s (record { routine = i .routine e; node = i .target e; root = hr }) (omega arith) z)
+  where
+    back : (j : ℕ) → ByLabel p (s .known) f m r q (Action a) j → Within 0 8 (λ y. Moves p q (Action a) y) (number f m r) j
+    back j (by-move c) = c
+on-label p f m r q (Call g) n s i e hr hq z =
+    let d = mark-one (number g 0 q q) s (number-fits (record { routine = i .called e; node = omega arith; root = hq; state = hq })) z in
+    marks-join split (λ j c. by-entry c) (λ j c. by-summary c) d
+    (on-returns 8 0 f m r q g (mark (number g 0 q q) s) (s .known) (d .known) (record { routine = i .routine e; node = i .target e; root = hr })
+    (omega arith) (shape-kept .by-mark (number g 0 q q) s z))
+  where
+    split : (j : ℕ) → ByLabel p (s .known) f m r q (Call g) j → (j ≡ number g 0 q q) ⊎ Within 0 8 (λ y. On (s .known) (summary g q y)) (number f m r) j
+    split j (by-entry c) = inl c
+    split j (by-summary c) = inr c
+on-label p f m r q (Return g) n s i e hr hq z = marks-none (λ j c. elim c [ ]) s
+
+label-when : (b : Bool) (p : Program) (f m r q : ℕ) (l : Event) (n : ℕ) (s : Worklist) (ks : List ℕ) → s .known ≡ ks → Sizes p
+    → (b ≡ true → HasStep p f n l m) → r < 8 → q < 8 → Shape s → Marks (λ j. (b ≡ true) × ByLabel p ks f m r q l j) s (labelWhen b p f m r q l s)
+unfolding labelWhen
+label-when true p f m r q l n s ks k i e hr hq z =
+    marks-same (λ j c. c .1) (λ j c. (refl, c))
+    (subst (λ (y : List ℕ). Marks (ByLabel p y f m r q l) s (onLabel p f m r q l s)) k (on-label p f m r q l n s i (e refl) hr hq z))
+label-when false p f m r q l n s ks k i e hr hq z = marks-none (λ j c. let w : _≡_ {A = ℕ} 0 1 = cc (c .0) in omega arith) s
+
+abbrev pub step : ℕ → ℕ → Event → ℕ → Step
+step f n l m = record { routine = f; source = n; label = l; target = m }
+
+-- j is a number that some step of the list marks
+pub record ByStep (p : Program) (ks : List ℕ) (es : List Step) (f n r q j : ℕ) : Type 0 where
+  pub label : Event
+  pub target : ℕ
+  pub member : List·Memᴰ (step f n label target) es
+  pub does : ByLabel p ks f target r q label j
+
+abbrev pub fromHere : Step → ℕ → ℕ → Bool
+fromHere e f n = eqb (e .routine) f && eqb (e .source) n
+
+pub is-step : (e : Step) (f n : ℕ) → fromHere e f n ≡ true → step f n (e .label) (e .target) ≡ e
+is-step e f n t =
+    let c = both (eqb (e .routine) f) (eqb (e .source) n) t in
+    let a = eqb-true (e .routine) f (c .0) in
+    let b = eqb-true (e .source) n (c .1) in
+    λ i. step (sym a i) (sym b i) (e .label) (e .target)
+
+pub step-is : (e : Step) (f n : ℕ) (l : Event) (m : ℕ) → step f n l m ≡ e → fromHere e f n ≡ true
+step-is e f n l m h =
+    rw (eq-eqb (e .routine) f (sym (ap (λ (x : Step). x .routine) h)), eq-eqb (e .source) n (sym (ap (λ (x : Step). x .source) h)))
+
+pub on-steps : (p : Program) (es : List Step) (f n r q : ℕ) (s : Worklist) (ks : List ℕ) → s .known ≡ ks → Sizes p
+    → ((e : Step) → List·Memᴰ e es → List·Memᴰ e (stepsOf p)) → r < 8 → q < 8 → Shape s
+    → Marks (ByStep p ks es f n r q) s (onSteps p es f n r q s)
+unfolding onSteps
+on-steps p [] f n r q s ks k i sub hr hq z = marks-none (λ j c. elim (c .member) [ ]) s
+on-steps p (e ∷ es) f n r q s ks k i sub hr hq z =
+    let t = fromHere e f n in
+    let d = label-when t p f (e .target) r q (e .label) n s ks k i (λ y. sub _ (List·Memᴰ·head (is-step e f n y))) hr hq z in
+    marks-join split here there d
+    (on-steps p es f n r q (labelWhen t p f (e .target) r q (e .label) s) ks (d .known ∙ k) i (λ x y. sub x (List·Memᴰ·tail y)) hr hq
+    (label-when-kept shape-kept t p f (e .target) r q (e .label) s z))
+  where
+    split : (j : ℕ) → ByStep p ks (e ∷ es) f n r q j → ((fromHere e f n ≡ true) × ByLabel p ks f (e .target) r q (e .label) j) ⊎ ByStep p ks es f n r q j
+    split j c = go (c .member)
+      where
+        go : List·Memᴰ (step f n (c .label) (c .target)) (e ∷ es)
+            → ((fromHere e f n ≡ true) × ByLabel p ks f (e .target) r q (e .label) j) ⊎ ByStep p ks es f n r q j
+        go (List·Memᴰ·head y) =
+            inl (step-is e f n (c .label) (c .target) y, subst (λ (x : Step). ByLabel p ks f (x .target) r q (x .label) j) y (c .does))
+        go (List·Memᴰ·tail y) = inr (record { label = c .label; target = c .target; member = y; does = c .does })
+
+    here : (j : ℕ) → (fromHere e f n ≡ true) × ByLabel p ks f (e .target) r q (e .label) j → ByStep p ks (e ∷ es) f n r q j
+    here j c = record { label = e .label; target = e .target; member = List·Memᴰ·head (is-step e f n (c .0)); does = c .1 }
+
+    there : (j : ℕ) → ByStep p ks es f n r q j → ByStep p ks (e ∷ es) f n r q j
+    there j c = record { label = c .label; target = c .target; member = List·Memᴰ·tail (c .member); does = c .does }
+
+-- ---- the initial states
+
+pub record Opening (qs : List ℕ) (j : ℕ) : Type 0 where
+  pub state : ℕ
+  pub member : List·Memᴰ state qs
+  pub is : j ≡ number 0 0 state state
+
+pub on-opened : (qs : List ℕ) (s : Worklist) → ((q : ℕ) → List·Memᴰ q qs → q < 8) → Shape s → Marks (Opening qs) s (opened qs s)
+unfolding opened
+on-opened [] s h z = marks-none (λ j c. elim (c .member) [ ]) s
+on-opened (q ∷ qs) s h z =
+    let hq = h q (List·Memᴰ·head refl) in
+    let i = number 0 0 q q in
+    marks-join split (λ j c. record { state = q; member = List·Memᴰ·head refl; is = c })
+    (λ j c. record { state = c .state; member = List·Memᴰ·tail (c .member); is = c .is })
+    (mark-one i s (number-fits (record { routine = omega arith; node = omega arith; root = hq; state = hq })) z)
+    (on-opened qs (mark i s) (λ x y. h x (List·Memᴰ·tail y)) (shape-kept .by-mark i s z))
+  where
+    split : (j : ℕ) → Opening (q ∷ qs) j → (j ≡ number 0 0 q q) ⊎ Opening qs j
+    split j c = go (c .member)
+      where
+        go : List·Memᴰ (c .state) (q ∷ qs) → (j ≡ number 0 0 q q) ⊎ Opening qs j
+        go (List·Memᴰ·head e) = inl (c .is ∙ ap (λ (x : ℕ). number 0 0 x x) e)
+        go (List·Memᴰ·tail m) = inr (record { state = c .state; member = m; is = c .is })

@@ -1,0 +1,121 @@
+-- Following from marks that are closed but for some numbers: with the marked exits known and the other marked configurations of
+-- these numbers pending, what is marked at the end is exactly what follows from the marks.
+use mathlib.Core.Path.{_≡_, refl, sym, subst}
+use mathlib.Core.Logic.{inl, inr, _≢_}
+use mathlib.Core.Option.{none}
+use Prim.Native.Nat.{ℕ, _-_, _<_}
+use native.Mathlib.Omega.{arith}
+use native.Mathlib.Decide.{ℕ-discrete}
+use Rattle.program.specs.Program.{Program}
+use Rattle.program.specs.WellFormed.{WellFormed}
+use Rattle.reach.specs.Configurations.{number, routineOf, nodeOf, rootOf, stateOf, none-set, At}
+use Rattle.reach.specs.Reachable.{Derivable, seeded, Any}
+use Rattle.reach.specs.Worklist.{Worklist, Shape, lowest, summary, work}
+use Rattle.reach.specs.Marks.{Marked, Shows, Between, ClosedBut}
+use Rattle.reach.proofs.Numbers.{number-of, node-of, parts-in-range}
+use Rattle.reach.proofs.ProgramInSizes.{sizes, Proper, may-call, may-return}
+use Rattle.base.specs.Flags.{On}
+use Rattle.base.proofs.SetFlags.{on-lt}
+use Rattle.reach.proofs.ShapeKept.{work-shape}
+use Rattle.reach.proofs.WorklistInvariant.{Closed, Follows}
+use Rattle.reach.proofs.ExitsSettled.{Settled}
+use Rattle.reach.proofs.TakingsBounded.{follow-ends}
+use Rattle.reach.proofs.AnalysisExact.{follow-exact-ended, follow-clear}
+use Rattle.reach.proofs.MarksShown.{shows-marked}
+
+-- the marked configurations of these numbers that are no exits are pending, no others, and the summaries of the marked exits are
+-- known
+pub record Awaits (low high : ℕ) (s : Worklist) : Type 0 where
+  pub shape : Shape s
+  pub woken : {j : ℕ} → On (s .marks) j → Between low high j → nodeOf j ≢ 1 → On (s .pending) j
+  pub waits : {j : ℕ} → On (s .pending) j → On (s .marks) j × (nodeOf j ≢ 1)
+  pub learnt : (g r q : ℕ) → g < 16 → r < 8 → q < 8 → On (s .marks) (number g 1 r q) → On (s .known) (summary g r q)
+  pub known : (g r q : ℕ) → g < 16 → r < 8 → q < 8 → On (s .known) (summary g r q) → On (s .marks) (number g 1 r q)
+
+dec-between : (low high j : ℕ) → Dec (Between low high j)
+dec-between low high j =
+    elim (ℕ-discrete (low - j) 0) [
+      | no a ↦ no (λ x. a (omega (arith, x .0)))
+      | yes a ↦ elim (ℕ-discrete (high - j) 0) [ yes b ↦ no (λ x. omega (arith, x .1)) | no b ↦ yes (omega arith, omega arith) ]
+    ]
+
+module _ (p : Program) (w : WellFormed p) (low high : ℕ) (s : Worklist) (h : ClosedBut p low high (s .marks)) (k : Awaits low high s) where
+  proper : Proper p (Marked (s .marks))
+  proper = record { in-range = λ x. x .0; state = λ x. h .states x }
+
+  marked-at : {j : ℕ} → On (s .marks) j → At (Marked (s .marks)) j
+  marked-at {j} o =
+      let b : j < 16384 = omega (arith, h .marks-length, on-lt (s .marks) j o) in
+      (parts-in-range j b, subst (On (s .marks)) (sym (number-of j)) o .on)
+
+  -- ---- what is not pending has led to all that follows from it
+
+  -- the summary of an exit is known
+  at-exit : {j : ℕ} → On (s .marks) j → nodeOf j ≡ 1 → On (s .known) (summary (routineOf j) (rootOf j) (stateOf j))
+  at-exit {j} o e =
+      let x = marked-at o .0 in
+      k .learnt (routineOf j) (rootOf j) (stateOf j) (x .routine) (x .root) (x .state)
+      (subst (λ (n : ℕ). On (s .marks) (number (routineOf j) n (rootOf j) (stateOf j))) e (subst (On (s .marks)) (sym (number-of j)) o))
+
+  -- no edge leads from an exit
+  exit-done : {j : ℕ} → On (s .marks) j → nodeOf j ≡ 1 → At (Closed p s) j
+  exit-done o e =
+      let z = sizes p w in
+      record {
+        exit = at-exit o;
+        acts = λ x y v. absurd (z .no-exit y e);
+        calls = λ y. absurd (z .no-exit y e);
+        returns = λ x hx y v. absurd (z .no-exit y e);
+      }
+
+  -- outside the numbers what follows is marked
+  outside-done : {j : ℕ} → On (s .marks) j → ¬ (Between low high j) → At (Closed p s) j
+  outside-done {j} o ne =
+      let m = marked-at o in
+      let q = stateOf j in
+      let c = h .closed m (subst (λ (i : ℕ). ¬ (Between low high i)) (sym (number-of j)) ne) in
+      record {
+        exit = at-exit o;
+        acts = λ x e v. record { on = c .acts e v .1 };
+        calls = λ {g = g} e. record { on = c .calls e (may-call p q g (h .states m)) .1 };
+        returns = λ {g = g} x hx e v.
+            let hg = sizes p w .called e in
+            let y : Marked (s .marks) g 1 q x =
+            (record { routine = hg; node = omega arith; root = m .0 .state; state = hx }, k .known g q x hg (m .0 .state) hx v .on) in
+            record { on = c .returns e (may-call p q g (h .states m)) y (may-return p x g (h .states y)) .1 };
+      }
+
+  awaits-follows : Follows p (Marked (s .marks)) s
+  awaits-follows =
+      record {
+        shape = k .shape;
+        sound = λ {j} o. seeded (marked-at o) tt;
+        seeds = λ x. record { on = x .1 };
+        pending = λ o. k .waits o .0;
+        known = k .known;
+        closed = λ {j} o.
+            elim (ℕ-discrete (nodeOf j) 1) [
+              | yes e ↦ inr (exit-done o e)
+              | no e ↦ elim (dec-between low high j) [ yes b ↦ inl (k .woken o b e) | no b ↦ inr (outside-done o b) ]
+            ];
+      }
+
+  -- no exit is pending
+  awaits-settled : Settled s
+  awaits-settled =
+      record {
+        not-pending = λ g r q hg hr hq o x. k .waits x .1 (node-of (record { routine = hg; node = omega arith; root = hr; state = hq }));
+      }
+
+  -- ---- so following ends with what follows from the marks
+
+  pub awaits-ends : lowest (work 2113536 p (lowest (s .pending) 0) s .pending) 0 ≡ none
+  awaits-ends = follow-ends p (Marked (s .marks)) (sizes p w) proper s awaits-follows awaits-settled
+
+  pub awaits-shows : Shows (Derivable p (Marked (s .marks)) Any) (work 2113536 p (lowest (s .pending) 0) s .marks)
+  awaits-shows =
+      let z = work-shape 2113536 p (lowest (s .pending) 0) s refl (k .shape) in
+      shows-marked (z .marks-length) (z .marks-bits) (follow-exact-ended p w (Marked (s .marks)) proper s awaits-follows awaits-settled)
+
+  pub awaits-clear : work 2113536 p (lowest (s .pending) 0) s .pending ≡ none-set
+  awaits-clear = follow-clear p w (Marked (s .marks)) proper s awaits-follows awaits-settled

@@ -1,0 +1,256 @@
+-- The invariant of the worklist, from any seeds: what is marked is derivable, and what is marked and not pending has led to all that
+-- follows from it by the known summaries. Once nothing is pending, exactly what is derivable is marked.
+use mathlib.Core.Path.{_≡_, refl, sym, ap, subst, _∙_}
+use mathlib.Core.Logic.{_⊎_, inl, inr, _↔_, _≢_}
+use mathlib.Core.Option.{none}
+use mathlib.Core.List.{List·Memᴰ}
+use Prim.Native.Nat.{ℕ, _<_}
+use native.Mathlib.Omega.{arith}
+use native.Mathlib.Decide.{ℕ-discrete}
+use Rattle.automaton.specs.declared.Event.{Event}
+use Rattle.automaton.specs.declared.Event.the-variants.{Action, Call, Return}
+use Rattle.program.specs.Program.{Program}
+use Rattle.reach.specs.Configurations.{Set, InRange, number, routineOf, nodeOf, rootOf, stateOf, none-set, At}
+use Rattle.reach.specs.Runs.{HasStep, Moves}
+use Rattle.reach.specs.Reachable.{Derivable, seeded, by-action, by-call, by-return, Initial, initial, Any, Reachable}
+use Rattle.reach.specs.Worklist.{Worklist, Shape, lowest, summary, learn, takeAt, work, opened, blank}
+use Rattle.reach.proofs.Numbers.{number-of, root-small, state-small, routine-small, to-number, from-number, summary-fits, summary-apart, exit-number}
+use Rattle.reach.proofs.ProgramInSizes.{Sizes, call-stays, return-stays, may-call, may-return, Proper, initial-proper, derivable-state, derivable-in-range}
+use Rattle.base.specs.Flags.{On}
+use Rattle.base.proofs.SetFlags.{dec-on, on-lt, set-on, on-set, set-inv, clear-keep, clear-inv, none-on}
+use Rattle.reach.proofs.LowestPending.{lowest-on, lowest-none}
+use Rattle.reach.proofs.ShapeKept.{take-shape, work-kept, blank-shape, opened-shape}
+use Rattle.reach.proofs.EdgesMark.{Marks, ByLabel, by-move, by-entry, by-summary, Opening, on-opened}
+use Rattle.reach.proofs.OneTaking.{Marking, Waking, take-elsewhere, take-exit}
+
+-- what follows from a configuration at once, by the known summaries, is marked
+pub record Closed (p : Program) (s : Worklist) (f n r q : ℕ) : Type 0 where
+  pub exit : n ≡ 1 → On (s .known) (summary f r q)
+  pub acts : {a m : ℕ} (x : ℕ) → HasStep p f n (Action a) m → Moves p q (Action a) x → On (s .marks) (number f m r x)
+  pub calls : {g m : ℕ} → HasStep p f n (Call g) m → On (s .marks) (number g 0 q q)
+  pub returns : {g m : ℕ} (x : ℕ) → x < 8 → HasStep p f n (Call g) m → On (s .known) (summary g q x) → On (s .marks) (number f m r x)
+
+pub record Follows (p : Program) (S : Set) (s : Worklist) : Type 0 where
+  pub shape : Shape s
+  pub sound : {j : ℕ} → On (s .marks) j → At (Derivable p S Any) j
+  pub seeds : {f n r q : ℕ} → S f n r q → On (s .marks) (number f n r q)
+  pub pending : {j : ℕ} → On (s .pending) j → On (s .marks) j
+  pub known : (g r q : ℕ) → g < 16 → r < 8 → q < 8 → On (s .known) (summary g r q) → On (s .marks) (number g 1 r q)
+  pub closed : {j : ℕ} → On (s .marks) j → On (s .pending) j ⊎ At (Closed p s) j
+
+closed-more : {p : Program} {s t : Worklist} {f n r q : ℕ} → ((j : ℕ) → On (s .marks) j → On (t .marks) j) → t .known ≡ s .known
+    → Closed p s f n r q → Closed p t f n r q
+closed-more i e z =
+    record {
+      exit = λ h. rw e (z .exit h);
+      acts = λ x y m. i _ (z .acts x y m);
+      calls = λ y. i _ (z .calls y);
+      returns = λ x h y o. i _ (z .returns x h y (rw e at o));
+    }
+
+module _ (p : Program) (S : Set) (z : Sizes p) (h : Proper p S) where
+  -- ---- what a step marks is derivable
+  label-sound : (s : Worklist) → Follows p S s → (f n m r q : ℕ) (l : Event) (j : ℕ) → Derivable p S Any f n r q → HasStep p f n l m
+      → ByLabel p (s .known) f m r q l j → At (Derivable p S Any) j
+  label-sound s v f n m r q (Action a) j d e (by-move c) =
+      let x = by-action d e (c .passes) tt in
+      rw (c .is) (to-number (Derivable p S Any) (derivable-in-range z h x) x)
+  label-sound s v f n m r q (Call g) j d e (by-entry c) =
+      let x : Derivable p S Any g 0 q q = by-call d e (may-call p q g (derivable-state z h d)) tt in
+      rw c (to-number (Derivable p S Any) (derivable-in-range z h x) x)
+  label-sound s v f n m r q (Call g) j d e (by-summary c) =
+      let hx : c .at < 8 = omega (arith, c .high) in
+      let hq = derivable-in-range z h d .state in
+      let k = v .known g q (c .at) (z .called e) hq hx (c .passes) in
+      let d′ : Derivable p S Any g 1 q (c .at) =
+      from-number (Derivable p S Any) (record { routine = z .called e; node = omega arith; root = hq; state = hx }) (v .sound k) in
+      let x : Derivable p S Any f m r (c .at) =
+      by-return d e (may-call p q g (derivable-state z h d)) d′ (may-return p (c .at) g (derivable-state z h d′)) tt in
+      rw (c .is) (to-number (Derivable p S Any) (derivable-in-range z h x) x)
+  label-sound s v f n m r q (Return g) j d e c = elim c [ ]
+
+  -- ---- one iteration
+  module _ (i : ℕ) (s : Worklist) (v : Follows p S s) (hi : On (s .pending) i) where
+    -- elsewhere than at an exit
+    elsewhere : (t : Worklist) → Shape t → nodeOf i ≢ 1 → Marking p i s t → Follows p S t
+    elsewhere t shape ne k =
+        record {
+          shape = shape;
+          sound = λ {j} o.
+              elim (k .new o) [
+                | inl x ↦ v .sound x
+                | inr x ↦
+                    label-sound s v (routineOf i) (nodeOf i) (x .0 .target) (rootOf i) (stateOf i) (x .0 .label) j (v .sound (v .pending hi)) (x .0 .member)
+                    (x .0 .does)
+              ];
+          seeds = λ x. k .keep (v .seeds x);
+          pending = λ {j} o. elim (k .waits o) [ inl x ↦ k .keep (v .pending (clear-inv (s .pending) i j x)) | inr x ↦ x .0 ];
+          known = λ g r q hg hr hq o. k .keep (v .known g r q hg hr hq (rw (k .known) at o));
+          closed = λ {j} o. elim (k .new o) [ inl x ↦ old j (v .closed x) | inr x ↦ inl (x .1) ];
+        }
+      where
+        done : At (Closed p t) i
+        done =
+            record {
+              exit = λ e. absurd (ne e);
+              acts = λ {a} {m} x e y.
+                  let hs = z .states in
+                  let hx = z .after (stateOf i) a x y in
+                  k .all (record {
+                    label = Action a;
+                    target = m;
+                    member = e;
+                    does = by-move (record { at = x; low = omega arith; high = omega arith; passes = y; is = refl });
+                  });
+              calls = λ {g} {m} e. k .all (record { label = Call g; target = m; member = e; does = by-entry refl });
+              returns = λ {g} {m} x hx e y.
+                  k .all (record {
+                    label = Call g;
+                    target = m;
+                    member = e;
+                    does = by-summary (record { at = x; low = omega arith; high = omega arith; passes = rw (k .known) at y; is = refl });
+                  });
+            }
+
+        old : (j : ℕ) → On (s .pending) j ⊎ At (Closed p s) j → On (t .pending) j ⊎ At (Closed p t) j
+        old j (inl x) = elim (clear-keep (s .pending) i j x) [ inl e ↦ inr (subst (At (Closed p t)) (sym e) done) | inr y ↦ inl (k .wait y) ]
+        old j (inr c) = inr (closed-more (λ y o. k .keep o) (k .known) c)
+
+    -- at an exit
+    at-exit : (t : Worklist) → Shape t → nodeOf i ≡ 1 → Waking p i s t → Follows p S t
+    unfolding learn
+    at-exit t shape is-exit k =
+        record {
+          shape = shape;
+          sound = λ {j} o. v .sound (of-s j o);
+          seeds = λ x. to-t _ (v .seeds x);
+          pending = λ {j} o. to-t j (elim (k .waits o) [ inl x ↦ v .pending (clear-inv (s .pending) i j x) | inr x ↦ x .1 ]);
+          known = λ g r q hg hr hq o.
+              elim (set-inv (s .known) here (summary g r q) (rw (k .known) at o)) [
+                | inl e ↦ rw (exit-number i g r q is-exit hr hq e) (to-t i (v .pending hi))
+                | inr x ↦ to-t _ (v .known g r q hg hr hq x)
+              ];
+          closed = λ {j} o. old j (of-s j o) (v .closed (of-s j o));
+        }
+      where
+        here : ℕ
+        here = summary (routineOf i) (rootOf i) (stateOf i)
+
+        of-s : (j : ℕ) → On (t .marks) j → On (s .marks) j
+        of-s j o = rw (k .marks) at o
+
+        to-t : (j : ℕ) → On (s .marks) j → On (t .marks) j
+        to-t j o = rw (k .marks) o
+
+        known-here : On (t .known) here
+        known-here =
+            let low = summary-fits (routineOf i) (rootOf i) (stateOf i)
+            (routine-small i (omega (arith, v .shape .pending-length, on-lt (s .pending) i hi))) (root-small i) (state-small i) in
+            rw (k .known) (set-on (s .known) here (omega (arith, v .shape .known-length)))
+
+        done : At (Closed p t) i
+        done =
+            record {
+              exit = λ e. known-here;
+              acts = λ x e y. absurd (z .no-exit e is-exit);
+              calls = λ e. absurd (z .no-exit e is-exit);
+              returns = λ x hx e y. absurd (z .no-exit e is-exit);
+            }
+
+        -- what the new summary adds to is pending
+        new-returns : (j : ℕ) → On (s .marks) j → ¬ (On (t .pending) j) → At (Closed p s) j → (g m x : ℕ) → x < 8
+            → HasStep p (routineOf j) (nodeOf j) (Call g) m → On (t .known) (summary g (stateOf j) x) → On (s .marks) (number (routineOf j) m (rootOf j) x)
+        new-returns j o not-pending c g m x hx e y =
+            elim (set-inv (s .known) here (summary g (stateOf j) x) (rw (k .known) at y)) [
+              | inl w ↦
+                  let u = summary-apart g (stateOf j) x (routineOf i) (rootOf i) (stateOf i) (state-small j) hx (root-small i) (state-small i) w in
+                  absurd (not-pending (k .woken (record {
+                    routine = routineOf j;
+                    node = nodeOf j;
+                    target = m;
+                    root = rootOf j;
+                    small = root-small j;
+                    member = subst (λ (y : ℕ). HasStep p (routineOf j) (nodeOf j) (Call y) m) (u .0) e;
+                    is = sym (number-of j) ∙ ap (number (routineOf j) (nodeOf j) (rootOf j)) (u .1);
+                  }) o))
+              | inr w ↦ c .returns x hx e w
+            ]
+
+        still : (j : ℕ) → On (s .marks) j → At (Closed p s) j → On (t .pending) j ⊎ At (Closed p t) j
+        still j o c =
+            elim (dec-on (t .pending) j) [
+              | yes w ↦ inl w
+              | no w ↦ inr (record {
+                exit = λ e. rw (k .known) (on-set (s .known) here (summary (routineOf j) (rootOf j) (stateOf j)) (c .exit e));
+                acts = λ x e y. to-t _ (c .acts x e y);
+                calls = λ e. to-t _ (c .calls e);
+                returns = λ {g} {m} x hx e y. to-t _ (new-returns j o w c g m x hx e y);
+              })
+            ]
+
+        old : (j : ℕ) → On (s .marks) j → On (s .pending) j ⊎ At (Closed p s) j → On (t .pending) j ⊎ At (Closed p t) j
+        old j o (inl x) = elim (clear-keep (s .pending) i j x) [ inl e ↦ inr (subst (At (Closed p t)) (sym e) done) | inr y ↦ inl (k .wait y) ]
+        old j o (inr c) = still j o c
+
+    pub take-follows : Follows p S (takeAt p i s)
+    take-follows =
+        let shape = take-shape p i s (v .shape) in
+        elim (ℕ-discrete (nodeOf i) 1) [
+          | yes e ↦ at-exit (takeAt p i s) shape e (take-exit p z i s (v .shape) e)
+          | no ne ↦ elsewhere (takeAt p i s) shape ne (take-elsewhere p z i s (v .shape) ne)
+        ]
+
+  pub work-follows : (k : ℕ) (s : Worklist) → Follows p S s → Follows p S (work k p (lowest (s .pending) 0) s)
+  work-follows k s v = work-kept p (λ i t e v. take-follows i t v (lowest-on (t .pending) i e)) k (lowest (s .pending) 0) s refl v
+
+  -- ---- nothing is pending
+
+  module _ (s : Worklist) (v : Follows p S s) (none-pending : lowest (s .pending) 0 ≡ none) where
+    closed-at : {f n r q : ℕ} → InRange f n r q → On (s .marks) (number f n r q) → Closed p s f n r q
+    closed-at i o = from-number (Closed p s) i (elim (v .closed o) [ inl x ↦ absurd (lowest-none (s .pending) none-pending _ x) | inr c ↦ c ])
+
+    derivable-marked : {f n r q : ℕ} → Derivable p S Any f n r q → On (s .marks) (number f n r q)
+    derivable-marked (seeded x w) = v .seeds x
+    derivable-marked (by-action {s = x} d e m w) = closed-at (derivable-in-range z h d) (derivable-marked d) .acts x e m
+    derivable-marked (by-call {q = q} {g = g} {s = x} d e m w) =
+        rw (call-stays p q g x m) (closed-at (derivable-in-range z h d) (derivable-marked d) .calls e)
+    derivable-marked (by-return {q = q} {g = g} {s = y} {x = x} {t = t} d e m d′ m′ w) =
+        let i = derivable-in-range z h d′ in
+        let o : On (s .known) (summary g q x) = rw (call-stays p q g y m) at (closed-at i (derivable-marked d′) .exit refl) in
+        rw (return-stays p x g t m′) (closed-at (derivable-in-range z h d) (derivable-marked d) .returns x (i .state) e o)
+
+    -- exactly what is derivable is marked
+    pub follows-exact : (f n r q : ℕ) → (InRange f n r q × On (s .marks) (number f n r q)) ↔ Derivable p S Any f n r q
+    follows-exact f n r q = (λ c. from-number (Derivable p S Any) (c .0) (v .sound (c .1)), λ d. (derivable-in-range z h d, derivable-marked d))
+
+    -- exactly the summaries of derivable exits are known
+    pub follows-known : (g r q : ℕ) → InRange g 1 r q → On (s .known) (summary g r q) ↔ Derivable p S Any g 1 r q
+    follows-known g r q i = (
+      λ o. from-number (Derivable p S Any) i (v .sound (v .known g r q (i .routine) (i .root) (i .state) o)),
+      λ d. closed-at i (derivable-marked d) .exit refl,
+    )
+
+-- ---- the start
+
+pub opened-follows : (p : Program) → Sizes p → Follows p (Initial p) (opened (p .automaton .initial) blank)
+unfolding none-set
+opened-follows p z =
+    record {
+      shape = opened-shape (p .automaton .initial);
+      sound = λ o. elim (k .new o) [ inl x ↦ none-on 16384 x | inr x ↦ rw (x .0 .is) (first (x .0 .state) (x .0 .member)) ];
+      seeds = begun;
+      pending = λ o. elim (k .waits o) [ inl x ↦ none-on 16384 x | inr x ↦ x .0 ];
+      known = λ g r q hg hr hq o. none-on 1024 (rw (k .known) at o);
+      closed = λ o. elim (k .new o) [ inl x ↦ none-on 16384 x | inr x ↦ inl (x .1) ];
+    }
+  where
+    k : Marks (Opening (p .automaton .initial)) blank (opened (p .automaton .initial) blank)
+    k = on-opened (p .automaton .initial) blank (λ q m. let b = z .begun m in let c = z .states in omega arith) blank-shape
+
+    first : (q : ℕ) → List·Memᴰ q (p .automaton .initial) → At (Reachable p) (number 0 0 q q)
+    first q m =
+        let d : Reachable p 0 0 q q = seeded (initial m) tt in
+        to-number (Reachable p) (derivable-in-range z (initial-proper p z) d) d
+
+    begun : {f n r q : ℕ} → Initial p f n r q → On (opened (p .automaton .initial) blank .marks) (number f n r q)
+    begun (initial {q} m) = k .all (record { state = q; member = m; is = refl })

@@ -1,0 +1,60 @@
+-- The start of the analysis.
+use Prim.Native.Nat.{ℕ, zero, suc, min, _+_, _≤_}
+use mathlib.Core.Path.{_≡_, refl, sym, ap, subst, _∙_}
+use mathlib.Core.Option.{none}
+use mathlib.Core.List.{List, [], _∷_}
+use native.Mathlib.Omega.{arith}
+use lib.ListN.{length, getD, take, drop, replicate}
+use lib.Seq.{drop-cons}
+use Rattle.program.specs.Program.{Program}
+use Rattle.program.specs.WellFormed.{WellFormed}
+use Rattle.reach.specs.Sizes.{summariesSize, enoughIterations}
+use Rattle.reach.specs.Configurations.{number, none-set}
+use Rattle.reach.specs.Worklist.{Worklist, Shape, lowest, mark, work, opened, blank, analysis}
+use Rattle.reach.proofs.ShapeKept.{opened-shape}
+use Rattle.reach.proofs.TakingsBounded.{analysis-ends}
+use Rattle.reach.proofs.AnalysisExact.{pending-clear}
+use Rattle.marking.specs.Parts.{worklist, Becomes, NoneBelow, each}
+use Rattle.worklist.specs.Parts.{followed}
+
+opened-is : (list : List ℕ) (k x : ℕ) → k + x ≤ length list → (s : Worklist)
+    → each (λ i. mark (number 0 0 (getD list i 0) (getD list i 0))) k x s ≡ opened (take k (drop x list)) s
+unfolding each opened
+opened-is list zero x h s = refl
+opened-is list (suc k) x h s = rw (drop-cons list x 0 (omega arith)) (opened-is list k (suc x) (omega arith) _)
+
+pub all-opened : (list : List ℕ) (n : ℕ) → n ≤ length list → {m w m′ w′ : List ℕ}
+    → Becomes (each (λ i. mark (number 0 0 (getD list i 0) (getD list i 0))) n 0) m w m′ w′ → Becomes (opened (take n list)) m w m′ w′
+all-opened list n h b = record { becomes = λ k c. b .becomes k c ∙ opened-is list n 0 (omega arith) _ }
+
+pub none-yet : (w : List ℕ) → NoneBelow w 0
+none-yet w = record { none-below = λ j h. absurd (omega arith) }
+
+-- a count above the length means all
+pub take-min : (n : ℕ) (l : List ℕ) → take (min n (length l)) l ≡ take n l
+take-min zero l = let e : min zero (length l) ≡ 0 = omega arith in rw e
+take-min (suc n) [] = let e : min (suc n) zero ≡ 0 = omega arith in rw e
+take-min (suc n) (x ∷ l) =
+    let e : min (suc n) (suc (length l)) ≡ suc (min n (length l)) = omega arith in
+    rw e (ap (λ (t : List ℕ). x ∷ t) (take-min n l))
+
+-- from the opened worklist the procedure comes to its end, with the result of the analysis
+module _ (p : Program) (wf : WellFormed p) (m w : List ℕ) (b : Becomes (opened (p .automaton .initial)) none-set none-set m w) where
+  start-is : worklist m w (replicate summariesSize 0) 0 ≡ opened (p .automaton .initial) blank
+  start-is = b .becomes (replicate summariesSize 0) 0
+
+  result-is : followed p m w (replicate summariesSize 0) ≡ analysis p
+  unfolding analysis
+  result-is = ap (λ (s : Worklist). work enoughIterations p (lowest (s .pending) 0) s) start-is
+
+  pub start-shape : Shape (worklist m w (replicate summariesSize 0) 0)
+  start-shape = subst Shape (sym start-is) (opened-shape (p .automaton .initial))
+
+  pub comes-to-an-end : lowest (followed p m w (replicate summariesSize 0) .pending) 0 ≡ none
+  comes-to-an-end = ap (λ (s : Worklist). lowest (s .pending) 0) result-is ∙ analysis-ends p wf
+
+  pub analyzed : {m′ w′ k′ : List ℕ} {n : ℕ} → worklist m′ w′ k′ n ≡ followed p m w (replicate summariesSize 0)
+      → (m′ ≡ analysis p .marks) × (w′ ≡ none-set) × (n ≡ analysis p .iterations)
+  analyzed e =
+      let f = e ∙ result-is in
+      (ap (λ (s : Worklist). s .marks) f, ap (λ (s : Worklist). s .pending) f ∙ pending-clear p wf, ap (λ (s : Worklist). s .iterations) f)
