@@ -1,5 +1,5 @@
 -- Components (paper: groups) of the call graph, and the routines that the inside-out repair reanalyzes (paper:
--- reopens).
+-- reanalyzes).
 use Prim.Native.Nat.{ℕ, _<_, _/_, _%_, _^_}
 use mathlib.Core.Path.{_≡_}
 use mathlib.Core.Logic.{_⊎_, _↔_, _≢_}
@@ -58,7 +58,7 @@ pub record CallsChanged (p p′ : Program) (f g : ℕ) : Type 0 where
 
 -- a routine is reanalyzed if its component, in the edited program, holds the edited routine or calls one outside it
 -- whose summaries have changed
-pub record Reopened (p p′ : Program) (edited f : ℕ) : Type 0 where
+pub record Reanalyzed (p p′ : Program) (edited f : ℕ) : Type 0 where
   pub member : ℕ
   pub together : Together p′ f member
   pub reason : (member ≡ edited) ⊎ CallsChanged p p′ f member

@@ -5,5 +5,5 @@ pub mod RoutinePartOfTable
 pub mod RoundsClose
 pub mod PassDerives
 pub mod TurnsFinished
-pub mod ReopeningDecided
+pub mod ReanalysisDecided
 pub mod TurnsTaken

@@ -16,7 +16,7 @@ use Rattle.reach.proofs.ProgramInSizes.{may-call, reachable-in-range, reachable
 use Rattle.reach.proofs.ShapeKept.{marks-length, marks-bits}
 use Rattle.reach.proofs.AnalysisExact.{analysis-exact}
 use Rattle.reach.proofs.MarksShown.{shows-same, one-list, reachable-shown}
-use Rattle.callgraph.specs.Components.{CallEdge, Leads, directly, through, Together, OldRoot, Anew, Changed, Reopened, Member, memberOf}
+use Rattle.callgraph.specs.Components.{CallEdge, Leads, directly, through, Together, OldRoot, Anew, Changed, Reanalyzed, Member, memberOf}
 use Rattle.roots.specs.Roots.{RootOf, Live, begun, called, LiveMarked}
 use Rattle.roots.specs.Parts.{RootFlags}
 use Rattle.components.specs.Passes.{onlyOf, PassSeeds, entry, summary, ExitOf, PassOf}
@@ -36,8 +36,8 @@ leads-small h (through e l) = leads-small h l
 
 -- ---- the turn of routine f, with its component
 
-module _ {p p′ : Program} {edited : ℕ} (h : DropOf p p′ edited) {rank : ℕ → ℕ} (k : Ranks p′ rank) {i : ℕ} {marks done reopened : List ℕ}
-    (w : Working p p′ edited rank i marks done reopened) (f : ℕ) (hf : f < maxRoutines) (turn : turnOf rank f ≡ i) (not-done : ¬ (Member done f))
+module _ {p p′ : Program} {edited : ℕ} (h : DropOf p p′ edited) {rank : ℕ → ℕ} (k : Ranks p′ rank) {i : ℕ} {marks done reanalyzed : List ℕ}
+    (w : Working p p′ edited rank i marks done reanalyzed) (f : ℕ) (hf : f < maxRoutines) (turn : turnOf rank f ≡ i) (not-done : ¬ (Member done f))
     (members : List ℕ) (members-length : length members ≡ maxRoutines) (is-member : (g : ℕ) → g < maxRoutines → Member members g ↔ Together p′ f g) where
   outside-done : (g c : ℕ) → Member members g → CallEdge p′ g c → ¬ (Member members c) → Member done c
   outside-done g c m e x = called-done h k w f hf turn not-done members members-length is-member (member-small members g members-length m) m e x
@@ -140,10 +140,10 @@ module _ {p p′ : Program} {edited : ℕ} (h : DropOf p p′ edited) {rank : �
           | inr y ↦ absurd (y .1 (anew-old (dropped h) (y .0)))
         ]
 
-    pub reopened-is : (Member members edited ⊎ CallsDiffering p′ members before marks) ↔ Reopened p p′ edited f
-    reopened-is = (there, back)
+    pub reanalyzed-is : (Member members edited ⊎ CallsDiffering p′ members before marks) ↔ Reanalyzed p p′ edited f
+    reanalyzed-is = (there, back)
       where
-        there : Member members edited ⊎ CallsDiffering p′ members before marks → Reopened p p′ edited f
+        there : Member members edited ⊎ CallsDiffering p′ members before marks → Reanalyzed p p′ edited f
         there (inl m) = record { member = edited; together = is-member edited (member-small members edited members-length m) .0 m; reason = inl refl }
         there (inr c) =
             let hc = called-small p′ (h .well-formed) (c .calls) in
@@ -163,7 +163,7 @@ module _ {p p′ : Program} {edited : ℕ} (h : DropOf p p′ edited) {rank : �
         together-small (inl e) = subst (λ (x : ℕ). x < maxRoutines) e hf
         together-small (inr l) = leads-small h (l .0)
 
-        back : Reopened p p′ edited f → Member members edited ⊎ CallsDiffering p′ members before marks
+        back : Reanalyzed p p′ edited f → Member members edited ⊎ CallsDiffering p′ members before marks
         back o =
             let hg = together-small (o .together) in
             let m = is-member (o .member) hg .1 (o .together) in
@@ -185,14 +185,14 @@ module _ {p p′ : Program} {edited : ℕ} (h : DropOf p p′ edited) {rank : �
 -- ---- the first turn, and after the last
 
 module _ {p p′ : Program} {edited : ℕ} (h : DropOf p p′ edited) {rank : ℕ → ℕ} (k : Ranks p′ rank) where
-  pub first-turn : (done reopened : List ℕ) → length done ≡ maxRoutines → length reopened ≡ maxRoutines → ((f : ℕ) → getD done f 0 ≡ 0) → ((f : ℕ) → getD reopened f 0 ≡ 0)
-      → Working p p′ edited rank firstTurn (freshMarks p) done reopened
-  first-turn done reopened a b c d =
+  pub first-turn : (done reanalyzed : List ℕ) → length done ≡ maxRoutines → length reanalyzed ≡ maxRoutines → ((f : ℕ) → getD done f 0 ≡ 0) → ((f : ℕ) → getD reanalyzed f 0 ≡ 0)
+      → Working p p′ edited rank firstTurn (freshMarks p) done reanalyzed
+  first-turn done reanalyzed a b c d =
       record {
         marks-length = marks-length p;
         marks-bits = marks-bits p;
         done-length = a;
-        reopened-length = b;
+        reanalyzed-length = b;
         earlier = λ f hf lt. absurd (omega (arith, k .low f hf));
         whole = λ f g hf hg m t. absurd (m (c f));
         worked = λ f n r q m. absurd (m (c f));
@@ -201,11 +201,11 @@ module _ {p p′ : Program} {edited : ℕ} (h : DropOf p p′ edited) {rank : �
         none-yet = λ f m x. x (d f);
       }
 
-  module _ {marks done reopened : List ℕ} (w : Working p p′ edited rank endTurn marks done reopened) where
+  module _ {marks done reanalyzed : List ℕ} (w : Working p p′ edited rank endTurn marks done reanalyzed) where
     all-done : (f : ℕ) → f < maxRoutines → Member done f
     all-done f hf = w .earlier f hf (omega (arith, k .high f hf))
 
-    pub all-right : (f : ℕ) → f < maxRoutines → Member reopened f ↔ Reopened p p′ edited f
+    pub all-right : (f : ℕ) → f < maxRoutines → Member reanalyzed f ↔ Reanalyzed p p′ edited f
     all-right f hf = w .right f hf (all-done f hf)
 
     anew-marked : {f n r q : ℕ} → Anew p p′ f n r q → Marked marks f n r q

@@ -17,7 +17,7 @@ use Rattle.reach.proofs.ShapeKept.{marks-length}
 use Rattle.reach.proofs.AnalysisExact.{analysis-exact}
 use Rattle.worklist.specs.Parts.{Learnt}
 use Rattle.worklist.proofs.SummariesKnown.{exit-byte}
-use Rattle.callgraph.specs.Components.{Leads, Together, Anew, Reopened, Member}
+use Rattle.callgraph.specs.Components.{Leads, Together, Anew, Reanalyzed, Member}
 use Rattle.callgraph.specs.Parts.{LeadFlags, rankOf, Joined}
 use Rattle.roots.specs.Roots.{LiveMarked}
 use Rattle.roots.specs.Parts.{RootFlags}
@@ -28,7 +28,7 @@ use Rattle.callgraph.proofs.ComponentsFromFlags.{called-small, rank-positive, r
 use Rattle.callgraph.proofs.CallsByKey.{edgeAt, KeysOf, key-step, step-key}
 use Rattle.roots.proofs.RootsOccur.{byte-tells}
 use Rattle.components.proofs.TurnsWork.{skipped, kept-turn, worked-turn}
-use Rattle.components.proofs.TurnsFinished.{pass-is, passable, reopened-is, first-turn, all-right, cut-fresh}
+use Rattle.components.proofs.TurnsFinished.{pass-is, passable, reanalyzed-is, first-turn, all-right, cut-fresh}
 
 -- ---- the edges that decide, by their keys
 
@@ -75,18 +75,18 @@ ranks l =
 
 -- ---- a turn
 
-module _ {p p′ : Program} {edited i : ℕ} {leads roots before marks done reopened : List ℕ} (t : Turning p p′ edited leads roots before i marks done reopened) where
-  next : {marks′ done′ reopened′ : List ℕ} → Working p p′ edited (rankOf leads) (i + 1) marks′ done′ reopened′
-      → Turning p p′ edited leads roots before (i + 1) marks′ done′ reopened′
+module _ {p p′ : Program} {edited i : ℕ} {leads roots before marks done reanalyzed : List ℕ} (t : Turning p p′ edited leads roots before i marks done reanalyzed) where
+  next : {marks′ done′ reanalyzed′ : List ℕ} → Working p p′ edited (rankOf leads) (i + 1) marks′ done′ reanalyzed′
+      → Turning p p′ edited leads roots before (i + 1) marks′ done′ reanalyzed′
   next w = record { drop = t .drop; graph = t .graph; old-roots = t .old-roots; old-summaries = t .old-summaries; working = w }
 
   -- the routine whose turn it may be is done
-  pub done-skipped : getD done (i % maxRoutines) 0 ≢ 0 → Turning p p′ edited leads roots before (i + 1) marks done reopened
+  pub done-skipped : getD done (i % maxRoutines) 0 ≢ 0 → Turning p p′ edited leads roots before (i + 1) marks done reanalyzed
   done-skipped m =
       next (skipped (t .drop) (ranks (t .graph)) (t .working) (λ f hf e. let z : i % maxRoutines ≡ f = omega arith in subst (Member done) z m))
 
   -- or has another rank
-  pub rank-skipped : {n : ℕ} → n ≡ rankOf leads (i % maxRoutines) → n ≢ i / maxRoutines → Turning p p′ edited leads roots before (i + 1) marks done reopened
+  pub rank-skipped : {n : ℕ} → n ≡ rankOf leads (i % maxRoutines) → n ≢ i / maxRoutines → Turning p p′ edited leads roots before (i + 1) marks done reanalyzed
   rank-skipped e x =
       next (skipped (t .drop) (ranks (t .graph)) (t .working) (λ f hf z.
       let same : i % maxRoutines ≡ f = omega arith in
@@ -98,38 +98,38 @@ module _ {p p′ : Program} {edited i : ℕ} {leads roots before marks done reop
     its-turn : turnOf (rankOf leads) (i % maxRoutines) ≡ i
     its-turn = omega (arith, e, x)
 
-    pub at-turn : Turning p p′ edited leads roots before (turnOf (rankOf leads) (i % maxRoutines)) marks done reopened
-    at-turn = subst (λ (j : ℕ). Turning p p′ edited leads roots before j marks done reopened) (sym its-turn) t
+    pub at-turn : Turning p p′ edited leads roots before (turnOf (rankOf leads) (i % maxRoutines)) marks done reanalyzed
+    at-turn = subst (λ (j : ℕ). Turning p p′ edited leads roots before j marks done reanalyzed) (sym its-turn) t
 
-    pub from-turn : {marks′ done′ reopened′ : List ℕ} → Turning p p′ edited leads roots before (turnOf (rankOf leads) (i % maxRoutines) + 1) marks′ done′ reopened′
-        → Turning p p′ edited leads roots before (i + 1) marks′ done′ reopened′
-    from-turn {marks′} {done′} {reopened′} y = subst (λ (j : ℕ). Turning p p′ edited leads roots before (j + 1) marks′ done′ reopened′) its-turn y
+    pub from-turn : {marks′ done′ reanalyzed′ : List ℕ} → Turning p p′ edited leads roots before (turnOf (rankOf leads) (i % maxRoutines) + 1) marks′ done′ reanalyzed′
+        → Turning p p′ edited leads roots before (i + 1) marks′ done′ reanalyzed′
+    from-turn {marks′} {done′} {reanalyzed′} y = subst (λ (j : ℕ). Turning p p′ edited leads roots before (j + 1) marks′ done′ reanalyzed′) its-turn y
 
   -- after the last turn
-  pub turning-end : i ≤ endTurn → endTurn ≤ i → Turning p p′ edited leads roots before endTurn marks done reopened
-  turning-end a b = let e : i ≡ endTurn = omega arith in subst (λ (j : ℕ). Turning p p′ edited leads roots before j marks done reopened) e t
+  pub turning-end : i ≤ endTurn → endTurn ≤ i → Turning p p′ edited leads roots before endTurn marks done reanalyzed
+  turning-end a b = let e : i ≡ endTurn = omega arith in subst (λ (j : ℕ). Turning p p′ edited leads roots before j marks done reanalyzed) e t
 
 -- ---- the turn of routine f, with its component
 
-module _ {p p′ : Program} {edited : ℕ} (f : ℕ) {leads roots before marks done reopened : List ℕ}
-    (t : Turning p p′ edited leads roots before (turnOf (rankOf leads) f) marks done reopened) (hf : f < maxRoutines) (waits : getD done f 0 ≡ 0)
+module _ {p p′ : Program} {edited : ℕ} (f : ℕ) {leads roots before marks done reanalyzed : List ℕ}
+    (t : Turning p p′ edited leads roots before (turnOf (rankOf leads) f) marks done reanalyzed) (hf : f < maxRoutines) (waits : getD done f 0 ≡ 0)
     {members : List ℕ} (len : length members ≡ maxRoutines) (is : (g : ℕ) → g < maxRoutines → (getD members g 0 ≢ 0) ↔ Together p′ f g) where
   pub may-pass : Passable p′ members roots marks
   may-pass = passable (t .drop) (ranks (t .graph)) (t .working) f hf refl (λ m. m waits) members len is roots (t .old-roots)
 
-  decides : (Member members edited ⊎ CallsDiffering p′ members before marks) ↔ Reopened p p′ edited f
-  decides = reopened-is (t .drop) (ranks (t .graph)) (t .working) f hf refl (λ m. m waits) members len is before (t .old-summaries)
+  decides : (Member members edited ⊎ CallsDiffering p′ members before marks) ↔ Reanalyzed p p′ edited f
+  decides = reanalyzed-is (t .drop) (ranks (t .graph)) (t .working) f hf refl (λ m. m waits) members len is before (t .old-summaries)
 
   pub component-kept : ¬ (Member members edited ⊎ CallsDiffering p′ members before marks) → {done′ : List ℕ} → Joined done members done′
-      → Turning p p′ edited leads roots before (turnOf (rankOf leads) f + 1) marks done′ reopened
+      → Turning p p′ edited leads roots before (turnOf (rankOf leads) f + 1) marks done′ reanalyzed
   component-kept n {done′} j =
       next t (kept-turn (t .drop) (ranks (t .graph)) (t .working) f hf refl (λ m. m waits) members len is (λ o. n (decides .1 o)) done′ j)
 
-  pub component-worked : Member members edited ⊎ CallsDiffering p′ members before marks → {marks′ done′ reopened′ : List ℕ}
-      → Passed p′ members roots marks marks′ → Joined reopened members reopened′ → Joined done members done′
-      → Turning p p′ edited leads roots before (turnOf (rankOf leads) f + 1) marks′ done′ reopened′
-  component-worked o {marks′} {done′} {reopened′} s k j =
-      next t (worked-turn (t .drop) (ranks (t .graph)) (t .working) f hf refl (λ m. m waits) members len is (decides .0 o) marks′ done′ reopened′ j k
+  pub component-worked : Member members edited ⊎ CallsDiffering p′ members before marks → {marks′ done′ reanalyzed′ : List ℕ}
+      → Passed p′ members roots marks marks′ → Joined reanalyzed members reanalyzed′ → Joined done members done′
+      → Turning p p′ edited leads roots before (turnOf (rankOf leads) f + 1) marks′ done′ reanalyzed′
+  component-worked o {marks′} {done′} {reanalyzed′} s k j =
+      next t (worked-turn (t .drop) (ranks (t .graph)) (t .working) f hf refl (λ m. m waits) members len is (decides .0 o) marks′ done′ reanalyzed′ j k
       (s .marks-length) (s .marks-bits) inside (s .outside))
     where
       inside : (g n r q : ℕ) → Member members g → Marked marks′ g n r q ↔ Anew p p′ g n r q
@@ -180,9 +180,9 @@ module _ {p p′ : Program} {edited : ℕ} (h : DropOf p p′ edited) where
         working = rw e (first-turn h (ranks l) (replicate maxRoutines 0) (replicate maxRoutines 0) (length-replicate {A = ℕ} maxRoutines 0) (length-replicate {A = ℕ} maxRoutines 0) (zeros maxRoutines) (zeros maxRoutines));
       }
 
-module _ {p p′ : Program} {edited : ℕ} {leads roots before marks done reopened : List ℕ} (t : Turning p p′ edited leads roots before endTurn marks done reopened) where
+module _ {p p′ : Program} {edited : ℕ} {leads roots before marks done reanalyzed : List ℕ} (t : Turning p p′ edited leads roots before endTurn marks done reanalyzed) where
   pub turning-marks : {marks′ : List ℕ} → Shows (LiveMarked p′ marks) marks′ → marks′ ≡ freshMarks p′
   turning-marks {marks′} s = cut-fresh (t .drop) (ranks (t .graph)) (t .working) marks′ s
 
-  pub turning-reopened : (f : ℕ) → f < maxRoutines → Member reopened f ↔ Reopened p p′ edited f
-  turning-reopened f hf = all-right (t .drop) (ranks (t .graph)) (t .working) f hf
+  pub turning-reanalyzed : (f : ℕ) → f < maxRoutines → Member reanalyzed f ↔ Reanalyzed p p′ edited f
+  turning-reanalyzed f hf = all-right (t .drop) (ranks (t .graph)) (t .working) f hf

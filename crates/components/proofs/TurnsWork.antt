@@ -14,7 +14,7 @@ use Rattle.reach.specs.Configurations.{InRange, number}
 use Rattle.reach.specs.Reachable.{Initial, initial, Reachable}
 use Rattle.reach.specs.Marks.{Marked}
 use Rattle.reach.proofs.ProgramInSizes.{reachable-in-range}
-use Rattle.callgraph.specs.Components.{CallEdge, Together, Anew, Reopened, Member}
+use Rattle.callgraph.specs.Components.{CallEdge, Together, Anew, Reanalyzed, Member}
 use Rattle.callgraph.specs.Parts.{Joined}
 use Rattle.components.specs.TurnParts.{DropOf, Ranks, turnOf, Working}
 use Rattle.callgraph.proofs.RoutineSets.{member-small, member-dec}
@@ -22,8 +22,8 @@ use Rattle.callgraph.proofs.ComponentsFromFlags.{together-sym, together-trans, 
 use Rattle.components.proofs.ComponentsAnew.{Dropped, Untouched, root-old, anew-old, untouched-kept}
 
 -- what one routine of a component is, all are
-pub reopened-together : {p p′ : Program} {edited f g : ℕ} → Together p′ f g → Reopened p p′ edited f → Reopened p p′ edited g
-reopened-together t o =
+pub reanalyzed-together : {p p′ : Program} {edited f g : ℕ} → Together p′ f g → Reanalyzed p p′ edited f → Reanalyzed p p′ edited g
+reanalyzed-together t o =
     record {
       member = o .member;
       together = together-trans (together-sym t) (o .together);
@@ -55,15 +55,15 @@ module _ {p p′ : Program} {edited : ℕ} (h : DropOf p p′ edited) where
       back : {f n r q : ℕ} → Initial p′ f n r q → Initial p f n r q
       back (initial {q} m) = initial (subst (λ (a : Automaton). List·Memᴰ q (a .initial)) (h .automaton) m)
 
-  module _ {rank : ℕ → ℕ} (k : Ranks p′ rank) {i : ℕ} {marks done reopened : List ℕ} (w : Working p p′ edited rank i marks done reopened) where
+  module _ {rank : ℕ → ℕ} (k : Ranks p′ rank) {i : ℕ} {marks done reanalyzed : List ℕ} (w : Working p p′ edited rank i marks done reanalyzed) where
     -- ---- a turn without work: nobody has it, or who has it is done
-    pub skipped : ((f : ℕ) → f < maxRoutines → turnOf rank f ≡ i → Member done f) → Working p p′ edited rank (i + 1) marks done reopened
+    pub skipped : ((f : ℕ) → f < maxRoutines → turnOf rank f ≡ i → Member done f) → Working p p′ edited rank (i + 1) marks done reanalyzed
     skipped s =
         record {
           marks-length = w .marks-length;
           marks-bits = w .marks-bits;
           done-length = w .done-length;
-          reopened-length = w .reopened-length;
+          reanalyzed-length = w .reanalyzed-length;
           earlier = λ f hf lt. elim (ℕ-discrete (turnOf rank f) i) [ yes e ↦ s f hf e | no ne ↦ w .earlier f hf (omega arith) ];
           whole = w .whole;
           worked = w .worked;
@@ -116,7 +116,7 @@ module _ {p p′ : Program} {edited : ℕ} (h : DropOf p p′ edited) where
             ]
 
       -- ---- the component need not be reanalyzed
-      module _ (unless : ¬ (Reopened p p′ edited f)) where
+      module _ (unless : ¬ (Reanalyzed p p′ edited f)) where
         kept : (g n r q : ℕ) → g < maxRoutines → Member members g → Marked marks g n r q ↔ Anew p p′ g n r q
         kept g n r q hg m =
             let old = w .old g n r q (member-waits g hg m) in
@@ -154,13 +154,13 @@ module _ {p p′ : Program} {edited : ℕ} (h : DropOf p p′ edited) where
                     ]
 
         -- its routines are done, as they are
-        pub kept-turn : (done′ : List ℕ) → Joined done members done′ → Working p p′ edited rank (i + 1) marks done′ reopened
+        pub kept-turn : (done′ : List ℕ) → Joined done members done′ → Working p p′ edited rank (i + 1) marks done′ reanalyzed
         kept-turn done′ j =
             record {
               marks-length = w .marks-length;
               marks-bits = w .marks-bits;
               done-length = j .len ∙ w .done-length;
-              reopened-length = w .reopened-length;
+              reanalyzed-length = w .reanalyzed-length;
               earlier = earlier j;
               whole = whole j;
               worked = λ g n r q x. elim (member-of j g x) [ inl y ↦ w .worked g n r q y | inr y ↦ kept g n r q (y .0) (y .1) ];
@@ -170,24 +170,24 @@ module _ {p p′ : Program} {edited : ℕ} (h : DropOf p p′ edited) where
                     | inl y ↦ w .right g hg y
                     | inr y ↦ (
                       λ z. absurd (w .none-yet g (member-waits g hg y) z),
-                      λ z. absurd (unless (reopened-together (together-sym (is-member g hg .0 y)) z)),
+                      λ z. absurd (unless (reanalyzed-together (together-sym (is-member g hg .0 y)) z)),
                     )
                   ];
               none-yet = λ g x. w .none-yet g (λ y. x (stays j g y));
             }
 
       -- ---- the component is worked anew
-      pub worked-turn : Reopened p p′ edited f → (marks′ done′ reopened′ : List ℕ) → Joined done members done′ → Joined reopened members reopened′
+      pub worked-turn : Reanalyzed p p′ edited f → (marks′ done′ reanalyzed′ : List ℕ) → Joined done members done′ → Joined reanalyzed members reanalyzed′
           → length marks′ ≡ marksSize → ((x : ℕ) → getD marks′ x 0 ≤ 1)
           → ((g n r q : ℕ) → Member members g → Marked marks′ g n r q ↔ Anew p p′ g n r q)
           → ((g n r q : ℕ) → ¬ (Member members g) → Marked marks′ g n r q ↔ Marked marks g n r q)
-          → Working p p′ edited rank (i + 1) marks′ done′ reopened′
-      worked-turn o marks′ done′ reopened′ j l len bits inside outside =
+          → Working p p′ edited rank (i + 1) marks′ done′ reanalyzed′
+      worked-turn o marks′ done′ reanalyzed′ j l len bits inside outside =
           record {
             marks-length = len;
             marks-bits = bits;
             done-length = j .len ∙ w .done-length;
-            reopened-length = l .len ∙ w .reopened-length;
+            reanalyzed-length = l .len ∙ w .reanalyzed-length;
             earlier = earlier j;
             whole = whole j;
             worked = λ g n r q x.
@@ -205,14 +205,14 @@ module _ {p p′ : Program} {edited : ℕ} (h : DropOf p p′ edited) where
                 (λ z. b .0 (a .0 z), λ z. a .1 (b .1 z));
             right = λ g hg x.
                 elim (member-dec members g) [
-                  | yes m ↦ (λ z. reopened-together (is-member g hg .0 m) o, λ z. l .joined g hg .1 (inr m))
+                  | yes m ↦ (λ z. reanalyzed-together (is-member g hg .0 m) o, λ z. l .joined g hg .1 (inr m))
                   | no m ↦
                       let y : Member done g = elim (member-of j g x) [ inl y ↦ y | inr y ↦ absurd (m (y .1)) ] in
                       let b = w .right g hg y in
                       (λ z. elim (l .joined g hg .0 z) [ inl u ↦ b .0 u | inr u ↦ absurd (m u) ], λ z. l .joined g hg .1 (inl (b .1 z)))
                 ];
             none-yet = λ g x z.
-                let hg = member-small reopened′ g (l .len ∙ w .reopened-length) z in
+                let hg = member-small reanalyzed′ g (l .len ∙ w .reanalyzed-length) z in
                 elim (l .joined g hg .0 z) [
                   | inl u ↦ w .none-yet g (λ y. x (stays j g y)) u
                   | inr u ↦ x (joins j g u)

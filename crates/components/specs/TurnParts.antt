@@ -16,7 +16,7 @@ use Rattle.reach.specs.Runs.{HasStep}
 use Rattle.reach.specs.Reachable.{Reachable}
 use Rattle.reach.specs.Marks.{Marked}
 use Rattle.reach.specs.Worklist.{summary}
-use Rattle.callgraph.specs.Components.{CallEdge, Leads, Together, OldRoot, Anew, Reopened, Member}
+use Rattle.callgraph.specs.Components.{CallEdge, Leads, Together, OldRoot, Anew, Reanalyzed, Member}
 use Rattle.callgraph.specs.Parts.{LeadFlags, rankOf}
 use Rattle.roots.specs.Parts.{RootFlags}
 use Rattle.components.specs.declared.drop.Progress.{Progress}
@@ -55,38 +55,38 @@ endTurn = maxRoutines * maxRoutines + maxRoutines
 
 -- turn i comes next: whatever has an earlier turn is done, component by component; what is done has its configurations
 -- worked anew, and the rest its old ones
-pub record Working (p p′ : Program) (edited : ℕ) (rank : ℕ → ℕ) (i : ℕ) (marks done reopened : List ℕ) : Type 0 where
+pub record Working (p p′ : Program) (edited : ℕ) (rank : ℕ → ℕ) (i : ℕ) (marks done reanalyzed : List ℕ) : Type 0 where
   pub marks-length : length marks ≡ marksSize
   pub marks-bits : (j : ℕ) → getD marks j 0 ≤ 1
   pub done-length : length done ≡ maxRoutines
-  pub reopened-length : length reopened ≡ maxRoutines
+  pub reanalyzed-length : length reanalyzed ≡ maxRoutines
   pub earlier : (f : ℕ) → f < maxRoutines → turnOf rank f < i → Member done f
   pub whole : (f g : ℕ) → f < maxRoutines → g < maxRoutines → Member done f → Together p′ f g → Member done g
   pub worked : (f n r q : ℕ) → Member done f → Marked marks f n r q ↔ Anew p p′ f n r q
   pub old : (f n r q : ℕ) → ¬ (Member done f) → Marked marks f n r q ↔ Reachable p f n r q
-  pub right : (f : ℕ) → f < maxRoutines → Member done f → Member reopened f ↔ Reopened p p′ edited f
-  pub none-yet : (f : ℕ) → ¬ (Member done f) → ¬ (Member reopened f)
+  pub right : (f : ℕ) → f < maxRoutines → Member done f → Member reanalyzed f ↔ Reanalyzed p p′ edited f
+  pub none-yet : (f : ℕ) → ¬ (Member done f) → ¬ (Member reanalyzed f)
 
 -- the same, with what stays over all turns: the drop, the flags of the call graph, and the roots and the summaries
 -- before
-pub record Turning (p p′ : Program) (edited : ℕ) (leads roots before : List ℕ) (i : ℕ) (marks done reopened : List ℕ)
+pub record Turning (p p′ : Program) (edited : ℕ) (leads roots before : List ℕ) (i : ℕ) (marks done reanalyzed : List ℕ)
     : Type 0 where
   pub drop : DropOf p p′ edited
   pub graph : LeadFlags (Leads p′) leads
   pub old-roots : RootFlags (OldRoot p) roots
   pub old-summaries : Before p before
-  pub working : Working p p′ edited (rankOf leads) i marks done reopened
+  pub working : Working p p′ edited (rankOf leads) i marks done reanalyzed
 
 -- for some program before, turn i comes next
 abbrev pub Comes : Program → ℕ → List ℕ → List ℕ → List ℕ → ℕ → List ℕ → Progress → Type 0
 Comes p′ edited leads roots before i marks g =
-    (p : Program) × Turning p p′ edited leads roots before i marks (g .done .flags) (g .reopened .flags)
+    (p : Program) × Turning p p′ edited leads roots before i marks (g .done .flags) (g .reanalyzed .flags)
 
 -- for every program before, if turn i came next, then turn j comes next
 abbrev pub Advances : Program → ℕ → List ℕ → List ℕ → List ℕ → ℕ → List ℕ → Progress → ℕ → List ℕ → Progress → Type 0
 Advances p′ edited leads roots before i marks g j marks′ g′ =
-    (p : Program) → Turning p p′ edited leads roots before i marks (g .done .flags) (g .reopened .flags)
-    → Turning p p′ edited leads roots before j marks′ (g′ .done .flags) (g′ .reopened .flags)
+    (p : Program) → Turning p p′ edited leads roots before i marks (g .done .flags) (g .reanalyzed .flags)
+    → Turning p p′ edited leads roots before j marks′ (g′ .done .flags) (g′ .reanalyzed .flags)
 
 -- the summaries of g on the sheet are others than before
 pub record Differs (before marks : List ℕ) (g : ℕ) : Type 0 where

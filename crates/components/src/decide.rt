@@ -91,7 +91,7 @@ fn calls_differ(p: DecodedProgram, members: &[u8], before: &[u8], marks: &[u8]) 
 
 // The component holds the edited routine, or calls one outside it whose summaries have changed. The reader accepts only
 // well-formed programs: hence the `requires`.
-pub fn is_reopened(
+pub fn is_reanalyzed(
     p: DecodedProgram,
     members: &[u8],
     before: &[u8],

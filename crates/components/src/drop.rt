@@ -1,5 +1,5 @@
 // The inside-out repair after a drop: component by component, callees first, each worked anew only if it has to be.
-use crate::decide::is_reopened;
+use crate::decide::is_reanalyzed;
 use crate::pass::component_pass;
 use base::flags::clear;
 use callgraph::graph::call_graph;
@@ -21,7 +21,7 @@ ghost use Rattle.program.specs.Program.{Program};
 ghost use Rattle.program.specs.Decoded.{programOf};
 ghost use Rattle.reach.specs.Configurations.{none-set};
 ghost use Rattle.reach.specs.Marks.{freshMarks};
-ghost use Rattle.callgraph.specs.Components.{Reopened, Member};
+ghost use Rattle.callgraph.specs.Components.{Reanalyzed, Member};
 ghost use Rattle.callgraph.specs.Parts.{rankOf};
 ghost use Rattle.components.specs.TurnParts.{DropOf, turnOf, firstTurn, endTurn, Comes, Advances};
 
@@ -33,7 +33,7 @@ const END_TURN: usize = MAX_ROUTINES * MAX_ROUTINES + MAX_ROUTINES;
 // The routines that are done, and those of them that were reanalyzed.
 pub struct Progress {
     pub done: Routines,
-    pub reopened: Routines,
+    pub reanalyzed: Routines,
 }
 
 // The turn of routine f: its component is worked anew if it is to be, and then it is done.
@@ -58,13 +58,13 @@ fn work_component(
     let c = component(leads, f);
     let members = c.flags;
     let done = join(progress.done, c);
-    if is_reopened(p, &members, before, marks, edited) {
+    if is_reanalyzed(p, &members, before, marks, edited) {
         component_pass(p, &members, roots, marks, pending);
-        let reopened = join(progress.reopened, c);
-        return Progress { done, reopened };
+        let reanalyzed = join(progress.reanalyzed, c);
+        return Progress { done, reanalyzed };
     }
-    let reopened = progress.reopened;
-    Progress { done, reopened }
+    let reanalyzed = progress.reanalyzed;
+    Progress { done, reanalyzed }
 }
 
 // Turn i: that of the routine that it is the turn of by its rank, if it is not done yet.
@@ -143,7 +143,7 @@ pub fn drop_inside_out(
     requires { ⌜ ((old : Program) × DropOf old (programOf p) edited × (now marks ≡ freshMarks old)) ⌝ }
     ensures { λ r. ⌜ ((old : Program) → DropOf old (programOf p) edited → now (marks .entry) ≡ freshMarks old
         → (now (marks .exit) ≡ freshMarks (programOf p)) × (now (pending .exit) ≡ none-set)
-        × ((f : ℕ) → f < maxRoutines → Member (r .flags) f ↔ Reopened old (programOf p) edited f)) ⌝ }
+        × ((f : ℕ) → f < maxRoutines → Member (r .flags) f ↔ Reanalyzed old (programOf p) edited f)) ⌝ }
 {
     let graph = call_graph(p);
     let leads = graph.leads;
@@ -156,10 +156,10 @@ pub fn drop_inside_out(
     };
     let start = Progress {
         done: none,
-        reopened: none,
+        reanalyzed: none,
     };
     let end = visit_all(p, &leads, &roots, &before, edited, start, marks, pending);
     cut_to_live(p, marks);
     clear(pending);
-    end.reopened
+    end.reanalyzed
 }

@@ -16,13 +16,13 @@ use Rattle.reach.specs.Marks.{violationsFrom}
 use Rattle.analysis.specs.Answers.{same, analyzeAnswer, marksAfter, workAfter}
 use Rattle.edit.specs.EditLines.{editFrom, readEdit}
 use Rattle.edit.specs.Editing.{hasEdge, without, inserted, editedProgram, wantedEdit}
-use Rattle.repair.specs.Reanalyzed.{insideOutNumber}
+use Rattle.repair.specs.Reanalyzed.{InsideOutNumber}
 use Rattle.repair.specs.Repairs.{repaired}
 use Rattle.program.specs.Sample.{lineBytes}
 use Rattle.desk.specs.Entries.{analyze, repair-inside-out, Back, analyzeBack, repairBack, programIn, Gives}
 use Rattle.demands.specs.Cases.{Fresh, Edited, Case, Said, lentFresh, Analyzed, lentEdit, Repaired, RepairedBoth, Holds, P1, P2, P3, P4, P5, P6, P7, P8, P9, P10, table}
 use Rattle.demands.proofs.OneAnswer.{one-number}
-use Rattle.demands.proofs.CasesReopened.{p5-reopened, p6-reopened}
+use Rattle.demands.proofs.CasesReanalyzed.{p5-reanalyzed, p6-reanalyzed}
 
 -- what the rows compute with: to unfold one of these two is to unfold all that it names
 editing : Unit {0}
@@ -49,15 +49,15 @@ by-analysis c h a g = subst (Analyzed c) (sym g) h
 
 -- the number that the inside-out repair answers, for an edit line that says this
 abbrev Routines : Edited → Back → Type 0
-Routines c a = insideOutNumber (eqb (c .refused) 0) (wantedEdit (programIn (lentEdit c)) (lineBytes (c .line))) (programIn (lentEdit c)) (a .values .reanalyzed)
+Routines c a = InsideOutNumber (eqb (c .refused) 0) (wantedEdit (programIn (lentEdit c)) (lineBytes (c .line))) (programIn (lentEdit c)) (a .values .reanalyzed)
 
-by-repairs : (c : Edited) → ((k : ℕ) → Repaired c (editedBack c k)) → ((a : Back) → Routines c a → Said (λ n. a .values .reanalyzed ≡ n) (c .reopened)) → RepairedBoth c
+by-repairs : (c : Edited) → ((k : ℕ) → Repaired c (editedBack c k)) → ((a : Back) → Routines c a → Said (λ n. a .values .reanalyzed ≡ n) (c .reanalyzed)) → RepairedBoth c
 by-repairs c h r =
     record {
       forward = λ a g. subst (Repaired c) (sym g) (h 0);
       inside-out = λ a g. given a g;
-      reopened = λ a g.
-          r a (subst (λ (n : ℕ). insideOutNumber (eqb n 0) (wantedEdit (programIn (lentEdit c)) (lineBytes (c .line))) (programIn (lentEdit c)) (a .values .reanalyzed))
+      reanalyzed = λ a g.
+          r a (subst (λ (n : ℕ). InsideOutNumber (eqb n 0) (wantedEdit (programIn (lentEdit c)) (lineBytes (c .line))) (programIn (lentEdit c)) (a .values .reanalyzed))
           (given a g .refused) (g .1));
     }
   where
@@ -88,7 +88,7 @@ p5 k = record { refused = refl; marks = refl; size = refl; output = refl }
 
 p5-routines : (a : Back) → Routines P5 a → a .values .reanalyzed ≡ 3
 unfolding editing
-p5-routines a x = one-number x p5-reopened
+p5-routines a x = one-number x p5-reanalyzed
 
 p6 : (k : ℕ) → Repaired P6 (editedBack P6 k)
 unfolding editing analyzing
@@ -96,7 +96,7 @@ p6 k = record { refused = refl; marks = refl; size = refl; output = refl }
 
 p6-routines : (a : Back) → Routines P6 a → a .values .reanalyzed ≡ 1
 unfolding editing
-p6-routines a x = one-number x p6-reopened
+p6-routines a x = one-number x p6-reanalyzed
 
 p7 : Analyzed P7 (freshBack P7)
 unfolding editing analyzing

@@ -8,7 +8,7 @@ use Rattle.program.specs.Program.{Program}
 use Rattle.program.specs.Reading.{readFile}
 use Rattle.program.specs.declared.Verdict.the-variants.{Accepted}
 use Rattle.reach.specs.Marks.{Marked, Shows}
-use Rattle.prune.specs.Keeping.{Kept}
+use Rattle.prune.specs.Pruning.{Kept}
 use Rattle.edit.specs.Editing.{wantedEdit}
 use Rattle.edit.specs.declared.Step.{Step}
 use Rattle.edit.specs.declared.Edit.the-variants.{Drop}

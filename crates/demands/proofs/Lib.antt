@@ -10,6 +10,6 @@ pub mod PassDepends
 pub mod BookSorted
 pub mod LocalChange
 pub mod ListsNeverDrift
-pub mod CasesReopened
+pub mod CasesReanalyzed
 pub mod Cases
 pub mod Demands

@@ -27,7 +27,7 @@ use Rattle.edit.specs.declared.EditRead.the-variants as read
 use Rattle.edit.proofs.Theorems.{wanted-applies, applied-well-formed, edited-read}
 use Rattle.repair.specs.Repairs.{untouched, repairedTo, wantedBy, repairedBy, repaired}
 use Rattle.repair.specs.Desk.{Desk, started}
-use Rattle.repair.specs.Reanalyzed.{insideOutNumber}
+use Rattle.repair.specs.Reanalyzed.{InsideOutNumber}
 use Rattle.repair.proofs.EditRefusalNumbers.{wanted-number}
 use Rattle.desk.specs.Entries.{Back, repairBack, Gives}
 use Rattle.demands.specs.Book.{bookEdges, bookRefusal, bookEdited, unlessRefused, bookAfter, bookProgram, editReadRefusal}
@@ -127,13 +127,13 @@ module _ (d : Desk) (b : Program) (g : Agrees d b) (c : Call) (a : Back) (x : Gi
       subst (λ (y : Back). Step d y (bookRefuses b c) (bookCall b c)) (sym (given (c .repair) d c a x)) (one-call d b g (a .values .reanalyzed) c)
 
   -- the routines by the file's program are those by the model's
-  by-model : insideOutNumber (eqb (a .refusal) 0) (wantedEdit (readFile (d .file) .program) (c .line)) (readFile (d .file) .program) (a .values .reanalyzed)
-      → insideOutNumber (eqb (bookRefuses b c) 0) (wantedEdit b (c .line)) (bookProgram b) (a .values .reanalyzed)
+  by-model : InsideOutNumber (eqb (a .refusal) 0) (wantedEdit (readFile (d .file) .program) (c .line)) (readFile (d .file) .program) (a .values .reanalyzed)
+      → InsideOutNumber (eqb (bookRefuses b c) 0) (wantedEdit b (c .line)) (bookProgram b) (a .values .reanalyzed)
   by-model y =
       let n = a .values .reanalyzed in
-      let z = subst (λ (t : ℕ). insideOutNumber (eqb t 0) (wantedEdit (readFile (d .file) .program) (c .line)) (readFile (d .file) .program) n) (ap (λ (s : Seen). s .refused) (step .same-seen)) y in
-      let w = subst (λ (o : Outcome). insideOutNumber (eqb (bookRefuses b c) 0) (wantedEdit (o .program) (c .line)) (o .program) n) (g .file) z in
-      subst (λ (e : EditRead). insideOutNumber (eqb (bookRefuses b c) 0) e (bookProgram b) n) (wanted-sorted b (c .line)) w
+      let z = subst (λ (t : ℕ). InsideOutNumber (eqb t 0) (wantedEdit (readFile (d .file) .program) (c .line)) (readFile (d .file) .program) n) (ap (λ (s : Seen). s .refused) (step .same-seen)) y in
+      let w = subst (λ (o : Outcome). InsideOutNumber (eqb (bookRefuses b c) 0) (wantedEdit (o .program) (c .line)) (o .program) n) (g .file) z in
+      subst (λ (e : EditRead). InsideOutNumber (eqb (bookRefuses b c) 0) e (bookProgram b) n) (wanted-sorted b (c .line)) w
 
   routines : RoutinesBy (c .repair) (bookRefuses b c) b (c .line) (a .values .reanalyzed)
   routines = go (c .repair) x

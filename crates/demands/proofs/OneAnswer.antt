@@ -12,12 +12,12 @@ use Rattle.program.specs.declared.Verdict.{Verdict}
 use Rattle.program.specs.declared.Verdict.the-variants.{Accepted, Refused}
 use Rattle.reach.proofs.MarksShown.{one-list}
 use Rattle.analysis.specs.Answers.{checkedMarks, workAfter}
-use Rattle.prune.specs.Keeping.{Pruned}
+use Rattle.prune.specs.Pruning.{Pruned}
 use Rattle.callgraph.specs.Components.{Bits}
 use Rattle.edit.specs.Editing.{wantedEdit}
 use Rattle.edit.specs.declared.EditRead.{EditRead}
 use Rattle.edit.specs.declared.EditRead.the-variants as read
-use Rattle.repair.specs.Reanalyzed.{insideOutNumber}
+use Rattle.repair.specs.Reanalyzed.{InsideOutNumber}
 use Rattle.repair.specs.Repairs.{repaired}
 use Rattle.desk.specs.Entries.{Entry, read as reads, write, analyze, next-violation, prune, repair-forward, repair-inside-out, Lent, Back, pruneBack, repairBack, programIn, Gives}
 
@@ -56,7 +56,7 @@ one-number {n = n} {m = m} x y =
     same-number 16 n m (x .small) (y .small)
     (λ f h. let a = x .bit f h in let b = y .bit f h in (λ e. b .1 (a .0 e), λ e. a .1 (b .0 e)))
 
-routines-once : (t : Bool) (w : EditRead) (p : Program) (n m : ℕ) → insideOutNumber t w p n → insideOutNumber t w p m → n ≡ m
+routines-once : (t : Bool) (w : EditRead) (p : Program) (n m : ℕ) → InsideOutNumber t w p n → InsideOutNumber t w p m → n ≡ m
 routines-once true (read.Read e) p n m x y = one-number x y
 routines-once true (read.Refused k) p n m x y = x ∙ sym y
 routines-once false w p n m x y = x ∙ sym y
@@ -83,5 +83,5 @@ given-once repair-inside-out b a c g h =
     let r = repaired (b .file) (b .marks) (b .edit) (b .output) (b .work) in
     let w = wantedEdit (programIn b) (b .edit) in
     let same : a .refusal ≡ c .refusal = ap (λ (x : Back). x .refusal) (g .0) ∙ sym (ap (λ (x : Back). x .refusal) (h .0)) in
-    let n = subst (λ (k : ℕ). insideOutNumber (eqb k 0) w (programIn b) (a .values .reanalyzed)) same (g .1) in
+    let n = subst (λ (k : ℕ). InsideOutNumber (eqb k 0) w (programIn b) (a .values .reanalyzed)) same (g .1) in
     g .0 ∙ ap (repairBack r) (routines-once (eqb (c .refusal) 0) w (programIn b) (a .values .reanalyzed) (c .values .reanalyzed) n (h .1)) ∙ sym (h .0)

@@ -19,7 +19,7 @@ use Rattle.reach.specs.Marks.{Shows, freshMarks}
 use Rattle.reach.proofs.ShapeKept.{marks-length}
 use Rattle.analysis.specs.Answers.{checkedMarks}
 use Rattle.analysis.proofs.AnswersByChecks.{same-equal, by-marks}
-use Rattle.prune.specs.Keeping.{Kept, Pruned}
+use Rattle.prune.specs.Pruning.{Kept, Pruned}
 use Rattle.prune.proofs.Theorems.{kept-fresh}
 use Rattle.edit.specs.Editing.{editedProgram, wantedEdit, Applies}
 use Rattle.edit.specs.declared.Step.{Step}

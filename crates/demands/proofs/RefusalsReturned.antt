@@ -22,12 +22,12 @@ use Rattle.writer.specs.Answers.{answerBy, outputBy, checkedOutput, writeAnswer
 use Rattle.reach.specs.Configurations.{none-set}
 use Rattle.reach.specs.Marks.{freshMarks, firstFrom, violations}
 use Rattle.analysis.specs.Answers.{checkedMarks, analyzeBy, analyzeAnswer, onSuccess, marksAfter, workAfter, same, foreignRow, foundOf, foundBy, nextBy, nextAnswer}
-use Rattle.prune.specs.Keeping.{Pruned}
+use Rattle.prune.specs.Pruning.{Pruned}
 use Rattle.edit.specs.EditLines.{onlyLine}
 use Rattle.edit.specs.Editing.{editedProgram, wantedEdit}
 use Rattle.edit.specs.declared.EditRead.{EditRead}
 use Rattle.edit.specs.declared.EditRead.the-variants as read
-use Rattle.repair.specs.Reanalyzed.{insideOutNumber}
+use Rattle.repair.specs.Reanalyzed.{InsideOutNumber}
 use Rattle.repair.specs.Repairs.{checkedRepair, ownedBy, wantedBy, repairedBy, repaired}
 use Rattle.desk.specs.Entries.{Entry, read as reads, write, analyze, next-violation, prune, repair-forward, repair-inside-out, Lent, Back, hasWork, Values, noValues, repairing, readBack, writeBack, analyzeBack, nextBack, pruneBack, repairBack, programIn, Gives}
 use Rattle.demands.specs.Demands.{Demand1}
@@ -249,7 +249,7 @@ repair-good e b routines h =
     go (Refused n line) x z = refuses x z
 
 -- the inside-out repair answers no routine on a refusal
-no-number : (n : ℕ) (w : EditRead) (p : Program) (routines : ℕ) → insideOutNumber (eqb n 0) w p routines → n ≢ 0 → routines ≡ 0
+no-number : (n : ℕ) (w : EditRead) (p : Program) (routines : ℕ) → InsideOutNumber (eqb n 0) w p routines → n ≢ 0 → routines ≡ 0
 no-number n w p routines x h = rw (ne-eqb n 0 h) at x
 
 -- ---- every function

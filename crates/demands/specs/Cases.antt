@@ -31,7 +31,7 @@ pub record Edited : Type 0 where
   pub refused : ℕ
   pub after : List ℕ
   pub wrote : List String
-  pub reopened : Option ℕ
+  pub reanalyzed : Option ℕ
 
 pub data Case : Type 0 where
   fresh : Fresh → Case
@@ -86,8 +86,8 @@ pub record Repaired (c : Edited) (a : Back) : Type 0 where
 pub record RepairedBoth (c : Edited) : Type 0 where
   pub forward : (a : Back) → Gives repair-forward (lentEdit c) a → Repaired c a
   pub inside-out : (a : Back) → Gives repair-inside-out (lentEdit c) a → Repaired c a
-  pub reopened : (a : Back) → Gives repair-inside-out (lentEdit c) a
-      → Said (λ n. a .values .reanalyzed ≡ n) (c .reopened)
+  pub reanalyzed : (a : Back) → Gives repair-inside-out (lentEdit c) a
+      → Said (λ n. a .values .reanalyzed ≡ n) (c .reanalyzed)
 
 abbrev pub Holds : Case → Type 0
 Holds (fresh c) = (a : Back) → Gives analyze (lentFresh c) a → Analyzed c a
@@ -130,7 +130,7 @@ P4 =
       iterations = some 6;
     }
 
--- P5: dropping 01 00 00 01 from F leaves 0 and 1024; reopened are 0 and 1
+-- P5: dropping 01 00 00 01 from F leaves 0 and 1024; reanalyzed are 0 and 1
 abbrev pub P5 : Edited
 P5 =
     record {
@@ -140,10 +140,10 @@ P5 =
       refused = 0;
       after = 0 ∷ 1024 ∷ [];
       wrote = with ("5300004102" ∷ "5300020101" ∷ []) ("4900" ∷ "4602" ∷ "45000B" ∷ []);
-      reopened = some 3;
+      reanalyzed = some 3;
     }
 
--- P6: dropping 00 00 41 02 from F leaves 0; reopened is 0 only
+-- P6: dropping 00 00 41 02 from F leaves 0; reanalyzed is 0 only
 abbrev pub P6 : Edited
 P6 =
     record {
@@ -153,7 +153,7 @@ P6 =
       refused = 0;
       after = 0 ∷ [];
       wrote = with ("5300020101" ∷ "5301000001" ∷ []) ("4900" ∷ "4602" ∷ "45000B" ∷ []);
-      reopened = some 1;
+      reanalyzed = some 1;
     }
 
 -- P7: F with the single step 00 00 40 01, main calling itself: configuration 0 alone
@@ -175,16 +175,16 @@ P8 =
       refused = 0;
       after = P6 .after;
       wrote = with ("5300020101" ∷ "5301000001" ∷ "5301000101" ∷ []) ("4900" ∷ "4602" ∷ "45000C" ∷ []);
-      reopened = none;
+      reanalyzed = none;
     }
 
 -- P9: replacing a label by itself is 15
 abbrev pub P9 : Edited
-P9 = record { file = F; before = ofF; line = "3D0000410241"; refused = 15; after = ofF; wrote = []; reopened = none }
+P9 = record { file = F; before = ofF; line = "3D0000410241"; refused = 15; after = ofF; wrote = []; reanalyzed = none }
 
 -- P10: the drop of an absent step is 14
 abbrev pub P10 : Edited
-P10 = record { file = F; before = ofF; line = "2D00000102"; refused = 14; after = ofF; wrote = []; reopened = none }
+P10 = record { file = F; before = ofF; line = "2D00000102"; refused = 14; after = ofF; wrote = []; reanalyzed = none }
 
 -- ---- the table
 

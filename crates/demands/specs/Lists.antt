@@ -17,7 +17,7 @@ use Rattle.edit.specs.Editing.{wantedEdit}
 use Rattle.edit.specs.declared.EditRead.{EditRead}
 use Rattle.edit.specs.declared.EditRead.the-variants.{Read, Refused}
 use Rattle.repair.specs.Desk.{Desk}
-use Rattle.repair.specs.Reanalyzed.{insideOutNumber}
+use Rattle.repair.specs.Reanalyzed.{InsideOutNumber}
 use Rattle.desk.specs.Entries.{Entry, repair-forward, repair-inside-out, Lent, Back, Gives}
 use Rattle.demands.specs.Book.{bookRefusal, bookAfter, bookProgram}
 
@@ -96,7 +96,7 @@ bookPlayed (c ∷ cs) b = foreseen (bookRefuses b c) (bookProgram (bookCall b c)
 -- a forward one
 abbrev pub RoutinesBy : Repair → ℕ → Program → List ℕ → ℕ → Type 0
 RoutinesBy forward n b line routines = routines ≡ 0
-RoutinesBy inside-out n b line routines = insideOutNumber (eqb n 0) (wantedEdit b line) (bookProgram b) routines
+RoutinesBy inside-out n b line routines = InsideOutNumber (eqb n 0) (wantedEdit b line) (bookProgram b) routines
 
 -- so for each call of a list, in the program that the model had before the call
 unfoldable pub BookRoutines : List Call → List Back → Program → Type 0

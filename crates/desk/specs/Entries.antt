@@ -15,10 +15,10 @@ use Rattle.analysis.specs.Answers.{nextLine, nextFound}
 use Rattle.writer.specs.declared.WriteAnswer.{WriteAnswer}
 use Rattle.analysis.specs.declared.AnalyzeAnswer.{AnalyzeAnswer}
 use Rattle.analysis.specs.declared.NextAnswer.{NextAnswer}
-use Rattle.prune.specs.Keeping.{Pruned}
+use Rattle.prune.specs.Pruning.{Pruned}
 use Rattle.edit.specs.Editing.{wantedEdit}
 use Rattle.repair.specs.Repairs.{After, repaired}
-use Rattle.repair.specs.Reanalyzed.{insideOutNumber}
+use Rattle.repair.specs.Reanalyzed.{InsideOutNumber}
 
 pub data Entry : Type 0 where
   read : Entry
@@ -177,4 +177,4 @@ Gives prune b a =
 Gives repair-forward b a = a ≡ repairBack (repaired (b .file) (b .marks) (b .edit) (b .output) (b .work)) 0
 Gives repair-inside-out b a =
     (a ≡ repairBack (repaired (b .file) (b .marks) (b .edit) (b .output) (b .work)) (a .values .reanalyzed))
-    × insideOutNumber (eqb (a .refusal) 0) (wantedEdit (programIn b) (b .edit)) (programIn b) (a .values .reanalyzed)
+    × InsideOutNumber (eqb (a .refusal) 0) (wantedEdit (programIn b) (b .edit)) (programIn b) (a .values .reanalyzed)

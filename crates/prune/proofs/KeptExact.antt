@@ -29,7 +29,7 @@ use Rattle.reach.proofs.ProgramInSizes.{Sizes, sizes, initial-proper, derivable
 use Rattle.base.proofs.SetFlags.{set-on, on-set, set-inv, set-bits, zeros, set-byte, byte-set}
 use Rattle.reach.proofs.MarksShown.{shows-marked}
 use Rattle.worklist.proofs.AnalysisBegun.{take-min}
-use Rattle.prune.specs.Keeping.{Kept}
+use Rattle.prune.specs.Pruning.{Kept}
 use Rattle.prune.specs.Parts.{supports, keepsAt, Keeps, same, more, Settled, Tables, Sound, Started}
 use Rattle.prune.proofs.PassesKeep.{keeps-on}
 use Rattle.prune.proofs.SupportFound.{Supported, by-edge, as-called, as-returned, supports-sound, supports-found}

@@ -16,7 +16,7 @@ use Rattle.tables.specs.Keys.{Ascending}
 use Rattle.program.specs.Decoded.{edgeOf}
 use Rattle.worklist.specs.Slice.{FirstOf}
 use Rattle.worklist.proofs.RoutinePart.{part-starts, part-in-use, part-ends, before-part, after-part}
-use Rattle.prune.specs.Parts.{anyKey, entrySupports, returnSupports, callSupports, linesToTry, actionSupports, edgeSupports, supports, PartOf}
+use Rattle.prune.specs.Parts.{anyKey, entrySupports, returnSupports, callSupports, transitionsToTry, actionSupports, edgeSupports, supports, PartOf}
 
 -- ---- the part of a list outside which a test fails
 
@@ -58,7 +58,7 @@ its-part {keys} {m} {f} {a} {b} x y fits up =
 
 module _ (kept lines : List ℕ) (k f n r q : ℕ) (no-entry : eqb n 0 && eqb r q ≡ false) where
   other-supports : (key : ℕ) → edgeOf key .routine ≢ f → edgeSupports kept lines k f n r q (edgeOf key) ≡ false
-  unfolding edgeSupports callSupports entrySupports returnSupports actionSupports linesToTry anyKey
+  unfolding edgeSupports callSupports entrySupports returnSupports actionSupports transitionsToTry anyKey
   other-supports key h = rw (no-entry, ne-eqb (edgeOf key .routine) f h) refl
 
   -- the search over the part and the one over the table find the same

@@ -11,7 +11,7 @@ use Rattle.reader.specs.Checked.{Checked}
 use Rattle.reader.specs.declared.Reading.{Reading}
 use Rattle.reach.specs.Configurations.{none-set}
 use Rattle.analysis.specs.Answers.{checkedMarks, onSuccess, workAfter}
-use Rattle.prune.specs.Keeping.{Pruned}
+use Rattle.prune.specs.Pruning.{Pruned}
 
 pub prune-answered : (file marks work : List ℕ) {r : Reading} → Checked file (Of (length marks)) NotAsked (Of (length work)) r → {v : Verdict} → r .verdict ≡ v
     → (new : List ℕ) {left : List ℕ} → Pruned v (programOf (r .program)) marks new → left ≡ onSuccess v none-set work

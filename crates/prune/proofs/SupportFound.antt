@@ -25,7 +25,7 @@ use Rattle.reach.specs.Runs.{Step, labelOf, stepOf, HasStep, Moves}
 use Rattle.reach.specs.Marks.{Marked}
 use Rattle.reach.proofs.Numbers.{number-state, number-root}
 use Rattle.reach.proofs.ProgramInSizes.{Sizes, sizes, all-in, listed-in, map-in, label-call}
-use Rattle.prune.specs.Parts.{anyFrom, anyKey, rootKept, returnKept, entrySupports, returnSupports, callSupports, lineSupports, linesToTry, actionSupports, edgeSupports, supports, Tables}
+use Rattle.prune.specs.Parts.{anyFrom, anyKey, rootKept, returnKept, entrySupports, returnSupports, callSupports, transitionSupports, transitionsToTry, actionSupports, edgeSupports, supports, Tables}
 use Rattle.prune.proofs.SearchesAsk.{found-from, any-from, found-key, any-key, in-map}
 
 -- a configuration has support in K by an action, by being called, or after a call
@@ -45,17 +45,17 @@ tried-lines t lines k true false e = (refl, refl, e)
 tried-lines t lines k false c e = never e refl
 
 module _ (kept : List ℕ) (base a q line : ℕ) where
-  line-found : lineSupports kept base a q line ≡ true
+  line-found : transitionSupports kept base a q line ≡ true
       → (line / 0x100 % 256 ≡ a) × (line % 256 ≡ q) × (isSet kept (base + line / 0x10000) ≡ true)
-  unfolding lineSupports
+  unfolding transitionSupports
   line-found e =
       let c = cond-true (eqb (line / 0x100 % 256) a && eqb (line % 256) q) (isSet kept (base + line / 0x10000)) e in
       let d = both (eqb (line / 0x100 % 256) a) (eqb (line % 256) q) (c .0) in
       (eqb-true (line / 0x100 % 256) a (d .0), eqb-true (line % 256) q (d .1), c .1)
 
-  line-supports : line / 0x100 % 256 ≡ a → line % 256 ≡ q → getD kept (base + line / 0x10000) 0 ≢ 0 → lineSupports kept base a q line ≡ true
-  unfolding lineSupports
-  line-supports d e h = rw (eq-eqb (line / 0x100 % 256) a d, eq-eqb (line % 256) q e) (byte-set kept (base + line / 0x10000) h)
+  transition-supports : line / 0x100 % 256 ≡ a → line % 256 ≡ q → getD kept (base + line / 0x10000) 0 ≢ 0 → transitionSupports kept base a q line ≡ true
+  unfolding transitionSupports
+  transition-supports d e h = rw (eq-eqb (line / 0x100 % 256) a d, eq-eqb (line % 256) q e) (byte-set kept (base + line / 0x10000) h)
 
 -- ---- labels
 
@@ -157,12 +157,12 @@ module _ (p : Program) (keys : List ℕ) (m : ℕ) (lines : List ℕ) (k : ℕ) 
         as-returned s caller exit
 
     action-found : (key : ℕ) → List·Memᴰ key (take m keys) → actionSupports kept lines k f n r q (edgeOf key) ≡ true → Supported p (Marked kept) f n r q
-    unfolding actionSupports linesToTry moves
+    unfolding actionSupports transitionsToTry moves
     action-found key h e =
         let label = edgeOf key .label in
         let from = edgeOf key .routine in
         let source = edgeOf key .source in
-        let test : ℕ → Bool = lineSupports kept (number f source r 0) label q in
+        let test : ℕ → Bool = transitionSupports kept (number f source r 0) label q in
         let c = tried-lines test lines k (eqb from f && eqb (edgeOf key .target) n) (isCall label) e in
         let d = both (eqb from f) (eqb (edgeOf key .target) n) (c .0) in
         let x = found-key test (take k lines) (c .2) in
@@ -217,12 +217,12 @@ module _ (p : Program) (keys : List ℕ) (m : ℕ) (lines : List ℕ) (k : ℕ) 
 
     action-there : (f n r q key line : ℕ) → edgeOf key .routine ≡ f → edgeOf key .target ≡ n → isCall (edgeOf key .label) ≡ false → List·Memᴰ line (take k lines)
         → line / 0x100 % 256 ≡ edgeOf key .label → line % 256 ≡ q → getD kept (number f (edgeOf key .source) r (line / 0x10000)) 0 ≢ 0 → edgeSupports kept lines k f n r q (edgeOf key) ≡ true
-    unfolding edgeSupports actionSupports linesToTry
+    unfolding edgeSupports actionSupports transitionsToTry
     action-there f n r q key line a b c h d w o =
         let base = number f (edgeOf key .source) r 0 in
         let label = edgeOf key .label in
-        let u = line-supports kept base label q line d w (rw (number-state f (edgeOf key .source) r (line / 0x10000)) o) in
-        let e = any-key (lineSupports kept base label q) (take k lines) h u in
+        let u = transition-supports kept base label q line d w (rw (number-state f (edgeOf key .source) r (line / 0x10000)) o) in
+        let e = any-key (transitionSupports kept base label q) (take k lines) h u in
         rw (eq-eqb (edgeOf key .routine) f a, eq-eqb (edgeOf key .target) n b, c, e, or-true (callSupports kept (edgeOf key) f n r q)) refl
 
     pub supports-found : {f n r q : ℕ} → Supported p (Marked kept) f n r q → supports keys m lines k kept f n r q ≡ true

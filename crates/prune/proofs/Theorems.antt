@@ -11,7 +11,7 @@ use Rattle.reach.proofs.LeastSetLaws.{Within, grows, keeping}
 use Rattle.reach.specs.Configurations.{Sub}
 use Rattle.reach.proofs.ProgramInSizes.{reachable-in-range}
 use Rattle.reach.proofs.MarksShown.{shows-same, one-list, reachable-shown}
-use Rattle.prune.specs.Keeping.{Kept}
+use Rattle.prune.specs.Pruning.{Kept}
 
 -- on marks that have everything reachable, what is kept is the fresh marks
 pub kept-reachable : (p : Program) → WellFormed p → (marks new : List ℕ) → Sub (Reachable p) (Marked marks) → Shows (Kept p marks) new → new ≡ freshMarks p

@@ -16,7 +16,7 @@ use Rattle.program.specs.Decoded.{edgeOf}
 use Rattle.reach.specs.Sizes.{rootSpan}
 use Rattle.reach.specs.Configurations.{number, routineOf, nodeOf, rootOf, stateOf, At}
 use Rattle.reach.specs.Marks.{Marked}
-use Rattle.prune.specs.Keeping.{Kept}
+use Rattle.prune.specs.Pruning.{Kept}
 
 -- ---- whether one of several meets a test
 
@@ -56,18 +56,18 @@ unfoldable pub callSupports : List ℕ → Edge → ℕ → ℕ → ℕ → ℕ 
 callSupports kept e f n r q = entrySupports kept e f n r q || returnSupports kept e f n r q
 
 -- the transition has this action and this state after it, and the configuration before it is kept
-unfoldable pub lineSupports : List ℕ → ℕ → ℕ → ℕ → ℕ → Bool
-lineSupports kept base a q line =
+unfoldable pub transitionSupports : List ℕ → ℕ → ℕ → ℕ → ℕ → Bool
+transitionSupports kept base a q line =
     cond (eqb (transitionOf line .action) a && eqb (transitionOf line .after) q)
     (isSet kept (base + transitionOf line .before)) false
 
 -- how many transitions are to be tried for an edge: all for an action that leads to node n of routine f, else none
-unfoldable pub linesToTry : Edge → ℕ → ℕ → ℕ → ℕ
-linesToTry e f n count = cond (eqb (e .routine) f && eqb (e .target) n) (cond (isCall (e .label)) 0 count) 0
+unfoldable pub transitionsToTry : Edge → ℕ → ℕ → ℕ → ℕ
+transitionsToTry e f n count = cond (eqb (e .routine) f && eqb (e .target) n) (cond (isCall (e .label)) 0 count) 0
 
 unfoldable pub actionSupports : List ℕ → List ℕ → ℕ → ℕ → ℕ → ℕ → ℕ → Edge → Bool
 actionSupports kept lines count f n r q e =
-    anyKey (lineSupports kept (number f (e .source) r 0) (e .label) q) (take (linesToTry e f n count) lines)
+    anyKey (transitionSupports kept (number f (e .source) r 0) (e .label) q) (take (transitionsToTry e f n count) lines)
 
 unfoldable pub edgeSupports : List ℕ → List ℕ → ℕ → ℕ → ℕ → ℕ → ℕ → Edge → Bool
 edgeSupports kept lines count f n r q e = callSupports kept e f n r q || actionSupports kept lines count f n r q e

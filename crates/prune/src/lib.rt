@@ -40,7 +40,7 @@ ghost use Rattle.reach.specs.Sizes.{routineSpan};
 ghost use Rattle.reach.specs.Configurations.{routineOf, none-set};
 ghost use Rattle.reach.specs.Marks.{Shows};
 ghost use Rattle.analysis.specs.Answers.{checkedMarks, workAfter};
-ghost use Rattle.prune.specs.Keeping.{Kept, Pruned};
+ghost use Rattle.prune.specs.Pruning.{Kept, Pruned};
 ghost use Rattle.prune.specs.Parts.{keepsAt, PartOf, Passed, Settled, Sound, Started};
 
 // Keeps a configuration that is marked, where the flag says so.

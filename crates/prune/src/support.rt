@@ -18,7 +18,7 @@ ghost use Rattle.program.specs.Sizes.{maxRoutines};
 ghost use Rattle.program.specs.Decoded.{edgeView};
 ghost use Rattle.reach.specs.Configurations.{byteNumbers};
 ghost use Rattle.prune.specs.Parts.{rootKept, returnKept, entrySupports, returnSupports, callSupports};
-ghost use Rattle.prune.specs.Parts.{lineSupports, linesToTry, supports, PartOf};
+ghost use Rattle.prune.specs.Parts.{transitionSupports, transitionsToTry, supports, PartOf};
 
 // Whether some root of the configurations from a number on is kept.
 fn root_kept(kept: &[u8], base: usize) -> bool
@@ -88,9 +88,9 @@ fn call_supports(kept: &[u8], e: DecodedEdge, c: Configuration) -> bool
 }
 
 // A transition on the action to state q gives support where the configuration in the state before it is kept.
-fn line_supports(kept: &[u8], base: usize, action: u8, q: u8, line: u32) -> bool
+fn transition_supports(kept: &[u8], base: usize, action: u8, q: u8, line: u32) -> bool
     requires { ⌜ base < byteNumbers ⌝ }
-    ensures { λ y. ⌜ y ≡ lineSupports (now (kept .entry)) base action q line ⌝ }
+    ensures { λ y. ⌜ y ≡ transitionSupports (now (kept .entry)) base action q line ⌝ }
 {
     let t = transition(line);
     if (t.action == action as u32) & (t.after == q as u32) {
@@ -100,8 +100,8 @@ fn line_supports(kept: &[u8], base: usize, action: u8, q: u8, line: u32) -> bool
 }
 
 // How many transitions are to be tried: none for an edge that is no action or leads elsewhere.
-fn lines_to_try(e: DecodedEdge, f: u8, n: u8, count: usize) -> usize
-    ensures { λ r. ⌜ (r ≡ linesToTry (edgeView e) f n count) × (r ≤ count) ⌝ }
+fn transitions_to_try(e: DecodedEdge, f: u8, n: u8, count: usize) -> usize
+    ensures { λ r. ⌜ (r ≡ transitionsToTry (edgeView e) f n count) × (r ≤ count) ⌝ }
 {
     if (e.routine == f) & (e.target == n) {
         if is_call(e.label) {
@@ -127,11 +127,11 @@ fn supported(keys: &[u32], m: usize, lines: &[u32], k: usize, kept: &[u8], c: Co
             found = true;
             break 'scan;
         }
-        let end = lines_to_try(e, c.routine, c.node, k);
+        let end = transitions_to_try(e, c.routine, c.node, k);
         let base = number_of(c.routine, e.source, c.root, 0);
         let mut j: usize = 0;
         while j < end {
-            if line_supports(kept, base, e.label, c.state, lines[j]) {
+            if transition_supports(kept, base, e.label, c.state, lines[j]) {
                 found = true;
                 break 'scan;
             }

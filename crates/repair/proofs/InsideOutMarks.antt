@@ -19,7 +19,7 @@ use Rattle.reach.proofs.Numbers.{number-of, routine-of, routine-small, number-f
 use Rattle.base.proofs.SetFlags.{zeros}
 use Rattle.reach.proofs.ShapeKept.{marks-length}
 use Rattle.reach.proofs.AnalysisExact.{analysis-exact}
-use Rattle.callgraph.specs.Components.{Reopened, Gained}
+use Rattle.callgraph.specs.Components.{Reanalyzed, Gained}
 use Rattle.components.specs.TurnParts.{DropOf}
 use Rattle.callgraph.specs.Parts.{Joined}
 use Rattle.edit.specs.Edits.{edgeOfStep, relabelled}
@@ -219,10 +219,10 @@ module _ (s : Step) (p : Program) (w : WellFormed p) (a : Applies (Drop s) p) wh
     drop-of = subst (λ (x : Program). DropOf p x (s .routine)) (sym is-edited) drop-is
 
     pub dropped-inside-out : {marks work flags : List ℕ}
-        → (marks ≡ freshMarks p′) × (work ≡ none-set) × ((f : ℕ) → f < 16 → (getD flags f 0 ≢ 0) ↔ Reopened p p′ (s .routine) f)
+        → (marks ≡ freshMarks p′) × (work ≡ none-set) × ((f : ℕ) → f < 16 → (getD flags f 0 ≢ 0) ↔ Reanalyzed p p′ (s .routine) f)
         → Repaired (Drop s) p p′ marks work × FlagsOf (ReanalyzedBy (Drop s) p) flags
     dropped-inside-out {marks} {work} {flags} h =
-        (record { is-edited = is-edited; own = h .0; clear = h .1 }, subst (λ (x : Program). FlagsOf (Reopened p x (s .routine)) flags) is-edited (record { flag = h .2 }))
+        (record { is-edited = is-edited; own = h .0; clear = h .1 }, subst (λ (x : Program). FlagsOf (Reanalyzed p x (s .routine)) flags) is-edited (record { flag = h .2 }))
 
 -- ---- a replace
 

@@ -23,7 +23,7 @@ use Rattle.edit.specs.Editing.{wantedEdit}
 use Rattle.edit.specs.declared.Edit.{Edit}
 use Rattle.edit.specs.declared.EditRead.{EditRead}
 use Rattle.edit.specs.declared.EditRead.the-variants.{Read, Refused}
-use Rattle.repair.specs.Reanalyzed.{insideOutNumber}
+use Rattle.repair.specs.Reanalyzed.{InsideOutNumber}
 use Rattle.repair.specs.Parts.{FlagsOf}
 use Rattle.repair.proofs.EditRefusalNumbers.{wanted-number}
 
@@ -36,27 +36,27 @@ bits-of-flags k b =
     }
 
 -- a refused call says 0
-pub number-refused : (n : ℕ) (w : EditRead) (p : Program) → 0 < n → insideOutNumber (eqb n 0) w p 0
+pub number-refused : (n : ℕ) (w : EditRead) (p : Program) → 0 < n → InsideOutNumber (eqb n 0) w p 0
 number-refused n w p h = rw (ne-eqb n 0 (λ e. absurd (omega arith))) refl
 
 module _ (p : Program) (line : List ℕ) {w : EditRead} (e : w ≡ wantedEdit p line) where
-  pub number-unwanted : (n : ℕ) → w ≡ Refused n → insideOutNumber (eqb n 0) (wantedEdit p line) p 0
+  pub number-unwanted : (n : ℕ) → w ≡ Refused n → InsideOutNumber (eqb n 0) (wantedEdit p line) p 0
   number-unwanted n h = number-refused n (wantedEdit p line) p (omega (arith, wanted-number p line n (sym e ∙ h)))
 
-  pub number-wanted : (d : Edit) → w ≡ Read d → (t : Bool) (n : ℕ) → insideOutNumber t (Read d) p n → insideOutNumber t (wantedEdit p line) p n
-  number-wanted d h t n x = subst (λ (y : EditRead). insideOutNumber t y p n) (sym h ∙ e) x
+  pub number-wanted : (d : Edit) → w ≡ Read d → (t : Bool) (n : ℕ) → InsideOutNumber t (Read d) p n → InsideOutNumber t (wantedEdit p line) p n
+  number-wanted d h t n x = subst (λ (y : EditRead). InsideOutNumber t y p n) (sym h ∙ e) x
 
 module _ (p : Program) (marks : List ℕ) where
-  pub number-foreign : (e : Edit) {n at : ℕ} → owned p marks ≡ verdict.Refused n at → insideOutNumber (eqb n 0) (Read e) p 0
+  pub number-foreign : (e : Edit) {n at : ℕ} → owned p marks ≡ verdict.Refused n at → InsideOutNumber (eqb n 0) (Read e) p 0
   number-foreign e {n} h = number-refused n (Read e) p (omega (arith, refused-foreign p marks h))
 
 module _ (file line : List ℕ) {marks output work : Length} {r : Reading} (k : Checked file marks output work r) where
   pub number-unchecked : {n at : ℕ} → r .verdict ≡ verdict.Refused n at
-      → insideOutNumber (eqb n 0) (wantedEdit (readFile file .program) line) (readFile file .program) 0
+      → InsideOutNumber (eqb n 0) (wantedEdit (readFile file .program) line) (readFile file .program) 0
   number-unchecked {n} h =
       number-refused n (wantedEdit (readFile file .program) line) (readFile file .program)
       (few-checks file marks output work (sym (k .verdict) ∙ h) .0)
 
-  pub number-checked : (t : Bool) (n : ℕ) → insideOutNumber t (wantedEdit (programOf (r .program)) line) (programOf (r .program)) n
-      → insideOutNumber t (wantedEdit (readFile file .program) line) (readFile file .program) n
-  number-checked t n x = subst (λ (p : Program). insideOutNumber t (wantedEdit p line) p n) (k .program) x
+  pub number-checked : (t : Bool) (n : ℕ) → InsideOutNumber t (wantedEdit (programOf (r .program)) line) (programOf (r .program)) n
+      → InsideOutNumber t (wantedEdit (readFile file .program) line) (readFile file .program) n
+  number-checked t n x = subst (λ (p : Program). InsideOutNumber t (wantedEdit p line) p n) (k .program) x

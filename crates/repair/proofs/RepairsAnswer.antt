@@ -21,7 +21,7 @@ use Rattle.reach.specs.Marks.{Marked, Shows, ClosedBut, freshMarks}
 use Rattle.reach.proofs.Growing.{Grown, AtNode, node-spanned, grown-closed, grown-marks}
 use Rattle.reach.proofs.ShapeKept.{marks-length}
 use Rattle.analysis.specs.Answers.{owned}
-use Rattle.prune.specs.Keeping.{Kept}
+use Rattle.prune.specs.Pruning.{Kept}
 use Rattle.prune.proofs.Theorems.{kept-fresh}
 use Rattle.writer.specs.declared.WriteAnswer.the-variants.{Written, Refused}
 use Rattle.edit.specs.Edits.{edgeOfStep, relabelled}

@@ -7,7 +7,7 @@ use lib.ListN.{getD}
 use Rattle.program.specs.Program.{Program}
 use Rattle.reach.specs.Configurations.{none-set}
 use Rattle.reach.specs.Marks.{Marked, Shows, freshMarks}
-use Rattle.prune.specs.Keeping.{Kept}
+use Rattle.prune.specs.Pruning.{Kept}
 use Rattle.edit.specs.Editing.{editedProgram}
 use Rattle.edit.specs.declared.Step.{Step}
 use Rattle.edit.specs.declared.Edit.{Edit}

@@ -4,7 +4,7 @@ use mathlib.Core.Path.{_≡_}
 use mathlib.Core.Logic.{_⊎_}
 use mathlib.Core.Bool.{Bool, true, false}
 use Rattle.program.specs.Program.{Program}
-use Rattle.callgraph.specs.Components.{Reopened, Gained, Bits}
+use Rattle.callgraph.specs.Components.{Reanalyzed, Gained, Bits}
 use Rattle.edit.specs.Editing.{editedProgram}
 use Rattle.edit.specs.declared.Edit.{Edit}
 use Rattle.edit.specs.declared.Edit.the-variants.{Add, Drop, Replace}
@@ -15,14 +15,14 @@ use Rattle.edit.specs.declared.EditRead.the-variants.{Read, Refused}
 -- one outside it whose summaries have changed; on a replace the drop's, and then the add's to what the drop leaves
 abbrev pub ReanalyzedBy : Edit → Program → ℕ → Type 0
 ReanalyzedBy (Add s) p f = Gained p (editedProgram (Add s) p) f
-ReanalyzedBy (Drop s) p f = Reopened p (editedProgram (Drop s) p) (s .routine) f
+ReanalyzedBy (Drop s) p f = Reanalyzed p (editedProgram (Drop s) p) (s .routine) f
 ReanalyzedBy (Replace s l) p f =
-    Reopened p (editedProgram (Drop s) p) (s .routine) f
+    Reanalyzed p (editedProgram (Drop s) p) (s .routine) f
     ⊎ Gained (editedProgram (Drop s) p) (editedProgram (Replace s l) p) f
 
 -- the number that the inside-out repair answers for them: for an edit of p that is accepted a bit each, and 0 for a
 -- refused call
-abbrev pub insideOutNumber : Bool → EditRead → Program → ℕ → Type 0
-insideOutNumber true (Read e) p n = Bits (ReanalyzedBy e p) n
-insideOutNumber true (Refused m) p n = n ≡ 0
-insideOutNumber false w p n = n ≡ 0
+abbrev pub InsideOutNumber : Bool → EditRead → Program → ℕ → Type 0
+InsideOutNumber true (Read e) p n = Bits (ReanalyzedBy e p) n
+InsideOutNumber true (Refused m) p n = n ≡ 0
+InsideOutNumber false w p n = n ≡ 0

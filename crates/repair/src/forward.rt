@@ -19,7 +19,7 @@ ghost use Rattle.edit.specs.Editing.{Applies};
 ghost use Rattle.edit.specs.declared.Edit.the-variants.{Add, Drop};
 ghost use Rattle.reach.specs.Configurations.{none-set};
 ghost use Rattle.reach.specs.Marks.{Shows, freshMarks};
-ghost use Rattle.prune.specs.Keeping.{Kept};
+ghost use Rattle.prune.specs.Pruning.{Kept};
 ghost use Rattle.repair.specs.Parts.{Keeps, Repaired};
 
 pub fn add_step(p: DecodedProgram, s: Step, marks: &mut [u8], work: &mut [u8]) -> DecodedProgram

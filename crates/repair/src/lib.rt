@@ -27,7 +27,7 @@ ghost use Rattle.program.specs.Reading.{readFile};
 ghost use Rattle.writer.specs.Answers.{refusal};
 ghost use Rattle.edit.specs.declared.EditRead.the-variants.{Read};
 ghost use Rattle.repair.specs.Repairs.{After, editedBy, wantedBy, repaired, plain, reanalyzed};
-ghost use Rattle.repair.specs.Reanalyzed.{insideOutNumber};
+ghost use Rattle.repair.specs.Reanalyzed.{InsideOutNumber};
 
 // So many bytes were written, and these routines were reanalyzed, a bit each; or nothing was done, and a refusal says
 // why, at which line.
@@ -55,7 +55,7 @@ fn repair_own(
       work = now (work .exit);
     })
         (editedBy e (programOf p) (now (marks .entry)) (now (output .entry)))
-        × (inward ≡ true → insideOutNumber (eqb (refusal (plain r)) 0) (Read e) (programOf p) (reanalyzed r)) ⌝ }
+        × (inward ≡ true → InsideOutNumber (eqb (refusal (plain r)) 0) (Read e) (programOf p) (reanalyzed r)) ⌝ }
 {
     let own = check_own(p, marks, work);
     match own {
@@ -92,7 +92,7 @@ fn repair_wanted(
     })
         (wantedBy (wantedEdit (programOf p) (now (line .entry))) (programOf p) (now (marks .entry))
         (now (output .entry)) (now (work .entry)))
-        × (inward ≡ true → insideOutNumber (eqb (refusal (plain r)) 0) (wantedEdit (programOf p) (now (line .entry)))
+        × (inward ≡ true → InsideOutNumber (eqb (refusal (plain r)) 0) (wantedEdit (programOf p) (now (line .entry)))
         (programOf p) (reanalyzed r)) ⌝ }
 {
     let wanted = wanted_edit(p, line);
@@ -120,7 +120,7 @@ fn repair_file(
     })
         (repaired (now (file .entry)) (now (marks .entry)) (now (line .entry)) (now (output .entry))
         (now (work .entry)))
-        × (inward ≡ true → insideOutNumber (eqb (refusal (plain r)) 0)
+        × (inward ≡ true → InsideOutNumber (eqb (refusal (plain r)) 0)
         (wantedEdit (readFile (now (file .entry)) .program) (now (line .entry)))
         (readFile (now (file .entry)) .program) (reanalyzed r)) ⌝ }
 {
@@ -208,7 +208,7 @@ pub fn repair_inside_out(
     })
         (repaired (now (file .entry)) (now (marks .entry)) (now (line .entry)) (now (output .entry))
         (now (work .entry)))
-        × insideOutNumber (eqb (refusal (plain r)) 0) (wantedEdit (readFile (now (file .entry)) .program)
+        × InsideOutNumber (eqb (refusal (plain r)) 0) (wantedEdit (readFile (now (file .entry)) .program)
         (now (line .entry))) (readFile (now (file .entry)) .program) (reanalyzed r) ⌝ }
 {
     repair_file(true, file, marks, line, output, work)

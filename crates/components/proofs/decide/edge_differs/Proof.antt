@@ -2,7 +2,7 @@
 use mathlib.Core.Path.{sym, _∙_}
 use borrow.Author.Tests.{not-true, not-false}
 use borrow.Author.Needs.{needs}
-use Rattle.components.proofs.ReopeningDecided.{edge-outside, edge-acts, edge-past, edge-inside, edge-calls}
+use Rattle.components.proofs.ReanalysisDecided.{edge-outside, edge-acts, edge-past, edge-inside, edge-calls}
 use Rattle.components.proofs.decide.edge_differs.Statement.{statement}
 use Rattle.components.proofs.decide.edge_differs.Tie as tie
 

@@ -1,5 +1,5 @@
 -- `components::decide::some_differ` meets its contract. The loop's invariant: no edge before the `i`-th differs.
-use Rattle.components.proofs.ReopeningDecided.{said-yes, said-no, none-more}
+use Rattle.components.proofs.ReanalysisDecided.{said-yes, said-no, none-more}
 use Rattle.components.specs.TurnParts.{DifferingEdge}
 use Rattle.program.specs.Decoded.{edgeOf}
 use borrow.Author.Needs.{needs}

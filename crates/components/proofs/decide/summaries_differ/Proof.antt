@@ -1,6 +1,6 @@
 -- `components::decide::summaries_differ` meets its contract. The loop's invariant: no summary before the `i`-th differs.
 use Rattle.reach.specs.Sizes.{nodeSpan}
-use Rattle.components.proofs.ReopeningDecided.{ApartAt, said-yes, said-no, apart-yes, apart-no, place-fits, found-differs, none-differs, none-more}
+use Rattle.components.proofs.ReanalysisDecided.{ApartAt, said-yes, said-no, apart-yes, apart-no, place-fits, found-differs, none-differs, none-more}
 use borrow.Author.Needs.{needs}
 use native.Mathlib.Omega.{arith}
 use Prim.Native.Nat.{ℕ, _<_, _-_}

@@ -1,7 +1,7 @@
 -- `components::drop::drop_inside_out` meets its contract.
 use mathlib.Core.Path.{_∙_}
 use borrow.Author.Needs.{needs}
-use Rattle.components.proofs.TurnsTaken.{fresh-length, turning-start, turning-marks, turning-reopened, all-cleared}
+use Rattle.components.proofs.TurnsTaken.{fresh-length, turning-start, turning-marks, turning-reanalyzed, all-cleared}
 use Rattle.components.proofs.drop.drop_inside_out.Statement.{statement}
 use Rattle.components.proofs.drop.drop_inside_out.Tie as tie
 
@@ -43,7 +43,7 @@ returns c =
     let room = visited .visit-all .kept .1 .1 .1 .1 .1 .1 .1 .0 ∙ graph .before .before .before .pre .0 in
     λ old h e.
     let t = visited .visit-all .ensures old (turning-start h e (graph .call-graph .ensures) (entries .old-roots .ensures) (exits .summaries-of .ensures)) in
-    (turning-marks t (cut .cut-to-live .ensures), all-cleared room (cleared .clear .ensures), turning-reopened t)
+    (turning-marks t (cut .cut-to-live .ensures), all-cleared room (cleared .clear .ensures), turning-reanalyzed t)
 
 pub drop-inside-out-spec : {M : Type 1} → statement M
 drop-inside-out-spec =

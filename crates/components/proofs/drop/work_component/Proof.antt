@@ -6,8 +6,8 @@ use Rattle.components.proofs.TurnsTaken.{may-pass, component-kept, comp
 use Rattle.components.proofs.drop.work_component.Statement.{statement}
 use Rattle.components.proofs.drop.work_component.Tie as tie
 
-is-reopened-requires : tie.Need-is-reopened-requires
-is-reopened-requires c κs =
+is-reanalyzed-requires : tie.Need-is-reanalyzed-requires
+is-reanalyzed-requires c κs =
     let found = c .before .before .before .before in
     found .before .before .before .before .before .before .pre .1 .1 .drop .well-formed
 
@@ -30,8 +30,8 @@ returns c =
     let m = found .component .ensures in
     λ old t.
     component-worked (z .args .f) t (z .pre .0 .0) (z .pre .0 .2) (m .len) (component-members (t .graph) (z .pre .0 .0) m)
-    (tested .before .is-reopened .ensures .if-yes (tested .if1 .taken)) (passed .component-pass .ensures .1)
-    (joined-members (t .working .reopened-length) (c .join2 .ensures)) (joined-members (t .working .done-length) (done .join .ensures))
+    (tested .before .is-reanalyzed .ensures .if-yes (tested .if1 .taken)) (passed .component-pass .ensures .1)
+    (joined-members (t .working .reanalyzed-length) (c .join2 .ensures)) (joined-members (t .working .done-length) (done .join .ensures))
 
 returns-2 : tie.Need-returns-2
 returns-2 c =
@@ -42,11 +42,11 @@ returns-2 c =
     let m = found .component .ensures in
     λ old t.
     component-kept (z .args .f) t (z .pre .0 .0) (z .pre .0 .2) (m .len) (component-members (t .graph) (z .pre .0 .0) m)
-    (tested .before .is-reopened .ensures .if-no (tested .if1 .left)) (joined-members (t .working .done-length) (done .join .ensures))
+    (tested .before .is-reanalyzed .ensures .if-no (tested .if1 .left)) (joined-members (t .working .done-length) (done .join .ensures))
 
 pub work-component-spec : {M : Type 1} → statement M
 work-component-spec =
     tie.close
-    (tie.spec (λ c κs. search needs) (λ c κs. search needs) (λ c. search needs) is-reopened-requires
+    (tie.spec (λ c κs. search needs) (λ c κs. search needs) (λ c. search needs) is-reanalyzed-requires
     (λ c. search needs) component-pass-requires (λ c κs. search needs) (λ c. search needs) (λ c. search needs)
     returns (λ c. search needs) returns-2)

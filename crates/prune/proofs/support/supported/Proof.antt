@@ -8,7 +8,7 @@ use lib.ListN.{length}
 use Rattle.base.proofs.EntriesInUse.{Left, found, passed, none-left}
 use Rattle.program.specs.Program.{Edge}
 use Rattle.program.specs.Decoded.{edgeOf}
-use Rattle.prune.specs.Parts.{anyKey, lineSupports, edgeSupports, supports}
+use Rattle.prune.specs.Parts.{anyKey, transitionSupports, edgeSupports, supports}
 use Rattle.prune.proofs.SearchesAsk.{asks-key}
 use Rattle.prune.proofs.EdgeScanned.{edge-calls, edge-is}
 use borrow.Author.Needs.{needs}
@@ -17,7 +17,7 @@ use Rattle.prune.proofs.support.supported.Tie as tie
 
 abbrev Inv-loop : tie.InvT-loop
 Inv-loop keys m lines k kept c found₀ i e end base j₀ found j =
-    (j ≤ end) × (found ≡ false) × Left (anyKey (lineSupports kept base (e .label) (c .state))) lines end j
+    (j ≤ end) × (found ≡ false) × Left (anyKey (transitionSupports kept base (e .label) (c .state))) lines end j
 
 abbrev μ-loop : tie.MeasureT-loop
 μ-loop keys m lines k kept c found₀ i e end base j₀ found j = end - j
@@ -35,9 +35,9 @@ scan-holds c = (search needs, refl, record { decide = refl })
 loop-holds : tie.Need-loop-holds Inv-loop μ-loop Inv-scan μ-scan
 loop-holds c = (search needs, search needs, record { decide = refl })
 
-shared-slice-read-line-supports :
-    tie.Need-shared-slice-read-line-supports Inv-loop μ-loop Inv-scan μ-scan
-shared-slice-read-line-supports c = search needs
+shared-slice-read-transition-supports :
+    tie.Need-shared-slice-read-transition-supports Inv-loop μ-loop Inv-scan μ-scan
+shared-slice-read-transition-supports c = search needs
 
 -- the start, at a head of the inner loop
 abbrev start-of : tie.At-loop Inv-loop μ-loop Inv-scan μ-scan → tie.Start Inv-loop μ-loop Inv-scan μ-scan
@@ -55,10 +55,10 @@ line-room start few h = omega (arith, few, h, start .pre)
 loop-again : tie.Need-loop-again Inv-loop μ-loop Inv-scan μ-scan
 loop-again c =
     let p = c .before .before .before .before in
-    let few = p .before .before .lines-to-try .ensures .1 in
+    let few = p .before .before .transitions-to-try .ensures .1 in
     let start = start-of p in
     let more = c .before .before .before .loop-test .taken in
-    (omega (arith, more), p .loop .inv .1, passed (asks-key _) (p .loop .inv .2) more (line-room start few more) (sym (c .before .line-supports .ensures) ∙ c .if2 .left))
+    (omega (arith, more), p .loop .inv .1, passed (asks-key _) (p .loop .inv .2) more (line-room start few more) (sym (c .before .transition-supports .ensures) ∙ c .if2 .left))
 
 -- what the edge supports, said of its key
 by-key : {A : Type 0} (P : Edge → A) {e d : Edge} {x : A} → e ≡ d → P e ≡ x → P d ≡ x
@@ -76,7 +76,7 @@ scan-again c =
       p .loop .inv .1,
       passed (asks-key _) (scan .2) more (edge-room (start-of p) more)
           (by-key (edgeSupports _ _ _ _ _ _ _) (key .edge .ensures)
-          (sym (edge-is _ _ _ _ _ _ _ _ (sym (asked .call-supports .ensures) ∙ no-call .if1 .left) (p .before .before .lines-to-try .ensures .0) (p .before .number-of .ensures .0))
+          (sym (edge-is _ _ _ _ _ _ _ _ (sym (asked .call-supports .ensures) ∙ no-call .if1 .left) (p .before .before .transitions-to-try .ensures .0) (p .before .number-of .ensures .0))
           ∙ sym (none-left (asks-key _) (p .loop .inv .2) (omega arith)))),
     )
 
@@ -102,13 +102,13 @@ returns-3 c =
     let line = c .before .before .before .loop-test .taken in
     found (asks-key _) (key .before .before .before .scan .inv .2) more (edge-room (start-of p) more)
     (by-key (edgeSupports _ _ _ _ _ _ _) (key .edge .ensures)
-    (sym (edge-is _ _ _ _ _ _ _ _ (sym (asked .call-supports .ensures) ∙ no-call .if1 .left) (p .before .before .lines-to-try .ensures .0) (p .before .number-of .ensures .0))
-    ∙ sym (found (asks-key _) (p .loop .inv .2) line (line-room (start-of p) (p .before .before .lines-to-try .ensures .1) line) (sym (c .before .line-supports .ensures) ∙ c .if2 .taken))))
+    (sym (edge-is _ _ _ _ _ _ _ _ (sym (asked .call-supports .ensures) ∙ no-call .if1 .left) (p .before .before .transitions-to-try .ensures .0) (p .before .number-of .ensures .0))
+    ∙ sym (found (asks-key _) (p .loop .inv .2) line (line-room (start-of p) (p .before .before .transitions-to-try .ensures .1) line) (sym (c .before .transition-supports .ensures) ∙ c .if2 .taken))))
 
 pub supported-spec : {M : Type 1} → statement M
 supported-spec =
     tie.close
     (tie.spec Inv-loop μ-loop Inv-scan μ-scan scan-holds (λ c. search needs) (λ c. search needs)
     (λ c κs. search needs) (λ c κs. search needs) (λ c κs. search needs) (λ c κs. search needs) loop-holds
-    (λ c. search needs) shared-slice-read-line-supports (λ c κs. search needs) (λ c. search needs)
+    (λ c. search needs) shared-slice-read-transition-supports (λ c κs. search needs) (λ c. search needs)
     (λ c. search needs) loop-again (λ c. search needs) (λ c. search needs) scan-again returns returns-2 returns-3)

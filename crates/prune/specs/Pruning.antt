@@ -1,4 +1,4 @@
--- The keeping (paper): of the marks of any sheet those stay that have support back to a start through configurations
+-- To prune (paper: the keeping): of the marks of any sheet those stay that have support back to a start through configurations
 -- that are marked there.
 use Prim.Native.Nat.{ℕ}
 use mathlib.Core.Path.{_≡_}

@@ -1,11 +1,11 @@
--- `components::decide::is_reopened` meets its contract.
+-- `components::decide::is_reanalyzed` meets its contract.
 use mathlib.Core.Path.{sym, _∙_}
 use mathlib.Core.Logic.{inl, inr, ⊎-elim}
 use borrow.Author.Needs.{needs}
 use Rattle.callgraph.proofs.RoutineSets.{true-member, false-member}
-use Rattle.components.proofs.ReopeningDecided.{said-yes}
-use Rattle.components.proofs.decide.is_reopened.Statement.{statement}
-use Rattle.components.proofs.decide.is_reopened.Tie as tie
+use Rattle.components.proofs.ReanalysisDecided.{said-yes}
+use Rattle.components.proofs.decide.is_reanalyzed.Statement.{statement}
+use Rattle.components.proofs.decide.is_reanalyzed.Tie as tie
 
 returns : tie.Need-returns
 returns c =
@@ -20,5 +20,5 @@ returns-2 c =
     let outside = false-member (z .members .now) (z .edited) (sym (is .is-set .ensures) ∙ c .before .if1 .left) in
     record { if-yes = λ e. inr (s .if-yes e); if-no = λ e x. ⊎-elim outside (s .if-no e) x }
 
-pub is-reopened-spec : {M : Type 1} → statement M
-is-reopened-spec = tie.close (tie.spec (λ c κs. search needs) returns (λ c κs. search needs) returns-2)
+pub is-reanalyzed-spec : {M : Type 1} → statement M
+is-reanalyzed-spec = tie.close (tie.spec (λ c κs. search needs) returns (λ c κs. search needs) returns-2)

@@ -14,7 +14,7 @@ use Rattle.program.specs.Reading.{judgeAs, judge, afterAs, after, readFrom, rea
 use Rattle.program.specs.Sample.{bytes, F}
 use Rattle.reach.specs.Runs.{Step, HasStep}
 use Rattle.reach.specs.Reachable.{seeded, by-action, by-call, by-return, initial, root, Reachable}
-use Rattle.callgraph.specs.Components.{CallEdge, Leads, directly, through, Together, Anew, Changed, CallsChanged, Reopened, Bits}
+use Rattle.callgraph.specs.Components.{CallEdge, Leads, directly, through, Together, Anew, Changed, CallsChanged, Reanalyzed, Bits}
 use Rattle.edit.specs.Editing.{without, editedProgram}
 use Rattle.edit.specs.declared.Label.the-variants as label
 use Rattle.edit.specs.declared.Edit.the-variants.{Drop}
@@ -111,9 +111,9 @@ left = by-action entered (List·Memᴰ·tail (List·Memᴰ·tail (List·Memᴰ·
 changed : Changed whole callOnly 1
 changed = record { root = 0; state = 1; old = entered; differs = inl (left, λ d. no-exit d refl refl) }
 
--- main is reopened: it calls routine 1
-main-reopened : Reopened whole callOnly 1 0
-main-reopened =
+-- main is reanalyzed: it calls routine 1
+main-reanalyzed : Reanalyzed whole callOnly 1 0
+main-reanalyzed =
     record {
       member = 0;
       together = inl refl;
@@ -128,11 +128,11 @@ main-reopened =
     }
 
 -- routine 1 is: it is the edited one
-called-reopened : Reopened whole callOnly 1 1
-called-reopened = record { member = 1; together = inl refl; reason = inl refl }
+called-reanalyzed : Reanalyzed whole callOnly 1 1
+called-reanalyzed = record { member = 1; together = inl refl; reason = inl refl }
 
 -- and no other is
-no-other : {f : ℕ} → Reopened whole callOnly 1 f → f < 2
+no-other : {f : ℕ} → Reanalyzed whole callOnly 1 f → f < 2
 no-other {f} o = let e = alone (o .together) in go e (o .reason)
   where
     go : {m : ℕ} → f ≡ m → (m ≡ 1) ⊎ CallsChanged whole callOnly f m → f < 2
@@ -154,12 +154,12 @@ no-lead : {f g : ℕ} → Leads uncalled f g → ⊥
 no-lead (directly c) = no-call c
 no-lead (through c l) = no-call c
 
--- main is reopened: it is the edited one
-main-edited : Reopened whole uncalled 0 0
+-- main is reanalyzed: it is the edited one
+main-edited : Reanalyzed whole uncalled 0 0
 main-edited = record { member = 0; together = inl refl; reason = inl refl }
 
 -- and no other is
-main-only : {f : ℕ} → Reopened whole uncalled 0 f → f < 1
+main-only : {f : ℕ} → Reanalyzed whole uncalled 0 f → f < 1
 main-only {f} o = go (o .together) (o .reason)
   where
     go : {m : ℕ} → Together uncalled f m → (m ≡ 0) ⊎ CallsChanged whole uncalled f m → f < 1
@@ -177,19 +177,19 @@ no-bit n k f small h e =
     absurd (omega (arith, ap (λ (x : ℕ). x % 2) z))
 
 -- bits 0 and 1
-two-bits : Bits (Reopened whole callOnly 1) 3
+two-bits : Bits (Reanalyzed whole callOnly 1) 3
 two-bits = record { small = omega arith; bit = go }
   where
-    go : (f : ℕ) → f < 16 → (3 / 2 ^ f % 2 ≡ 1) ↔ Reopened whole callOnly 1 f
-    go zero h = (λ e. main-reopened, λ o. refl)
-    go (suc zero) h = (λ e. called-reopened, λ o. refl)
+    go : (f : ℕ) → f < 16 → (3 / 2 ^ f % 2 ≡ 1) ↔ Reanalyzed whole callOnly 1 f
+    go zero h = (λ e. main-reanalyzed, λ o. refl)
+    go (suc zero) h = (λ e. called-reanalyzed, λ o. refl)
     go (suc (suc f)) h = (λ e. absurd (no-bit 3 2 (suc (suc f)) (omega arith) (omega arith) e), λ o. absurd (omega (arith, no-other o)))
 
 -- bit 0
-one-bit : Bits (Reopened whole uncalled 0) 1
+one-bit : Bits (Reanalyzed whole uncalled 0) 1
 one-bit = record { small = omega arith; bit = go }
   where
-    go : (f : ℕ) → f < 16 → (1 / 2 ^ f % 2 ≡ 1) ↔ Reopened whole uncalled 0 f
+    go : (f : ℕ) → f < 16 → (1 / 2 ^ f % 2 ≡ 1) ↔ Reanalyzed whole uncalled 0 f
     go zero h = (λ e. main-edited, λ o. refl)
     go (suc f) h = (λ e. absurd (no-bit 1 1 (suc f) (omega arith) (omega arith) e), λ o. absurd (omega (arith, main-only o)))
 
@@ -200,12 +200,12 @@ dropping : Unit {0}
 unfolding lines numbers judgeAs judge afterAs after readFrom readFile without editedProgram
 dropping = tt
 
--- P5: dropping 01 00 00 01 reopens routines 0 and 1
-pub p5-reopened : Bits (ReanalyzedBy (Drop (record { routine = 1; source = 0; label = label.Action 0; target = 1 })) (readFile (bytes F) .program)) 3
+-- P5: dropping 01 00 00 01 reanalyzes routines 0 and 1
+pub p5-reanalyzed : Bits (ReanalyzedBy (Drop (record { routine = 1; source = 0; label = label.Action 0; target = 1 })) (readFile (bytes F) .program)) 3
 unfolding dropping
-p5-reopened = two-bits
+p5-reanalyzed = two-bits
 
--- P6: dropping 00 00 41 02 reopens routine 0 only
-pub p6-reopened : Bits (ReanalyzedBy (Drop (record { routine = 0; source = 0; label = label.Call 1; target = 2 })) (readFile (bytes F) .program)) 1
+-- P6: dropping 00 00 41 02 reanalyzes routine 0 only
+pub p6-reanalyzed : Bits (ReanalyzedBy (Drop (record { routine = 0; source = 0; label = label.Call 1; target = 2 })) (readFile (bytes F) .program)) 1
 unfolding dropping
-p6-reopened = one-bit
+p6-reanalyzed = one-bit
