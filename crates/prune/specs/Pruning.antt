@@ -1,5 +1,5 @@
--- To prune (paper: the keeping): of the marks of any sheet those stay that have support back to a start through configurations
--- that are marked there.
+-- To prune (paper: the keeping): of the marks of any sheet those stay that have support back to a start through
+-- configurations that are marked there.
 use Prim.Native.Nat.{ℕ}
 use mathlib.Core.Path.{_≡_}
 use mathlib.Core.List.{List}
