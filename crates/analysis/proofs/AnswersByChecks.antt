@@ -16,7 +16,7 @@ use Rattle.program.specs.declared.Verdict.{Verdict}
 use Rattle.program.specs.declared.Verdict.the-variants.{Accepted, Refused}
 use Rattle.program.specs.declared.Length.the-variants.{NotAsked, Of}
 use Rattle.base.proofs.Bools.{both}
-use Rattle.reader.specs.Checked.{Checked}
+use Rattle.checks.specs.Checked.{Checked}
 use Rattle.reader.specs.declared.Reading.{Reading}
 use Rattle.reach.specs.Configurations.{none-set}
 use Rattle.reach.specs.Marks.{freshMarks, violationsFrom, firstFrom}

@@ -4,6 +4,7 @@ pub mod own;
 
 use automaton::flags::rejecting_flags;
 use base::flags::count_set;
+use checks::checked_program;
 use count::count_violations;
 use count::first_violation;
 use own::is_own;
@@ -11,7 +12,6 @@ use program::DecodedProgram;
 use program::Length;
 use program::Verdict;
 use program::sizes::MARKS_SIZE;
-use reader::checks::checked_program;
 use worklist::run::analyze_program;
 ghost use mathlib.Core.Path.{_≡_};
 ghost use lib.ListN.{length};

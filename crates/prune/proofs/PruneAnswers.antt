@@ -7,7 +7,7 @@ use Rattle.program.specs.Reading.{readFile}
 use Rattle.program.specs.Decoded.{programOf}
 use Rattle.program.specs.declared.Verdict.{Verdict}
 use Rattle.program.specs.declared.Length.the-variants.{NotAsked, Of}
-use Rattle.reader.specs.Checked.{Checked}
+use Rattle.checks.specs.Checked.{Checked}
 use Rattle.reader.specs.declared.Reading.{Reading}
 use Rattle.reach.specs.Configurations.{none-set}
 use Rattle.analysis.specs.Answers.{checkedMarks, onSuccess, workAfter}

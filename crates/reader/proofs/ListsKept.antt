@@ -1,18 +1,13 @@
 -- Lists that are kept in an array with a count.
-use Prim.Native.Nat.{ℕ, min, _≤_, _<_}
+use Prim.Native.Nat.{ℕ, min, _<_}
 use mathlib.Core.Path.{_≡_, ap, sym, _∙_}
 use mathlib.Core.Bool.{Bool, true, false}
 use mathlib.Core.List.{List, [], _∷_, map, map-append}
-use native.Mathlib.Omega.{arith}
-use lib.ListN.{length, getD, take, length-map, length-take, List·getD-eq-default}
+use lib.ListN.{length, take, length-map}
 use Rattle.base.proofs.EntriesInUse.{in-use-length, unfilled}
 use Rattle.program.specs.Program.{Edge, Program}
 use Rattle.automaton.specs.Automaton.{Transition, Automaton}
 use Rattle.program.specs.Reading.{more}
-
--- past the entries in use there is nothing
-pub past-used : (n : ℕ) (l : List ℕ) (i : ℕ) → min n (length l) ≤ i → getD (take n l) i 0 ≡ 0
-past-used n l i h = List·getD-eq-default (take n l) 0 (rw (length-take n l) h)
 
 -- one more is one more of what they stand for
 pub map-more : {A : Type 0} (g : ℕ → A) (t : Bool) (x : ℕ) (y : A) (xs ys : List ℕ) → ys ≡ more t x xs → g x ≡ y → map g ys ≡ more t y (map g xs)
@@ -23,10 +18,7 @@ map-more g false x y xs ys e f = ap (map g) e
 pub room-for : {yes : Bool} (n : ℕ) (xs : List ℕ) {size : ℕ} → length xs ≡ size → (yes ≡ true → length (take n xs) < size) → yes ≡ true → n < length xs
 room-for n xs l h e = unfilled n xs (rw l (h e))
 
--- what is kept is as many as what it stands for
-pub as-many : {A : Type 0} (g : ℕ → A) (xs : List ℕ) (n : ℕ) → length (map g xs) < n → length xs < n
-as-many g xs n h = omega (arith, length-map xs g)
-
+-- the entries in use are as many as what they stand for
 pub counted : {A : Type 0} (g : ℕ → A) (n : ℕ) (xs : List ℕ) {size u : ℕ} → length xs ≡ size → u ≡ min n size → u ≡ length (map g (take n xs))
 counted g n xs l e = in-use-length n xs l e ∙ sym (length-map (take n xs) g)
 

@@ -1,12 +1,12 @@
 // What is known after a line without a fault.
 use crate::Reader;
-use crate::frame::key_of;
-use crate::frame::kind_of;
-use crate::frame::number;
 use automaton::DecodedAutomaton;
 use automaton::States;
 use automaton::transitions::Transitions;
 use automaton::transitions::transition_key;
+use frames::key_of;
+use frames::kind_of;
+use frames::number;
 use program::DecodedProgram;
 use program::Nodes;
 use program::edges::Edges;

@@ -1,22 +1,24 @@
 // Reading a file: the verdict, and the decoded program.
-pub mod checks;
 mod extend;
-pub mod frame;
-pub mod judge;
 
 use automaton::DecodedAutomaton;
 use automaton::no_states;
+use automaton::sizes::MAX_TRANSITIONS;
 use automaton::transitions::no_transitions;
 use extend::after_frame;
-use judge::fault_of;
+use frames::judge::fault_by;
+use frames::judge::limits_of;
 use program::DecodedProgram;
 use program::Nodes;
 use program::Verdict;
 use program::edges::no_edges;
+use program::sizes::MAX_EDGES;
 use program::sizes::MAX_ROUTINES;
+use tables::in_use;
+use text::Line;
 ghost use mathlib.Core.Path.{_≡_};
 ghost use Rattle.program.specs.Program.{noProgram};
-ghost use Rattle.program.specs.Reading.{start, accepted, refused, readFile};
+ghost use Rattle.program.specs.Reading.{start, judge, accepted, refused, readFile};
 ghost use Rattle.program.specs.Decoded.{programOf};
 ghost use Rattle.reader.specs.Parts.{progressOf};
 ghost use Rattle.reader.specs.Outcome.{outcomeOf};
@@ -33,14 +35,6 @@ pub struct Reader {
     pub frames: usize,
     pub ended: bool,
     pub program: DecodedProgram,
-}
-
-// What bounds the numbers of a frame.
-pub struct Limits {
-    pub routines: u8,
-    pub states: u8,
-    pub actions: u8,
-    pub nodes: Nodes,
 }
 
 fn no_program() -> DecodedProgram
@@ -98,6 +92,26 @@ fn start_reader() -> Reader
         ended: false,
         program,
     }
+}
+
+// The refusal that a line meets, or 0.
+fn fault_of(s: Reader, l: Line) -> u8
+    ensures { λ r. ⌜ r ≡ judge (progressOf s) l ⌝ }
+{
+    let p = s.program;
+    let n = p.nodes;
+    let e = p.edges;
+    let a = p.automaton;
+    let t = a.transitions;
+    fault_by(
+        s.last,
+        s.frames,
+        limits_of(p),
+        in_use(n.count, MAX_ROUTINES),
+        in_use(e.count, MAX_EDGES),
+        in_use(t.count, MAX_TRANSITIONS),
+        l,
+    )
 }
 
 // Reads a file: the verdict, and the program where it is accepted.

@@ -13,7 +13,7 @@ use Rattle.program.specs.declared.Verdict.the-variants as verdict
 use Rattle.reach.specs.Sizes.{nodeSpan}
 use Rattle.program.specs.declared.Length.the-variants.{Of}
 use Rattle.program.proofs.Theorems.{written-limited}
-use Rattle.reader.specs.Checked.{Checked}
+use Rattle.checks.specs.Checked.{Checked}
 use Rattle.reader.specs.declared.Reading.{Reading}
 use Rattle.reach.specs.Configurations.{number, none-set}
 use Rattle.reach.specs.Reachable.{Derivable, Any}

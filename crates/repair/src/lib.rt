@@ -4,6 +4,7 @@ mod inside_out;
 
 use analysis::check_own;
 use callgraph::routines::bits_of;
+use checks::checked_program;
 use edit::Edit;
 use edit::EditRead;
 use edit::wanted_edit;
@@ -11,7 +12,6 @@ use inside_out::mend;
 use program::DecodedProgram;
 use program::Length;
 use program::Verdict;
-use reader::checks::checked_program;
 use writer::WriteAnswer;
 use writer::put::write_program;
 ghost use mathlib.Core.Path.{_≡_};

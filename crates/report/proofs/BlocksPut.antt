@@ -19,7 +19,7 @@ use Rattle.program.specs.Decoded.{programOf}
 use Rattle.program.specs.declared.Verdict.{Verdict}
 use Rattle.program.specs.declared.Verdict.the-variants as verdict
 use Rattle.program.specs.declared.Length.the-variants.{NotAsked, Of}
-use Rattle.reader.specs.Checked.{Checked}
+use Rattle.checks.specs.Checked.{Checked}
 use Rattle.reader.specs.declared.Reading.{Reading}
 use Rattle.reach.specs.Configurations.{stateOf}
 use Rattle.reach.proofs.Numbers.{state-small}

@@ -1,11 +1,11 @@
 // What bench prints: where the file of an input ends, the block of a program and its marks, and the lines of refusals.
 mod put;
 
+use checks::checked_program;
 use program::Length;
 use program::Verdict;
 use program::sizes::MARKS_SIZE;
 use put::put_block;
-use reader::checks::checked_program;
 use text::Line;
 use text::put_line;
 ghost use mathlib.Core.Path.{_≡_};

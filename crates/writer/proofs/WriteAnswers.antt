@@ -10,7 +10,7 @@ use Rattle.program.specs.declared.Verdict.{Verdict}
 use Rattle.program.specs.declared.Verdict.the-variants.{Accepted}
 use Rattle.program.specs.declared.Length.the-variants.{NotAsked, Of}
 use Rattle.program.proofs.Theorems.{written-limited}
-use Rattle.reader.specs.Checked.{Checked}
+use Rattle.checks.specs.Checked.{Checked}
 use Rattle.reader.specs.declared.Reading.{Reading}
 use Rattle.writer.specs.Answers.{answerBy, outputBy, writeAnswer, outputAfter}
 

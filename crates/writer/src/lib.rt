@@ -1,10 +1,10 @@
 // Writing a file's program back.
 pub mod put;
 
+use checks::checked_program;
 use program::Length;
 use program::Verdict;
 use put::write_program;
-use reader::checks::checked_program;
 ghost use mathlib.Core.Path.{_≡_};
 ghost use Rattle.writer.specs.Answers.{writeAnswer, outputAfter};
 

@@ -2,10 +2,9 @@ use mathlib.Core.Path.{_≡_, ap, _∙_}
 use mathlib.Core.List.{map}
 use lib.ListN.{length}
 use borrow.Author.Needs.{needs}
-use Rattle.base.proofs.EntriesInUse.{unfilled}
+use Rattle.base.proofs.EntriesInUse.{unfilled, as-many}
 use Rattle.program.specs.Sizes.{maxEdges}
 use Rattle.program.specs.Decoded.{edgeKeysOf, edgeOf, programOf}
-use Rattle.reader.proofs.ListsKept.{as-many}
 use Rattle.edit.specs.Editing.{withEdges}
 use Rattle.edit.proofs.KeysOfEdges.{edges-inserted}
 use Rattle.edit.proofs.apply.with_step.Statement.{statement}

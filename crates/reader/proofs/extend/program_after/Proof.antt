@@ -1,6 +1,7 @@
 use Rattle.program.specs.Reading.{edgeIn}
 use lib.Dec.{eqb}
-use Rattle.reader.proofs.ListsKept.{as-many, map-more, program-parts}
+use Rattle.base.proofs.EntriesInUse.{as-many}
+use Rattle.reader.proofs.ListsKept.{map-more, program-parts}
 use Rattle.program.specs.Decoded.{edgeKeysOf, edgeOf}
 use Rattle.program.specs.Sizes.{maxEdges}
 use borrow.Author.Tests.{eqb-true}

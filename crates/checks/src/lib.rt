@@ -1,0 +1,78 @@
+// The checks that a call makes before it touches anything: the file, and the lengths of the buffers that it is lent.
+use program::Length;
+use program::Verdict;
+use program::sizes::MARKS_SIZE;
+use program::sizes::OUTPUT_SIZE;
+use reader::Reading;
+use reader::read;
+ghost use mathlib.Core.Path.{_≡_};
+ghost use mathlib.Core.List.{[], _∷_};
+ghost use Rattle.program.specs.Checks.{row, firstMet, otherThan, under, checkedBy};
+ghost use Rattle.checks.specs.Checked.{Checked};
+
+// Whether there is such a buffer and it has another length than this.
+fn other_than(size: usize, length: Length) -> bool
+    ensures { λ r. ⌜ r ≡ otherThan size length ⌝ }
+{
+    match length {
+        Length::NotAsked => false,
+        Length::Of(n) => !(n == size),
+    }
+}
+
+// Whether there is such a buffer and it is shorter than this.
+fn under(size: usize, length: Length) -> bool
+    ensures { λ r. ⌜ r ≡ under size length ⌝ }
+{
+    match length {
+        Length::NotAsked => false,
+        Length::Of(n) => n < size,
+    }
+}
+
+// The refusal of the lengths, by which of the rows are met; 0 where none is.
+fn refusal_of(marks: bool, output: bool, work: bool) -> u8
+    ensures { λ r. ⌜ r ≡ firstMet (row 9 marks ∷ row 10 output ∷ row 11 work ∷ []) ⌝ }
+{
+    if marks {
+        return 9;
+    }
+    if output {
+        return 10;
+    }
+    if work {
+        return 11;
+    }
+    0
+}
+
+// The file's verdict, or where it is accepted that of the lengths.
+fn check(v: Verdict, marks: Length, output: Length, work: Length) -> Verdict
+    ensures { λ r. ⌜ r ≡ checkedBy v marks output work ⌝ }
+{
+    let refusal = refusal_of(
+        other_than(MARKS_SIZE, marks),
+        under(OUTPUT_SIZE, output),
+        other_than(MARKS_SIZE, work),
+    );
+    match v {
+        Verdict::Refused(n, line) => Verdict::Refused(n, line),
+        Verdict::Accepted => {
+            if refusal == 0 {
+                return Verdict::Accepted;
+            }
+            Verdict::Refused(refusal, 0)
+        }
+    }
+}
+
+// Reads a file and measures the buffers that a call is lent: the first refusal of these, or none, and the program.
+pub fn checked_program(file: &[u8], marks: Length, output: Length, work: Length) -> Reading
+    ensures { λ r. ⌜ Checked (now (file .entry)) marks output work r ⌝ }
+{
+    let r = read(file);
+    let v = r.verdict;
+    let program = r.program;
+    let verdict = check(v, marks, output, work);
+    Reading { verdict, program }
+}

@@ -1,0 +1,184 @@
+// The refusal that one line meets (1 to 7).
+use crate::Limits;
+use crate::key_of;
+use crate::kind_of;
+use crate::number;
+use crate::size_of;
+use automaton::sizes::MAX_ACTIONS;
+use automaton::sizes::MAX_STATES;
+use automaton::sizes::MAX_TRANSITIONS;
+use program::DecodedProgram;
+use program::Nodes;
+use program::edges::is_call;
+use program::sizes::FIRST_CALL;
+use program::sizes::MAX_EDGES;
+use program::sizes::MAX_NODES;
+use program::sizes::MAX_ROUTINES;
+use tables::in_use;
+use text::Line;
+ghost use mathlib.Core.Path.{_≡_};
+ghost use lib.ListN.{getD};
+ghost use Rattle.program.specs.Program.{within, countsFit, labelFits, placed, edgeFits};
+ghost use Rattle.program.specs.Reading.{due, ordered, edgeIn, ranged, full, miscounted, lowest};
+ghost use Rattle.program.specs.Decoded.{nodesOf};
+ghost use Rattle.frames.specs.Limits.{limits, limitsOf, judgedBy};
+
+fn inside(lo: u8, hi: u8, x: u8) -> bool
+    ensures { λ r. ⌜ r ≡ within lo hi x ⌝ }
+{
+    (lo <= x) & (x <= hi)
+}
+
+fn is_due(routines: u8, done: usize, f: u8) -> bool
+    ensures { λ y. ⌜ y ≡ due routines done f ⌝ }
+{
+    let r = routines as usize;
+    let i = f as usize;
+    (i == done) | ((r <= done) & (done < i))
+}
+
+fn in_order(last: u64, frames: usize, routines: u8, done: usize, k: u8, l: Line) -> bool
+    ensures { λ y. ⌜ y ≡ ordered last frames routines done k l ⌝ }
+{
+    let x = key_of(k, l);
+    let d = is_due(routines, done, number(l, 1));
+    (last < x)
+        & (((k == 1) & (frames == 0))
+            | ((k == 2) & (0 < frames) & d)
+            | ((2 < k) & (0 < frames) & (done == (routines as usize))))
+}
+
+fn node_count(n: Nodes, f: u8) -> u8
+    ensures { λ r. ⌜ r ≡ getD (nodesOf n) f 0 ⌝ }
+{
+    let list = n.list;
+    let i = f as usize;
+    if i < in_use(n.count, MAX_ROUTINES) {
+        return list[i];
+    }
+    0
+}
+
+fn counts_fit(r: u8, q: u8, a: u8) -> bool
+    ensures { λ y. ⌜ y ≡ countsFit r q a ⌝ }
+{
+    inside(1, MAX_ROUTINES as u8, r)
+        & inside(1, MAX_STATES as u8, q)
+        & inside(1, MAX_ACTIONS as u8, a)
+}
+
+pub fn label_fits(routines: u8, actions: u8, a: u8) -> bool
+    ensures { λ y. ⌜ y ≡ labelFits routines actions a ⌝ }
+{
+    (a < actions) | (is_call(a) & ((a as u16) < FIRST_CALL as u16 + routines as u16))
+}
+
+fn is_placed(nodes: u8, n: u8, m: u8) -> bool
+    ensures { λ y. ⌜ y ≡ placed nodes n m ⌝ }
+{
+    (n < nodes) & (m < nodes) & !(n == 1)
+}
+
+pub fn edge_fits(h: Limits, l: Line) -> bool
+    ensures { λ y. ⌜ y ≡ edgeFits (limitsOf h) (edgeIn l) ⌝ }
+{
+    let f = number(l, 1);
+    let n = h.nodes;
+    let nodes = node_count(n, f);
+    (f < h.routines)
+        & is_placed(nodes, number(l, 2), number(l, 4))
+        & label_fits(h.routines, h.actions, number(l, 3))
+}
+
+fn in_range(h: Limits, k: u8, l: Line) -> bool
+    ensures { λ y. ⌜ y ≡ ranged (limitsOf h) k l ⌝ }
+{
+    let a = number(l, 1);
+    let b = number(l, 2);
+    let c = number(l, 3);
+    ((k == 1) & counts_fit(a, b, c))
+        | ((k == 2) & (a < h.routines) & inside(2, MAX_NODES as u8, b))
+        | ((k == 3) & edge_fits(h, l))
+        | ((k == 4) & ((a < h.states) & (b < h.actions) & (c < h.states)))
+        | (inside(5, 6, k) & (a < h.states))
+        | (k == 7)
+}
+
+fn is_full(edges: usize, transitions: usize, k: u8) -> bool
+    ensures { λ y. ⌜ y ≡ full edges transitions k ⌝ }
+{
+    ((k == 3) & (MAX_EDGES <= edges)) | ((k == 4) & (MAX_TRANSITIONS <= transitions))
+}
+
+fn is_miscounted(frames: usize, k: u8, l: Line) -> bool
+    ensures { λ y. ⌜ y ≡ miscounted frames k l ⌝ }
+{
+    let a = number(l, 1);
+    let b = number(l, 2);
+    (k == 7) & !((a as usize) * 256 + (b as usize) == frames)
+}
+
+fn lowest_of(a: bool, b: bool, c: bool, d: bool, e: bool, f: bool, g: bool) -> u8
+    ensures { λ r. ⌜ r ≡ lowest a b c d e f g ⌝ }
+{
+    if a {
+        return 1;
+    }
+    if b {
+        return 2;
+    }
+    if c {
+        return 3;
+    }
+    if d {
+        return 4;
+    }
+    if e {
+        return 5;
+    }
+    if f {
+        return 6;
+    }
+    if g {
+        return 7;
+    }
+    0
+}
+
+pub fn limits_of(p: DecodedProgram) -> Limits
+    ensures { λ r. ⌜ r ≡ limits p ⌝ }
+{
+    let a = p.automaton;
+    let nodes = p.nodes;
+    Limits {
+        routines: p.routines,
+        states: a.states,
+        actions: a.actions,
+        nodes,
+    }
+}
+
+// The refusal that a line meets, or 0: by the last frame's key, how many frames, routines, edges and transitions there
+// were, and what bounds the numbers. No more of what was read before has to be known.
+pub fn fault_by(
+    last: u64,
+    frames: usize,
+    h: Limits,
+    done: usize,
+    edges: usize,
+    transitions: usize,
+    l: Line,
+) -> u8
+    ensures { λ r. ⌜ r ≡ judgedBy last frames h done edges transitions l ⌝ }
+{
+    let k = kind_of(l);
+    lowest_of(
+        l.count == 0,
+        k == 0,
+        !(l.count == size_of(k)),
+        !in_order(last, frames, h.routines, done, k, l),
+        !in_range(h, k, l),
+        is_full(edges, transitions, k),
+        is_miscounted(frames, k, l),
+    )
+}

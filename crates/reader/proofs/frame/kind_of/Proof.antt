@@ -1,6 +1,0 @@
-use borrow.Author.Needs.{needs}
-use Rattle.reader.proofs.frame.kind_of.Statement.{statement}
-use Rattle.reader.proofs.frame.kind_of.Tie as tie
-
-pub kind-of-spec : {M : Type 1} → statement M
-kind-of-spec = tie.close (tie.spec (λ c κs. search needs) (λ c κs. search needs) (λ c. cc))

@@ -1,9 +1,0 @@
-use Rattle.base.proofs.TestsOnTheWay.{tests}
-use Rattle.reader.proofs.frame.size_of.Statement.{statement}
-use Rattle.reader.proofs.frame.size_of.Tie as tie
-
-pub size-of-spec : {M : Type 1} → statement M
-size-of-spec =
-    tie.close
-    (tie.spec (λ c. search tests) (λ c. search tests) (λ c. search tests) (λ c. search tests) (λ c. search tests)
-    (λ c. search tests))

@@ -1,9 +1,0 @@
-use borrow.Author.Needs.{needs}
-use Rattle.reader.proofs.judge.in_range.Statement.{statement}
-use Rattle.reader.proofs.judge.in_range.Tie as tie
-
-pub in-range-spec : {M : Type 1} → statement M
-in-range-spec =
-    tie.close
-    (tie.spec (λ c κs. search needs) (λ c κs. search needs) (λ c κs. search needs) (λ c κs. search needs)
-    (λ c. search needs) (λ c κs. search needs) (λ c κs. search needs) (λ c κs. search needs) (λ c. cc))
