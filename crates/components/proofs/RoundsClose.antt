@@ -24,7 +24,7 @@ use Rattle.reach.proofs.Numbers.{number-of, parts-in-range, routine-span, first
 use Rattle.reach.proofs.ProgramInSizes.{sizes, Proper, derivable-state, derivable-in-range}
 use Rattle.base.proofs.SetFlags.{on-lt}
 use Rattle.reach.proofs.MarksShown.{one-of, shows-marked, count-small}
-use Rattle.worklist.specs.Slice.{Followable}
+use Rattle.worklist.specs.Parts.{Followable}
 use Rattle.callgraph.specs.Components.{memberOf, Member}
 use Rattle.callgraph.proofs.FlagsClosed as Flags
 use Rattle.callgraph.proofs.FlagsClosed.{count-grows, count-same}

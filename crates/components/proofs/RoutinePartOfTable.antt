@@ -12,7 +12,7 @@ use Rattle.program.specs.Program.{Edge}
 use Rattle.program.specs.Frames.{edgeKey}
 use Rattle.tables.specs.Keys.{Ascending}
 use Rattle.program.specs.Decoded.{edgeOf}
-use Rattle.worklist.specs.Slice.{FirstOf}
+use Rattle.worklist.specs.Parts.{FirstOf}
 use Rattle.worklist.proofs.RoutinePart.{routineAt, in-use-same, part-starts, part-in-use, part-ends, before-part, in-part, after-part}
 use Rattle.components.specs.Passes.{edgesOf}
 use Rattle.components.specs.PassParts.{is}

@@ -16,8 +16,7 @@ use Rattle.reach.specs.Marks.{violationsFrom}
 use Rattle.analysis.specs.Answers.{same, analyzeAnswer, marksAfter, workAfter}
 use Rattle.edit.specs.EditLines.{editFrom, readEdit}
 use Rattle.edit.specs.Editing.{hasEdge, without, inserted, editedProgram, wantedEdit}
-use Rattle.repair.specs.Reanalyzed.{InsideOutNumber}
-use Rattle.repair.specs.Repairs.{repaired}
+use Rattle.repair.specs.Repairs.{repaired, InsideOutNumber}
 use Rattle.program.specs.Sample.{lineBytes}
 use Rattle.desk.specs.Entries.{analyze, repair-inside-out, Back, analyzeBack, repairBack, programIn, Gives}
 use Rattle.demands.specs.Cases.{Fresh, Edited, Case, Said, lentFresh, Analyzed, lentEdit, Repaired, RepairedBoth, Holds, P1, P2, P3, P4, P5, P6, P7, P8, P9, P10, table}

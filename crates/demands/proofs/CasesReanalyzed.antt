@@ -18,7 +18,7 @@ use Rattle.callgraph.specs.Components.{CallEdge, Leads, directly, through, Toge
 use Rattle.edit.specs.Editing.{without, editedProgram}
 use Rattle.edit.specs.declared.Label.the-variants as label
 use Rattle.edit.specs.declared.Edit.the-variants.{Drop}
-use Rattle.repair.specs.Reanalyzed.{ReanalyzedBy}
+use Rattle.update.specs.Reanalyzed.{ReanalyzedBy}
 
 -- ---- the programs
 

@@ -25,9 +25,8 @@ use Rattle.edit.specs.declared.Edit.{Edit}
 use Rattle.edit.specs.declared.EditRead.{EditRead}
 use Rattle.edit.specs.declared.EditRead.the-variants as read
 use Rattle.edit.proofs.Theorems.{wanted-applies, applied-well-formed, edited-read}
-use Rattle.repair.specs.Repairs.{untouched, repairedTo, wantedBy, repairedBy, repaired}
+use Rattle.repair.specs.Repairs.{untouched, repairedTo, wantedBy, repairedBy, repaired, InsideOutNumber}
 use Rattle.repair.specs.Desk.{Desk, started}
-use Rattle.repair.specs.Reanalyzed.{InsideOutNumber}
 use Rattle.repair.proofs.EditRefusalNumbers.{wanted-number}
 use Rattle.desk.specs.Entries.{Back, repairBack, Gives}
 use Rattle.demands.specs.Book.{bookEdges, bookRefusal, bookEdited, unlessRefused, bookAfter, bookProgram, editReadRefusal}

@@ -12,7 +12,7 @@ use Rattle.edit.specs.Edits.{oldEdge}
 use Rattle.edit.specs.Editing.{editedProgram}
 use Rattle.edit.specs.declared.Edit.{Edit}
 use Rattle.demands.specs.Lists.{KeepsRoutine}
-use Rattle.repair.proofs.EditedSteps.{other-steps, steps-other}
+use Rattle.update.proofs.EditedSteps.{other-steps, steps-other}
 
 occurring : {p : Program} {f g s : ℕ} → Calls p (Reachable p) f g s → Calls p (Occurs p) f g s
 occurring c = record { node = c .node; root = c .root; state = c .state; target = c .target; holds = occurs-iff .1 (c .holds); calls = c .calls; moves = c .moves }

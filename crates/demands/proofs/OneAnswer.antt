@@ -17,8 +17,7 @@ use Rattle.callgraph.specs.Components.{Bits}
 use Rattle.edit.specs.Editing.{wantedEdit}
 use Rattle.edit.specs.declared.EditRead.{EditRead}
 use Rattle.edit.specs.declared.EditRead.the-variants as read
-use Rattle.repair.specs.Reanalyzed.{InsideOutNumber}
-use Rattle.repair.specs.Repairs.{repaired}
+use Rattle.repair.specs.Repairs.{repaired, InsideOutNumber}
 use Rattle.desk.specs.Entries.{Entry, read as reads, write, analyze, next-violation, prune, repair-forward, repair-inside-out, Lent, Back, pruneBack, repairBack, programIn, Gives}
 
 -- ---- a set of routines has one number

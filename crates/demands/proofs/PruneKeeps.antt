@@ -29,7 +29,7 @@ use Rattle.edit.specs.declared.EditRead.{EditRead}
 use Rattle.edit.specs.declared.EditRead.the-variants as read
 use Rattle.edit.proofs.Theorems.{wanted-applies, applied-well-formed}
 use Rattle.repair.specs.Repairs.{checkedRepair, repairedTo, ownedBy, editedBy, wantedBy, repairedBy, repaired}
-use Rattle.repair.proofs.EditedSteps.{drop-within, drop-initial}
+use Rattle.update.proofs.EditedSteps.{drop-within, drop-initial}
 use Rattle.desk.specs.Entries.{prune, repair-forward, Lent, Back, repairBack, programIn, Gives}
 use Rattle.demands.specs.Demands.{keepingOf}
 use Rattle.demands.specs.Lists.{wrote}

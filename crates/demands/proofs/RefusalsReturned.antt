@@ -27,8 +27,7 @@ use Rattle.edit.specs.EditLines.{onlyLine}
 use Rattle.edit.specs.Editing.{editedProgram, wantedEdit}
 use Rattle.edit.specs.declared.EditRead.{EditRead}
 use Rattle.edit.specs.declared.EditRead.the-variants as read
-use Rattle.repair.specs.Reanalyzed.{InsideOutNumber}
-use Rattle.repair.specs.Repairs.{checkedRepair, ownedBy, wantedBy, repairedBy, repaired}
+use Rattle.repair.specs.Repairs.{checkedRepair, ownedBy, wantedBy, repairedBy, repaired, InsideOutNumber}
 use Rattle.desk.specs.Entries.{Entry, read as reads, write, analyze, next-violation, prune, repair-forward, repair-inside-out, Lent, Back, hasWork, Values, noValues, repairing, readBack, writeBack, analyzeBack, nextBack, pruneBack, repairBack, programIn, Gives}
 use Rattle.demands.specs.Demands.{Demand1}
 use Rattle.demands.specs.Refusals.{editRows, repairRows, marksRows, rows, Returned, of-the-file, of-the-rest}

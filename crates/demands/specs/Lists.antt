@@ -17,7 +17,7 @@ use Rattle.edit.specs.Editing.{wantedEdit}
 use Rattle.edit.specs.declared.EditRead.{EditRead}
 use Rattle.edit.specs.declared.EditRead.the-variants.{Read, Refused}
 use Rattle.repair.specs.Desk.{Desk}
-use Rattle.repair.specs.Reanalyzed.{InsideOutNumber}
+use Rattle.repair.specs.Repairs.{InsideOutNumber}
 use Rattle.desk.specs.Entries.{Entry, repair-forward, repair-inside-out, Lent, Back, Gives}
 use Rattle.demands.specs.Book.{bookRefusal, bookAfter, bookProgram}
 

@@ -17,8 +17,7 @@ use Rattle.analysis.specs.declared.AnalyzeAnswer.{AnalyzeAnswer}
 use Rattle.analysis.specs.declared.NextAnswer.{NextAnswer}
 use Rattle.prune.specs.Pruning.{Pruned}
 use Rattle.edit.specs.Editing.{wantedEdit}
-use Rattle.repair.specs.Repairs.{After, repaired}
-use Rattle.repair.specs.Reanalyzed.{InsideOutNumber}
+use Rattle.repair.specs.Repairs.{After, repaired, InsideOutNumber}
 
 pub data Entry : Type 0 where
   read : Entry

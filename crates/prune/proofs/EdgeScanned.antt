@@ -8,12 +8,12 @@ use Rattle.program.specs.Program.{Edge}
 use Rattle.reach.specs.Configurations.{number}
 use Rattle.prune.specs.Parts.{anyKey, callSupports, transitionSupports, transitionsToTry, actionSupports, edgeSupports}
 
-module _ (kept lines : List ℕ) (k f n r q : ℕ) (e : Edge) where
-  pub edge-calls : callSupports kept e f n r q ≡ true → edgeSupports kept lines k f n r q e ≡ true
+module _ (kept transitions : List ℕ) (k f n r q : ℕ) (e : Edge) where
+  pub edge-calls : callSupports kept e f n r q ≡ true → edgeSupports kept transitions k f n r q e ≡ true
   unfolding edgeSupports
   edge-calls h = rw h refl
 
   pub edge-is : {end base : ℕ} → callSupports kept e f n r q ≡ false → end ≡ transitionsToTry e f n k → base ≡ number f (e .source) r 0
-      → anyKey (transitionSupports kept base (e .label) q) (take end lines) ≡ edgeSupports kept lines k f n r q e
+      → anyKey (transitionSupports kept base (e .label) q) (take end transitions) ≡ edgeSupports kept transitions k f n r q e
   unfolding edgeSupports actionSupports
   edge-is h z b = rw (h, z, b) refl

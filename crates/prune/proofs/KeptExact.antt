@@ -36,28 +36,28 @@ use Rattle.prune.proofs.SupportFound.{Supported, by-edge, as-called, as
 
 -- ---- what is kept next
 
-module _ (keys : List ℕ) (m : ℕ) (lines : List ℕ) (k : ℕ) (marks kept : List ℕ) (i : ℕ) where
+module _ (keys : List ℕ) (m : ℕ) (transitions : List ℕ) (k : ℕ) (marks kept : List ℕ) (i : ℕ) where
   record Next : Type 0 where
     marked : isSet marks i ≡ true
     free : isSet kept i ≡ false
-    supported : supports keys m lines k kept (routineOf i) (nodeOf i) (rootOf i) (stateOf i) ≡ true
+    supported : supports keys m transitions k kept (routineOf i) (nodeOf i) (rootOf i) (stateOf i) ≡ true
 
-  next : keepsAt keys m lines k marks kept i ≡ true → Next
+  next : keepsAt keys m transitions k marks kept i ≡ true → Next
   unfolding keepsAt
   next e = go (isSet marks i) refl (isSet kept i) refl e
     where
       go : (a : Bool) → isSet marks i ≡ a → (b : Bool) → isSet kept i ≡ b
-          → cond a (cond b false (supports keys m lines k kept (routineOf i) (nodeOf i) (rootOf i) (stateOf i))) false ≡ true → Next
+          → cond a (cond b false (supports keys m transitions k kept (routineOf i) (nodeOf i) (rootOf i) (stateOf i))) false ≡ true → Next
       go true x true y e = never e refl
       go true x false y e = record { marked = x; free = y; supported = e }
       go false x b y e = never e refl
 
-  keeps-when : isSet marks i ≡ true → isSet kept i ≡ false → supports keys m lines k kept (routineOf i) (nodeOf i) (rootOf i) (stateOf i) ≡ true
-      → keepsAt keys m lines k marks kept i ≡ true
+  keeps-when : isSet marks i ≡ true → isSet kept i ≡ false → supports keys m transitions k kept (routineOf i) (nodeOf i) (rootOf i) (stateOf i) ≡ true
+      → keepsAt keys m transitions k marks kept i ≡ true
   unfolding keepsAt
   keeps-when a b c = rw (a, b, c) refl
 
-  pub keeps-free : keepsAt keys m lines k marks kept i ≡ true → getD kept i 0 ≡ 0
+  pub keeps-free : keepsAt keys m transitions k marks kept i ≡ true → getD kept i 0 ≡ 0
   keeps-free e = eqb-true (getD kept i 0) 0 (not-false (eqb (getD kept i 0) 0) (next e .free))
 
 -- ---- what is kept has support
@@ -98,19 +98,19 @@ module _ {p : Program} {marks kept : List ℕ} (s : Sound p marks kept) where
 marked-at : (marks : List ℕ) (i : ℕ) → i < 16384 → isSet marks i ≡ true → At (Marked marks) i
 marked-at marks i h e = (parts-in-range i h, rw (number-of i) (set-byte marks i e))
 
-module _ {p : Program} {keys : List ℕ} {m : ℕ} {lines : List ℕ} {k : ℕ} (t : Tables p keys m lines k) {marks : List ℕ} where
-  pub keeps-sound : {old new : List ℕ} → Sound p marks old → Keeps (keepsAt keys m lines k marks) old new → Sound p marks new
+module _ {p : Program} {keys : List ℕ} {m : ℕ} {transitions : List ℕ} {k : ℕ} (t : Tables p keys m transitions k) {marks : List ℕ} where
+  pub keeps-sound : {old new : List ℕ} → Sound p marks old → Keeps (keepsAt keys m transitions k marks) old new → Sound p marks new
   keeps-sound s same = s
   keeps-sound s (more {kept = kept} l i h e) =
       let s′ = keeps-sound s l in
-      let x = next keys m lines k marks kept i e in
-      let y = supports-sound p keys m lines k t kept (parts-in-range i h) (x .supported) in
+      let x = next keys m transitions k marks kept i e in
+      let y = supports-sound p keys m transitions k t kept (parts-in-range i h) (x .supported) in
       sound-more s′ i (supported-kept s′ (sizes p (t .well-formed)) (marked-at marks i h (x .marked)) y)
 
 -- ---- nothing is left to be kept
 
-module _ {p : Program} {keys : List ℕ} {m : ℕ} {lines : List ℕ} {k : ℕ} (t : Tables p keys m lines k) (marks new : List ℕ)
-    (settled : (j : ℕ) → j < 16384 → keepsAt keys m lines k marks new j ≡ false) where
+module _ {p : Program} {keys : List ℕ} {m : ℕ} {transitions : List ℕ} {k : ℕ} (t : Tables p keys m transitions k) (marks new : List ℕ)
+    (settled : (j : ℕ) → j < 16384 → keepsAt keys m transitions k marks new j ≡ false) where
   -- a marked configuration that has support in kept ones is kept
   closed : {f n r q : ℕ} → Marked marks f n r q → Supported p (Marked new) f n r q → On new (number f n r q)
   closed {f} {n} {r} {q} w s = go (isSet new (number f n r q)) refl
@@ -120,9 +120,9 @@ module _ {p : Program} {keys : List ℕ} {m : ℕ} {lines : List ℕ} {k : ℕ} 
       go false e =
           let i = number f n r q in
           let h = w .0 in
-          let x : supports keys m lines k new (routineOf i) (nodeOf i) (rootOf i) (stateOf i) ≡ true =
-          rw (routine-of h, node-of h, root-of h, state-of h) (supports-found p keys m lines k t new s) in
-          never (keeps-when keys m lines k marks new i (byte-set marks i (w .1)) e x) (settled i (number-fits h))
+          let x : supports keys m transitions k new (routineOf i) (nodeOf i) (rootOf i) (stateOf i) ≡ true =
+          rw (routine-of h, node-of h, root-of h, state-of h) (supports-found p keys m transitions k t new s) in
+          never (keeps-when keys m transitions k marks new i (byte-set marks i (w .1)) e x) (settled i (number-fits h))
 
   -- so is all that has support back to a start
   module _ (starts : (q : ℕ) → List·Memᴰ q (p .automaton .initial) → Marked marks 0 0 q q → On new (number 0 0 q q)) where
@@ -136,8 +136,8 @@ module _ {p : Program} {keys : List ℕ} {m : ℕ} {lines : List ℕ} {k : ℕ} 
         (w .0, closed w (as-returned e (all-kept d) o) .on)
 
 -- from the starts, when nothing is left, exactly what has support back to a start is kept
-pub settled-shows : {p : Program} {keys : List ℕ} {m : ℕ} {lines : List ℕ} {k : ℕ} → Tables p keys m lines k → (marks : List ℕ) {old new : List ℕ}
-    → Started p marks old 8 → Settled (keepsAt keys m lines k marks) old new → Shows (Kept p marks) new
+pub settled-shows : {p : Program} {keys : List ℕ} {m : ℕ} {transitions : List ℕ} {k : ℕ} → Tables p keys m transitions k → (marks : List ℕ) {old new : List ℕ}
+    → Started p marks old 8 → Settled (keepsAt keys m transitions k marks) old new → Shows (Kept p marks) new
 settled-shows {p} t marks {old} {new} a b =
     let s = keeps-sound t (a .sound) (b .keeps) in
     let starts : (q : ℕ) → List·Memᴰ q (p .automaton .initial) → Marked marks 0 0 q q → On new (number 0 0 q q) =

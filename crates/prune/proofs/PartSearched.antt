@@ -14,7 +14,7 @@ use borrow.Author.Tests.{ne-eqb}
 use Rattle.program.specs.Frames.{edgeKey}
 use Rattle.tables.specs.Keys.{Ascending}
 use Rattle.program.specs.Decoded.{edgeOf}
-use Rattle.worklist.specs.Slice.{FirstOf}
+use Rattle.worklist.specs.Parts.{FirstOf}
 use Rattle.worklist.proofs.RoutinePart.{part-starts, part-in-use, part-ends, before-part, after-part}
 use Rattle.prune.specs.Parts.{anyKey, entrySupports, returnSupports, callSupports, transitionsToTry, actionSupports, edgeSupports, supports, PartOf}
 
@@ -56,13 +56,13 @@ its-part {keys} {m} {f} {a} {b} x y fits up =
 
 -- ---- what an edge of another routine supports
 
-module _ (kept lines : List ℕ) (k f n r q : ℕ) (no-entry : eqb n 0 && eqb r q ≡ false) where
-  other-supports : (key : ℕ) → edgeOf key .routine ≢ f → edgeSupports kept lines k f n r q (edgeOf key) ≡ false
+module _ (kept transitions : List ℕ) (k f n r q : ℕ) (no-entry : eqb n 0 && eqb r q ≡ false) where
+  other-supports : (key : ℕ) → edgeOf key .routine ≢ f → edgeSupports kept transitions k f n r q (edgeOf key) ≡ false
   unfolding edgeSupports callSupports entrySupports returnSupports actionSupports transitionsToTry anyKey
   other-supports key h = rw (no-entry, ne-eqb (edgeOf key .routine) f h) refl
 
   -- the search over the part and the one over the table find the same
   pub part-supports : {keys : List ℕ} {m : ℕ} {part : List ℕ} → PartOf keys m f part
-      → supports part (length part) lines k kept f n r q ≡ supports keys m lines k kept f n r q
+      → supports part (length part) transitions k kept f n r q ≡ supports keys m transitions k kept f n r q
   unfolding supports
-  part-supports {part = part} z = rw (take-length part) (z .decides (λ key. edgeSupports kept lines k f n r q (edgeOf key)) other-supports)
+  part-supports {part = part} z = rw (take-length part) (z .decides (λ key. edgeSupports kept transitions k f n r q (edgeOf key)) other-supports)

@@ -37,25 +37,25 @@ pub data Supported (p : Program) (K : Set) : ℕ → ℕ → ℕ → ℕ → Typ
 -- ---- tests
 
 -- the transitions are tried for an action that leads there
-tried-lines : (t : ℕ → Bool) (lines : List ℕ) (k : ℕ) (b c : Bool) → anyKey t (take (cond b (cond c 0 k) 0) lines) ≡ true
-    → (b ≡ true) × (c ≡ false) × (anyKey t (take k lines) ≡ true)
+tried-transitions : (t : ℕ → Bool) (transitions : List ℕ) (k : ℕ) (b c : Bool) → anyKey t (take (cond b (cond c 0 k) 0) transitions) ≡ true
+    → (b ≡ true) × (c ≡ false) × (anyKey t (take k transitions) ≡ true)
 unfolding anyKey
-tried-lines t lines k true true e = never e refl
-tried-lines t lines k true false e = (refl, refl, e)
-tried-lines t lines k false c e = never e refl
+tried-transitions t transitions k true true e = never e refl
+tried-transitions t transitions k true false e = (refl, refl, e)
+tried-transitions t transitions k false c e = never e refl
 
-module _ (kept : List ℕ) (base a q line : ℕ) where
-  line-found : transitionSupports kept base a q line ≡ true
-      → (line / 0x100 % 256 ≡ a) × (line % 256 ≡ q) × (isSet kept (base + line / 0x10000) ≡ true)
+module _ (kept : List ℕ) (base a q key : ℕ) where
+  transition-found : transitionSupports kept base a q key ≡ true
+      → (key / 0x100 % 256 ≡ a) × (key % 256 ≡ q) × (isSet kept (base + key / 0x10000) ≡ true)
   unfolding transitionSupports
-  line-found e =
-      let c = cond-true (eqb (line / 0x100 % 256) a && eqb (line % 256) q) (isSet kept (base + line / 0x10000)) e in
-      let d = both (eqb (line / 0x100 % 256) a) (eqb (line % 256) q) (c .0) in
-      (eqb-true (line / 0x100 % 256) a (d .0), eqb-true (line % 256) q (d .1), c .1)
+  transition-found e =
+      let c = cond-true (eqb (key / 0x100 % 256) a && eqb (key % 256) q) (isSet kept (base + key / 0x10000)) e in
+      let d = both (eqb (key / 0x100 % 256) a) (eqb (key % 256) q) (c .0) in
+      (eqb-true (key / 0x100 % 256) a (d .0), eqb-true (key % 256) q (d .1), c .1)
 
-  transition-supports : line / 0x100 % 256 ≡ a → line % 256 ≡ q → getD kept (base + line / 0x10000) 0 ≢ 0 → transitionSupports kept base a q line ≡ true
+  transition-supports : key / 0x100 % 256 ≡ a → key % 256 ≡ q → getD kept (base + key / 0x10000) 0 ≢ 0 → transitionSupports kept base a q key ≡ true
   unfolding transitionSupports
-  transition-supports d e h = rw (eq-eqb (line / 0x100 % 256) a d, eq-eqb (line % 256) q e) (byte-set kept (base + line / 0x10000) h)
+  transition-supports d e h = rw (eq-eqb (key / 0x100 % 256) a d, eq-eqb (key % 256) q e) (byte-set kept (base + key / 0x10000) h)
 
 -- ---- labels
 
@@ -95,7 +95,7 @@ record Keyed (keys : List ℕ) (m f n : ℕ) (l : Event) (t : ℕ) : Type 0 wher
   label : labelOf (edgeOf key .label) ≡ l
   target : edgeOf key .target ≡ t
 
-module _ (p : Program) (keys : List ℕ) (m : ℕ) (lines : List ℕ) (k : ℕ) (t : Tables p keys m lines k) where
+module _ (p : Program) (keys : List ℕ) (m : ℕ) (transitions : List ℕ) (k : ℕ) (t : Tables p keys m transitions k) where
   z : Sizes p
   z = sizes p (t .well-formed)
 
@@ -156,48 +156,48 @@ module _ (p : Program) (keys : List ℕ) (m : ℕ) (lines : List ℕ) (k : ℕ) 
         (record { routine = z .called s; node = omega arith; root = small; state = g .state }, rw (number-root (calledBy label) 1 (y .at) q) at (set-byte kept (number (calledBy label) 1 0 q + rootSpan * y .at) (b .1))) in
         as-returned s caller exit
 
-    action-found : (key : ℕ) → List·Memᴰ key (take m keys) → actionSupports kept lines k f n r q (edgeOf key) ≡ true → Supported p (Marked kept) f n r q
+    action-found : (key : ℕ) → List·Memᴰ key (take m keys) → actionSupports kept transitions k f n r q (edgeOf key) ≡ true → Supported p (Marked kept) f n r q
     unfolding actionSupports transitionsToTry moves
     action-found key h e =
         let label = edgeOf key .label in
         let from = edgeOf key .routine in
         let source = edgeOf key .source in
         let test : ℕ → Bool = transitionSupports kept (number f source r 0) label q in
-        let c = tried-lines test lines k (eqb from f && eqb (edgeOf key .target) n) (isCall label) e in
+        let c = tried-transitions test transitions k (eqb from f && eqb (edgeOf key .target) n) (isCall label) e in
         let d = both (eqb from f) (eqb (edgeOf key .target) n) (c .0) in
-        let x = found-key test (take k lines) (c .2) in
-        let line = x .key in
-        let w = line-found kept (number f source r 0) label q line (x .test) in
-        let rule = p .automaton in
-        let member : List·Memᴰ (transitionOf line) (rule .transitions) =
-        subst (λ (ts : List Transition). List·Memᴰ (transitionOf line) ts) (sym (t .transitions)) (in-map transitionOf (take k lines) (x .member)) in
-        let fits = all-in (transitionFits rule) (rule .transitions) (t .well-formed .transitions-fit) member in
-        let parts = both (ltb (line / 0x10000) (rule .states) && ltb (line / 0x100 % 256) (rule .actions)) (ltb (line % 256) (rule .states)) fits in
-        let before = ltb-true (line / 0x10000) (rule .states) (both (ltb (line / 0x10000) (rule .states)) (ltb (line / 0x100 % 256) (rule .actions)) (parts .0) .0) in
-        let small : line / 0x10000 < 8 = omega (arith, z .states) in
-        let v : Moves p (line / 0x10000) (Action label) q = rw (w .0, w .1) at (in-listed (transitionOf line) (rule .transitions) member) in
+        let x = found-key test (take k transitions) (c .2) in
+        let transition = x .key in
+        let w = transition-found kept (number f source r 0) label q transition (x .test) in
+        let automaton = p .automaton in
+        let member : List·Memᴰ (transitionOf transition) (automaton .transitions) =
+        subst (λ (ts : List Transition). List·Memᴰ (transitionOf transition) ts) (sym (t .transitions)) (in-map transitionOf (take k transitions) (x .member)) in
+        let fits = all-in (transitionFits automaton) (automaton .transitions) (t .well-formed .transitions-fit) member in
+        let parts = both (ltb (transition / 0x10000) (automaton .states) && ltb (transition / 0x100 % 256) (automaton .actions)) (ltb (transition % 256) (automaton .states)) fits in
+        let before = ltb-true (transition / 0x10000) (automaton .states) (both (ltb (transition / 0x10000) (automaton .states)) (ltb (transition / 0x100 % 256) (automaton .actions)) (parts .0) .0) in
+        let small : transition / 0x10000 < 8 = omega (arith, z .states) in
+        let v : Moves p (transition / 0x10000) (Action label) q = rw (w .0, w .1) at (in-listed (transitionOf transition) (automaton .transitions) member) in
         let s : HasStep p f source (Action label) n = rw (← (action-label label (c .1)), ← (eqb-true from f (d .0)), ← (eqb-true (edgeOf key .target) n (d .1))) (has-step key h) in
-        let from-there : Marked kept f source r (line / 0x10000) =
-        (record { routine = g .routine; node = z .source s; root = g .root; state = small }, rw (number-state f source r (line / 0x10000)) at (set-byte kept (number f source r 0 + line / 0x10000) (w .2))) in
+        let from-there : Marked kept f source r (transition / 0x10000) =
+        (record { routine = g .routine; node = z .source s; root = g .root; state = small }, rw (number-state f source r (transition / 0x10000)) at (set-byte kept (number f source r 0 + transition / 0x10000) (w .2))) in
         by-edge s v from-there
 
-    pub supports-sound : supports keys m lines k kept f n r q ≡ true → Supported p (Marked kept) f n r q
+    pub supports-sound : supports keys m transitions k kept f n r q ≡ true → Supported p (Marked kept) f n r q
     unfolding supports edgeSupports callSupports
     supports-sound e =
-        let x = found-key (λ key. edgeSupports kept lines k f n r q (edgeOf key)) (take m keys) e in
-        either (callSupports kept (edgeOf (x .key)) f n r q) (actionSupports kept lines k f n r q (edgeOf (x .key))) (x .test)
+        let x = found-key (λ key. edgeSupports kept transitions k f n r q (edgeOf key)) (take m keys) e in
+        either (callSupports kept (edgeOf (x .key)) f n r q) (actionSupports kept transitions k f n r q (edgeOf (x .key))) (x .test)
         (λ c. either (entrySupports kept (edgeOf (x .key)) f n r q) (returnSupports kept (edgeOf (x .key)) f n r q) c (entry-found (x .key) (x .member)) (return-found (x .key) (x .member)))
         (action-found (x .key) (x .member))
 
   -- ---- the search finds the support there is
 
   module _ (kept : List ℕ) where
-    by-key : (f n r q key : ℕ) → List·Memᴰ key (take m keys) → edgeSupports kept lines k f n r q (edgeOf key) ≡ true → supports keys m lines k kept f n r q ≡ true
+    by-key : (f n r q key : ℕ) → List·Memᴰ key (take m keys) → edgeSupports kept transitions k f n r q (edgeOf key) ≡ true → supports keys m transitions k kept f n r q ≡ true
     unfolding supports
-    by-key f n r q key h e = any-key (λ key. edgeSupports kept lines k f n r q (edgeOf key)) (take m keys) h e
+    by-key f n r q key h e = any-key (λ key. edgeSupports kept transitions k f n r q (edgeOf key)) (take m keys) h e
 
     entry-there : (f n r q key x : ℕ) → n ≡ 0 → r ≡ q → edgeOf key .label ≡ callOf f → x < maxStates
-        → getD kept (number (edgeOf key .routine) (edgeOf key .source) x q) 0 ≢ 0 → edgeSupports kept lines k f n r q (edgeOf key) ≡ true
+        → getD kept (number (edgeOf key .routine) (edgeOf key .source) x q) 0 ≢ 0 → edgeSupports kept transitions k f n r q (edgeOf key) ≡ true
     unfolding edgeSupports callSupports entrySupports rootKept
     entry-there f n r q key x a b c h o =
         let base = number (edgeOf key .routine) (edgeOf key .source) 0 q in
@@ -205,7 +205,7 @@ module _ (p : Program) (keys : List ℕ) (m : ℕ) (lines : List ℕ) (k : ℕ) 
         rw (eq-eqb n 0 a, eq-eqb r q b, eq-eqb (edgeOf key .label) (callOf f) c, e) refl
 
     return-there : (f n r q key y : ℕ) → edgeOf key .routine ≡ f → edgeOf key .target ≡ n → isCall (edgeOf key .label) ≡ true → y < maxStates
-        → getD kept (number f (edgeOf key .source) r y) 0 ≢ 0 → getD kept (number (calledBy (edgeOf key .label)) 1 y q) 0 ≢ 0 → edgeSupports kept lines k f n r q (edgeOf key) ≡ true
+        → getD kept (number f (edgeOf key .source) r y) 0 ≢ 0 → getD kept (number (calledBy (edgeOf key .label)) 1 y q) 0 ≢ 0 → edgeSupports kept transitions k f n r q (edgeOf key) ≡ true
     unfolding edgeSupports callSupports returnSupports returnKept
     return-there f n r q key y a b c h o o′ =
         let caller = number f (edgeOf key .source) r 0 in
@@ -215,23 +215,23 @@ module _ (p : Program) (keys : List ℕ) (m : ℕ) (lines : List ℕ) (k : ℕ) 
         let e = any-from (λ y. isSet kept (caller + y) && isSet kept (exit + rootSpan * y)) maxStates 0 y (omega arith) (omega arith) (rw (u, v) refl) in
         rw (eq-eqb (edgeOf key .routine) f a, eq-eqb (edgeOf key .target) n b, c, e, or-true (entrySupports kept (edgeOf key) f n r q)) refl
 
-    action-there : (f n r q key line : ℕ) → edgeOf key .routine ≡ f → edgeOf key .target ≡ n → isCall (edgeOf key .label) ≡ false → List·Memᴰ line (take k lines)
-        → line / 0x100 % 256 ≡ edgeOf key .label → line % 256 ≡ q → getD kept (number f (edgeOf key .source) r (line / 0x10000)) 0 ≢ 0 → edgeSupports kept lines k f n r q (edgeOf key) ≡ true
+    action-there : (f n r q key transition : ℕ) → edgeOf key .routine ≡ f → edgeOf key .target ≡ n → isCall (edgeOf key .label) ≡ false → List·Memᴰ transition (take k transitions)
+        → transition / 0x100 % 256 ≡ edgeOf key .label → transition % 256 ≡ q → getD kept (number f (edgeOf key .source) r (transition / 0x10000)) 0 ≢ 0 → edgeSupports kept transitions k f n r q (edgeOf key) ≡ true
     unfolding edgeSupports actionSupports transitionsToTry
-    action-there f n r q key line a b c h d w o =
+    action-there f n r q key transition a b c h d w o =
         let base = number f (edgeOf key .source) r 0 in
         let label = edgeOf key .label in
-        let u = transition-supports kept base label q line d w (rw (number-state f (edgeOf key .source) r (line / 0x10000)) o) in
-        let e = any-key (transitionSupports kept base label q) (take k lines) h u in
+        let u = transition-supports kept base label q transition d w (rw (number-state f (edgeOf key .source) r (transition / 0x10000)) o) in
+        let e = any-key (transitionSupports kept base label q) (take k transitions) h u in
         rw (eq-eqb (edgeOf key .routine) f a, eq-eqb (edgeOf key .target) n b, c, e, or-true (callSupports kept (edgeOf key) f n r q)) refl
 
-    pub supports-found : {f n r q : ℕ} → Supported p (Marked kept) f n r q → supports keys m lines k kept f n r q ≡ true
+    pub supports-found : {f n r q : ℕ} → Supported p (Marked kept) f n r q → supports keys m transitions k kept f n r q ≡ true
     unfolding moves
     supports-found {f} {n} {r} {q} (by-edge {a = a} {y = y} e v o) =
         let x = keyed e in
         let c = label-action (edgeOf (x .key) .label) a (x .label) in
         let there = subst (λ (ts : List Transition). List·Memᴰ (record { before = y; action = a; after = q }) ts) (t .transitions) (listed-in y a q (p .automaton .transitions) v) in
-        let l = map-in transitionOf (take k lines) there in
+        let l = map-in transitionOf (take k transitions) there in
         let before : y ≡ l .from / 0x10000 = ap (λ (s : Transition). s .before) (l .is) in
         let action : a ≡ l .from / 0x100 % 256 = ap (λ (s : Transition). s .action) (l .is) in
         let after : q ≡ l .from % 256 = ap (λ (s : Transition). s .after) (l .is) in

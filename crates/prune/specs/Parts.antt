@@ -57,24 +57,27 @@ callSupports kept e f n r q = entrySupports kept e f n r q || returnSupports kep
 
 -- the transition has this action and this state after it, and the configuration before it is kept
 unfoldable pub transitionSupports : List ℕ → ℕ → ℕ → ℕ → ℕ → Bool
-transitionSupports kept base a q line =
-    cond (eqb (transitionOf line .action) a && eqb (transitionOf line .after) q)
-    (isSet kept (base + transitionOf line .before)) false
+transitionSupports kept base a q key =
+    cond (eqb (transitionOf key .action) a && eqb (transitionOf key .after) q)
+    (isSet kept (base + transitionOf key .before)) false
 
 -- how many transitions are to be tried for an edge: all for an action that leads to node n of routine f, else none
 unfoldable pub transitionsToTry : Edge → ℕ → ℕ → ℕ → ℕ
 transitionsToTry e f n count = cond (eqb (e .routine) f && eqb (e .target) n) (cond (isCall (e .label)) 0 count) 0
 
 unfoldable pub actionSupports : List ℕ → List ℕ → ℕ → ℕ → ℕ → ℕ → ℕ → Edge → Bool
-actionSupports kept lines count f n r q e =
-    anyKey (transitionSupports kept (number f (e .source) r 0) (e .label) q) (take (transitionsToTry e f n count) lines)
+actionSupports kept transitions count f n r q e =
+    anyKey (transitionSupports kept (number f (e .source) r 0) (e .label) q)
+    (take (transitionsToTry e f n count) transitions)
 
 unfoldable pub edgeSupports : List ℕ → List ℕ → ℕ → ℕ → ℕ → ℕ → ℕ → Edge → Bool
-edgeSupports kept lines count f n r q e = callSupports kept e f n r q || actionSupports kept lines count f n r q e
+edgeSupports kept transitions count f n r q e =
+    callSupports kept e f n r q || actionSupports kept transitions count f n r q e
 
 -- some edge, with some transition, supports it
 unfoldable pub supports : List ℕ → ℕ → List ℕ → ℕ → List ℕ → ℕ → ℕ → ℕ → ℕ → Bool
-supports keys m lines k kept f n r q = anyKey (λ key. edgeSupports kept lines k f n r q (edgeOf key)) (take m keys)
+supports keys m transitions k kept f n r q =
+    anyKey (λ key. edgeSupports kept transitions k f n r q (edgeOf key)) (take m keys)
 
 -- this part of the keys in use has the edges of routine f: a test that fails for every edge of another routine is met
 -- by one of all just where it is met by one of these
@@ -84,9 +87,9 @@ pub record PartOf (keys : List ℕ) (m f : ℕ) (part : List ℕ) : Type 0 where
 
 -- the configuration of number i is marked, not yet kept, and supported
 unfoldable pub keepsAt : List ℕ → ℕ → List ℕ → ℕ → List ℕ → List ℕ → ℕ → Bool
-keepsAt keys m lines k marks kept i =
-    cond (isSet marks i) (cond (isSet kept i) false (supports keys m lines k kept (routineOf i) (nodeOf i) (rootOf i)
-    (stateOf i))) false
+keepsAt keys m transitions k marks kept i =
+    cond (isSet marks i) (cond (isSet kept i) false (supports keys m transitions k kept (routineOf i) (nodeOf i)
+    (rootOf i) (stateOf i))) false
 
 -- ---- keeping one after another
 
@@ -113,10 +116,10 @@ pub record Settled (test : List ℕ → ℕ → Bool) (old new : List ℕ) : Typ
 -- ---- what the kept bytes mean
 
 -- the tables are those of this program
-pub record Tables (p : Program) (keys : List ℕ) (m : ℕ) (lines : List ℕ) (k : ℕ) : Type 0 where
+pub record Tables (p : Program) (keys : List ℕ) (m : ℕ) (transitionKeys : List ℕ) (k : ℕ) : Type 0 where
   pub well-formed : WellFormed p
   pub edges : p .edges ≡ map edgeOf (take m keys)
-  pub transitions : p .automaton .transitions ≡ map transitionOf (take k lines)
+  pub transitions : p .automaton .transitions ≡ map transitionOf (take k transitionKeys)
 
 -- every byte is 0 or 1, and what is kept has support back to a start
 pub record Sound (p : Program) (marks kept : List ℕ) : Type 0 where

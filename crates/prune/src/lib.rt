@@ -79,16 +79,16 @@ fn keep_at(
     keys: &[u32],
     m: usize,
     part: &[u32],
-    lines: &[u32],
+    transitions: &[u32],
     k: usize,
     marks: &[u8],
     kept: &mut [u8],
     i: usize,
 ) -> bool
-    requires { ⌜ (m ≤ length (now keys)) × (k ≤ length (now lines)) × (i < marksSize) ⌝ }
+    requires { ⌜ (m ≤ length (now keys)) × (k ≤ length (now transitions)) × (i < marksSize) ⌝ }
     requires { ⌜ PartOf (now keys) m (routineOf i) (now part) ⌝ }
     requires { ⌜ (length (now marks) ≡ marksSize) × (length (now kept) ≡ marksSize) ⌝ }
-    ensures { λ y. ⌜ (y ≡ keepsAt (now (keys .entry)) m (now (lines .entry)) k (now (marks .entry))
+    ensures { λ y. ⌜ (y ≡ keepsAt (now (keys .entry)) m (now (transitions .entry)) k (now (marks .entry))
         (now (kept .entry)) i)
         × (now (kept .exit) ≡ cond y (set (now (kept .entry)) i 1) (now (kept .entry))) ⌝ }
 {
@@ -98,7 +98,7 @@ fn keep_at(
     if kept[i] != 0 {
         return false;
     }
-    if has_support(keys, m, part, lines, k, kept, parts_of(i)) {
+    if has_support(keys, m, part, transitions, k, kept, parts_of(i)) {
         kept[i] = 1;
         return true;
     }
@@ -111,16 +111,16 @@ fn keep_numbers(
     keys: &[u32],
     m: usize,
     part: &[u32],
-    lines: &[u32],
+    transitions: &[u32],
     k: usize,
     marks: &[u8],
     kept: &mut [u8],
     f: u32,
 ) -> bool
-    requires { ⌜ (m ≤ length (now keys)) × (k ≤ length (now lines)) × (f < maxRoutines) ⌝ }
+    requires { ⌜ (m ≤ length (now keys)) × (k ≤ length (now transitions)) × (f < maxRoutines) ⌝ }
     requires { ⌜ PartOf (now keys) m f (now part) ⌝ }
     requires { ⌜ (length (now marks) ≡ marksSize) × (length (now kept) ≡ marksSize) ⌝ }
-    ensures { λ y. ⌜ Passed (keepsAt (now (keys .entry)) m (now (lines .entry)) k (now (marks .entry)))
+    ensures { λ y. ⌜ Passed (keepsAt (now (keys .entry)) m (now (transitions .entry)) k (now (marks .entry)))
         (now (kept .entry)) (now (kept .exit)) y
         (f * routineSpan) (f * routineSpan + routineSpan) ⌝ }
 {
@@ -128,7 +128,7 @@ fn keep_numbers(
     let mut more = false;
     let mut i = first;
     while i < first + ROUTINE_SPAN {
-        let one = keep_at(keys, m, part, lines, k, marks, kept, i);
+        let one = keep_at(keys, m, part, transitions, k, marks, kept, i);
         more = more | one;
         i = i + 1;
     }
@@ -140,37 +140,44 @@ fn keep_numbers(
 fn keep_routine(
     keys: &[u32],
     m: usize,
-    lines: &[u32],
+    transitions: &[u32],
     k: usize,
     marks: &[u8],
     kept: &mut [u8],
     f: u32,
 ) -> bool
-    requires { ⌜ (m ≤ length (now keys)) × (k ≤ length (now lines)) × (f < maxRoutines) ⌝ }
+    requires { ⌜ (m ≤ length (now keys)) × (k ≤ length (now transitions)) × (f < maxRoutines) ⌝ }
     requires { ⌜ Ascending 0 (map edgeKey (map edgeOf (take m (now keys)))) ⌝ }
     requires { ⌜ (length (now marks) ≡ marksSize) × (length (now kept) ≡ marksSize) ⌝ }
-    ensures { λ y. ⌜ Passed (keepsAt (now (keys .entry)) m (now (lines .entry)) k (now (marks .entry)))
+    ensures { λ y. ⌜ Passed (keepsAt (now (keys .entry)) m (now (transitions .entry)) k (now (marks .entry)))
         (now (kept .entry)) (now (kept .exit)) y
         (f * routineSpan) (f * routineSpan + routineSpan) ⌝ }
 {
     let from = first_of(keys, m, f);
     let to = first_of(keys, m, f + 1);
-    keep_numbers(keys, m, &keys[from..to], lines, k, marks, kept, f)
+    keep_numbers(keys, m, &keys[from..to], transitions, k, marks, kept, f)
 }
 
 // One pass over all numbers, routine by routine. Says whether it kept one more. The table ascends, so that each
 // routine's edges are one part of it: hence the `requires`.
-fn keep_pass(keys: &[u32], m: usize, lines: &[u32], k: usize, marks: &[u8], kept: &mut [u8]) -> bool
-    requires { ⌜ (m ≤ length (now keys)) × (k ≤ length (now lines)) ⌝ }
+fn keep_pass(
+    keys: &[u32],
+    m: usize,
+    transitions: &[u32],
+    k: usize,
+    marks: &[u8],
+    kept: &mut [u8],
+) -> bool
+    requires { ⌜ (m ≤ length (now keys)) × (k ≤ length (now transitions)) ⌝ }
     requires { ⌜ Ascending 0 (map edgeKey (map edgeOf (take m (now keys)))) ⌝ }
     requires { ⌜ (length (now marks) ≡ marksSize) × (length (now kept) ≡ marksSize) ⌝ }
-    ensures { λ y. ⌜ Passed (keepsAt (now (keys .entry)) m (now (lines .entry)) k (now (marks .entry)))
+    ensures { λ y. ⌜ Passed (keepsAt (now (keys .entry)) m (now (transitions .entry)) k (now (marks .entry)))
         (now (kept .entry)) (now (kept .exit)) y 0 marksSize ⌝ }
 {
     let mut more = false;
     let mut f: u32 = 0;
     while f < MAX_ROUTINES as u32 {
-        let another = keep_routine(keys, m, lines, k, marks, kept, f);
+        let another = keep_routine(keys, m, transitions, k, marks, kept, f);
         more = more | another;
         f = f + 1;
     }
@@ -178,16 +185,16 @@ fn keep_pass(keys: &[u32], m: usize, lines: &[u32], k: usize, marks: &[u8], kept
 }
 
 // Passes until one keeps nothing more. The table ascends, as a pass asks: hence the `requires`.
-fn keep_all(keys: &[u32], m: usize, lines: &[u32], k: usize, marks: &[u8], kept: &mut [u8])
-    requires { ⌜ (m ≤ length (now keys)) × (k ≤ length (now lines)) ⌝ }
+fn keep_all(keys: &[u32], m: usize, transitions: &[u32], k: usize, marks: &[u8], kept: &mut [u8])
+    requires { ⌜ (m ≤ length (now keys)) × (k ≤ length (now transitions)) ⌝ }
     requires { ⌜ Ascending 0 (map edgeKey (map edgeOf (take m (now keys)))) ⌝ }
     requires { ⌜ (length (now marks) ≡ marksSize) × (length (now kept) ≡ marksSize) ⌝ }
-    ensures { λ _. ⌜ Settled (keepsAt (now (keys .entry)) m (now (lines .entry)) k (now (marks .entry)))
+    ensures { λ _. ⌜ Settled (keepsAt (now (keys .entry)) m (now (transitions .entry)) k (now (marks .entry)))
         (now (kept .entry)) (now (kept .exit)) ⌝ }
 {
     let mut more = true;
     while more {
-        more = keep_pass(keys, m, lines, k, marks, kept);
+        more = keep_pass(keys, m, transitions, k, marks, kept);
     }
 }
 
@@ -202,10 +209,10 @@ fn keep_supported(edges: Edges, transitions: Transitions, marks: &[u8], kept: &m
         → Shows (Kept p (now (marks .entry))) (now (kept .exit))) ⌝ }
 {
     let keys = edges.keys;
-    let lines = transitions.keys;
+    let transition_keys = transitions.keys;
     let m = in_use(edges.count, MAX_EDGES);
     let k = in_use(transitions.count, MAX_TRANSITIONS);
-    keep_all(&keys, m, &lines, k, marks, kept);
+    keep_all(&keys, m, &transition_keys, k, marks, kept);
 }
 
 // What stays of the marks. It is gathered in a buffer of its own, so that a mark is never its own support.
@@ -214,10 +221,10 @@ fn keep(p: DecodedProgram, marks: &[u8], kept: &mut [u8])
     requires { ⌜ (length (now marks) ≡ marksSize) × (length (now kept) ≡ marksSize) ⌝ }
     ensures { λ _. ⌜ Shows (Kept (programOf p) (now (marks .entry))) (now (kept .exit)) ⌝ }
 {
-    let rule = p.automaton;
+    let automaton = p.automaton;
     let edges = p.edges;
-    let transitions = rule.transitions;
-    let initial = initial_flags(rule);
+    let transitions = automaton.transitions;
+    let initial = initial_flags(automaton);
     let flags = initial.flags;
     clear(kept);
     keep_starts(&flags, marks, kept);

@@ -88,11 +88,11 @@ fn call_supports(kept: &[u8], e: DecodedEdge, c: Configuration) -> bool
 }
 
 // A transition on the action to state q gives support where the configuration in the state before it is kept.
-fn transition_supports(kept: &[u8], base: usize, action: u8, q: u8, line: u32) -> bool
+fn transition_supports(kept: &[u8], base: usize, action: u8, q: u8, key: u32) -> bool
     requires { ⌜ base < byteNumbers ⌝ }
-    ensures { λ y. ⌜ y ≡ transitionSupports (now (kept .entry)) base action q line ⌝ }
+    ensures { λ y. ⌜ y ≡ transitionSupports (now (kept .entry)) base action q key ⌝ }
 {
-    let t = transition(line);
+    let t = transition(key);
     if (t.action == action as u32) & (t.after == q as u32) {
         return is_set(kept, base + t.before as usize);
     }
@@ -114,9 +114,16 @@ fn transitions_to_try(e: DecodedEdge, f: u8, n: u8, count: usize) -> usize
 
 // The search ends at the first support found. The counts are those of the two tables, and the configuration is in
 // range: hence the `requires`.
-fn supported(keys: &[u32], m: usize, lines: &[u32], k: usize, kept: &[u8], c: Configuration) -> bool
-    requires { ⌜ (m ≤ length (now keys)) × (k ≤ length (now lines)) × (c .routine < maxRoutines) ⌝ }
-    ensures { λ y. ⌜ y ≡ supports (now (keys .entry)) m (now (lines .entry)) k (now (kept .entry)) (c .routine)
+fn supported(
+    keys: &[u32],
+    m: usize,
+    transitions: &[u32],
+    k: usize,
+    kept: &[u8],
+    c: Configuration,
+) -> bool
+    requires { ⌜ (m ≤ length (now keys)) × (k ≤ length (now transitions)) × (c .routine < maxRoutines) ⌝ }
+    ensures { λ y. ⌜ y ≡ supports (now (keys .entry)) m (now (transitions .entry)) k (now (kept .entry)) (c .routine)
         (c .node) (c .root) (c .state) ⌝ }
 {
     let mut found = false;
@@ -131,7 +138,7 @@ fn supported(keys: &[u32], m: usize, lines: &[u32], k: usize, kept: &[u8], c: Co
         let base = number_of(c.routine, e.source, c.root, 0);
         let mut j: usize = 0;
         while j < end {
-            if transition_supports(kept, base, e.label, c.state, lines[j]) {
+            if transition_supports(kept, base, e.label, c.state, transitions[j]) {
                 found = true;
                 break 'scan;
             }
@@ -149,18 +156,18 @@ pub fn has_support(
     keys: &[u32],
     m: usize,
     part: &[u32],
-    lines: &[u32],
+    transitions: &[u32],
     k: usize,
     kept: &[u8],
     c: Configuration,
 ) -> bool
-    requires { ⌜ (m ≤ length (now keys)) × (k ≤ length (now lines)) × (c .routine < maxRoutines) ⌝ }
+    requires { ⌜ (m ≤ length (now keys)) × (k ≤ length (now transitions)) × (c .routine < maxRoutines) ⌝ }
     requires { ⌜ PartOf (now keys) m (c .routine) (now part) ⌝ }
-    ensures { λ y. ⌜ y ≡ supports (now (keys .entry)) m (now (lines .entry)) k (now (kept .entry)) (c .routine)
+    ensures { λ y. ⌜ y ≡ supports (now (keys .entry)) m (now (transitions .entry)) k (now (kept .entry)) (c .routine)
         (c .node) (c .root) (c .state) ⌝ }
 {
     if (c.node == 0) & (c.root == c.state) {
-        return supported(keys, m, lines, k, kept, c);
+        return supported(keys, m, transitions, k, kept, c);
     }
-    supported(part, part.len(), lines, k, kept, c)
+    supported(part, part.len(), transitions, k, kept, c)
 }

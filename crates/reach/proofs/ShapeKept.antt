@@ -171,12 +171,16 @@ wake-shape j s z = wake-by Shape j s (λ e. z) (λ e. pending-shape j 1 (s .iter
 pub shape-kept : Kept Shape
 shape-kept = record { by-mark = mark-shape; by-wake = wake-shape; by-learn = learn-shape }
 
+pub none-length : length none-set ≡ 16384
+unfolding none-set
+none-length = length-replicate {A = ℕ} 16384 0
+
 pub blank-shape : Shape blank
 unfolding none-set
 blank-shape =
     record {
-      marks-length = length-replicate {A = ℕ} 16384 0;
-      pending-length = length-replicate {A = ℕ} 16384 0;
+      marks-length = none-length;
+      pending-length = none-length;
       known-length = length-replicate {A = ℕ} 1024 0;
       marks-bits = λ i. omega (arith, zeros 16384 i);
       pending-bits = λ i. omega (arith, zeros 16384 i);

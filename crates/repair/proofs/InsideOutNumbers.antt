@@ -1,7 +1,7 @@
 -- The numbers that an inside-out repair answers.
 use mathlib.Core.Path.{_≡_, refl, sym, subst, _∙_}
 use mathlib.Core.Logic.{_≢_}
-use mathlib.Core.Bool.{Bool}
+use mathlib.Core.Bool.{Bool, true}
 use mathlib.Core.List.{List}
 use Prim.Native.Nat.{ℕ, _<_}
 use native.Mathlib.Omega.{arith}
@@ -23,16 +23,18 @@ use Rattle.edit.specs.Editing.{wantedEdit}
 use Rattle.edit.specs.declared.Edit.{Edit}
 use Rattle.edit.specs.declared.EditRead.{EditRead}
 use Rattle.edit.specs.declared.EditRead.the-variants.{Read, Refused}
-use Rattle.repair.specs.Reanalyzed.{InsideOutNumber}
-use Rattle.repair.specs.Parts.{FlagsOf}
+use Rattle.update.specs.Reanalyzed.{ReanalyzedBy}
+use Rattle.update.specs.Parts.{FlagsOf, Told}
+use Rattle.repair.specs.Repairs.{InsideOutNumber}
 use Rattle.repair.proofs.EditRefusalNumbers.{wanted-number}
 
--- the bits of flags
-pub bits-of-flags : {R : ℕ → Type 0} {flags : List ℕ} {n : ℕ} → FlagsOf R flags → Bits (λ (f : ℕ). getD flags f 0 ≢ 0) n → Bits R n
-bits-of-flags k b =
+-- the bits of what the inside-out repair tells
+pub bits-told : {inward : Bool} (e : Edit) (p : Program) → inward ≡ true → {flags : List ℕ} {n : ℕ} → FlagsOf (Told inward e p) flags
+    → Bits (λ (f : ℕ). getD flags f 0 ≢ 0) n → Bits (ReanalyzedBy e p) n
+bits-told e p i k b =
     record {
       small = b .small;
-      bit = λ f h. let x = b .bit f h in let y = k .flag f h in (λ z. y .0 (x .0 z), λ z. x .1 (y .1 z));
+      bit = λ f h. let x = b .bit f h in let y = k .flag f h in (λ z. y .0 (x .0 z) .1, λ z. x .1 (y .1 (i, z)));
     }
 
 -- a refused call says 0

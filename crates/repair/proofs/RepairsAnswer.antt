@@ -1,106 +1,29 @@
--- The repairs of the marks and their answers, by what the functions below promise.
-use mathlib.Core.Path.{_≡_, refl, sym, ap, subst, _∙_}
+-- The answers of the repairs, by what the functions below promise.
+use mathlib.Core.Path.{_≡_, refl, sym, subst}
 use mathlib.Core.List.{List, _++_}
-use Prim.Native.Nat.{ℕ, _+_, _≤_}
+use Prim.Native.Nat.{ℕ, _≤_}
 use native.Mathlib.Omega.{arith}
-use lib.ListN.{length, drop, length-replicate}
+use lib.ListN.{length, drop}
 use Rattle.program.specs.Program.{Program}
 use Rattle.program.specs.WellFormed.{WellFormed}
 use Rattle.program.specs.Writing.{written}
 use Rattle.program.specs.Decoded.{programOf}
 use Rattle.program.specs.declared.Verdict.{Verdict}
 use Rattle.program.specs.declared.Verdict.the-variants as verdict
-use Rattle.reach.specs.Sizes.{nodeSpan}
 use Rattle.program.specs.declared.Length.the-variants.{Of}
 use Rattle.program.proofs.Theorems.{written-limited}
 use Rattle.checks.specs.Checked.{Checked}
 use Rattle.reader.specs.declared.Reading.{Reading}
-use Rattle.reach.specs.Configurations.{number, none-set}
-use Rattle.reach.specs.Reachable.{Derivable, Any}
-use Rattle.reach.specs.Marks.{Marked, Shows, ClosedBut, freshMarks}
-use Rattle.reach.proofs.Growing.{Grown, AtNode, node-spanned, grown-closed, grown-marks}
-use Rattle.reach.proofs.ShapeKept.{marks-length}
+use Rattle.reach.specs.Configurations.{none-set}
 use Rattle.analysis.specs.Answers.{owned}
-use Rattle.prune.specs.Pruning.{Kept}
-use Rattle.prune.proofs.Theorems.{kept-fresh}
 use Rattle.writer.specs.declared.WriteAnswer.the-variants.{Written, Refused}
-use Rattle.edit.specs.Edits.{edgeOfStep, relabelled}
-use Rattle.edit.specs.Editing.{without, inserted, withEdges, editedProgram, wantedEdit, Applies}
-use Rattle.edit.specs.declared.Step.{Step}
-use Rattle.edit.specs.declared.Label.{Label}
+use Rattle.edit.specs.Editing.{wantedEdit, Applies}
 use Rattle.edit.specs.declared.Edit.{Edit}
-use Rattle.edit.specs.declared.Edit.the-variants.{Add, Drop, Replace}
 use Rattle.edit.specs.declared.EditRead.{EditRead}
 use Rattle.edit.specs.declared.EditRead.the-variants as read
-use Rattle.edit.proofs.Theorems.{applied-well-formed, added-is, dropped-is, replaced-is, drop-applies, add-applies}
+use Rattle.edit.proofs.Theorems.{applied-well-formed}
+use Rattle.update.specs.Parts.{Repaired}
 use Rattle.repair.specs.Repairs.{After, editedBy, wantedBy, repairedBy, repaired}
-use Rattle.repair.specs.Parts.{Keeps, Repaired}
-use Rattle.repair.proofs.EditedSteps.{add-grown, drop-within, drop-initial}
-
--- ---- the program, and the marks
-
-module _ (s : Step) (p p′ : Program) (w : WellFormed p) where
-  module _ (a : Applies (Add s) p) (e : p′ ≡ withEdges p (inserted (edgeOfStep s) (p .edges))) where
-    is-added : p′ ≡ editedProgram (Add s) p
-    is-added = e ∙ sym (added-is s p)
-
-    pub added-well-formed : WellFormed p′
-    added-well-formed = subst WellFormed (sym is-added) (applied-well-formed (Add s) p w a)
-
-    added-grown : Grown p p′ (AtNode (s .routine) (s .source))
-    added-grown = subst (λ (x : Program). Grown p x (AtNode (s .routine) (s .source))) (sym is-added) (add-grown s p w)
-
-    module _ {old : List ℕ} (o : old ≡ freshMarks p) where
-      -- what is marked is closed but for the configurations at the source of the new step
-      pub added-closed : ClosedBut p′ (number (s .routine) (s .source) 0 0) (number (s .routine) (s .source) 0 0 + nodeSpan) old
-      added-closed = rw o (grown-closed p p′ added-grown (node-spanned (s .routine) (s .source)))
-
-      pub added : {marks work : List ℕ} → Shows (Derivable p′ (Marked old) Any) marks × (work ≡ none-set) → Repaired (Add s) p p′ marks work
-      added {marks} h =
-          record {
-            is-edited = is-added;
-            own = grown-marks p p′ added-grown added-well-formed
-                (subst (λ (l : List ℕ). Shows (Derivable p′ (Marked l) Any) marks) o (h .0));
-            clear = h .1;
-          }
-
-  module _ (a : Applies (Drop s) p) (e : p′ ≡ withEdges p (without (edgeOfStep s) (p .edges))) where
-    is-dropped : p′ ≡ editedProgram (Drop s) p
-    is-dropped = e ∙ sym (dropped-is s p)
-
-    pub dropped-well-formed : WellFormed p′
-    dropped-well-formed = subst WellFormed (sym is-dropped) (applied-well-formed (Drop s) p w a)
-
-    pub keeps : {old marks work : List ℕ} → Shows (Kept p′ old) marks × (work ≡ none-set) → Keeps s p p′ old marks work
-    keeps h = record { is-edited = is-dropped; kept = h .0; clear = h .1 }
-
-  -- what is kept of the program's own marks is the edited program's own
-  pub dropped : Applies (Drop s) p → {old marks work : List ℕ} → old ≡ freshMarks p → Keeps s p p′ old marks work → Repaired (Drop s) p p′ marks work
-  dropped a {old} {marks} {work} o k =
-      record {
-        is-edited = k .is-edited;
-        own = rw (k .is-edited) (kept-fresh (editedProgram (Drop s) p) p (applied-well-formed (Drop s) p w a) w (drop-within s p w) (drop-initial s p w) marks shows);
-        clear = k .clear;
-      }
-    where
-      shows : Shows (Kept (editedProgram (Drop s) p) (freshMarks p)) marks
-      shows = subst (λ (x : Program). Shows (Kept x (freshMarks p)) marks) (k .is-edited) (subst (λ (l : List ℕ). Shows (Kept p′ l) marks) o (k .kept))
-
--- a replace is the drop and then the add
-module _ (s : Step) (l : Label) (p d p′ : Program) (w : WellFormed p) (a : Applies (Replace s l) p) {m k : List ℕ} (x : Repaired (Drop s) p d m k) where
-  pub between-well-formed : WellFormed d
-  between-well-formed = subst WellFormed (sym (x .is-edited)) (applied-well-formed (Drop s) p w (drop-applies s l p a))
-
-  pub between-applies : Applies (Add (relabelled s l)) d
-  between-applies = subst (Applies (Add (relabelled s l))) (sym (x .is-edited)) (add-applies s l p w a)
-
-  pub replaced : {marks work : List ℕ} → Repaired (Add (relabelled s l)) d p′ marks work → Repaired (Replace s l) p p′ marks work
-  replaced y =
-      record {
-        is-edited = y .is-edited ∙ ap (editedProgram (Add (relabelled s l))) (x .is-edited) ∙ sym (replaced-is s l p);
-        own = y .own;
-        clear = y .clear;
-      }
 
 -- ---- the marks
 
@@ -137,7 +60,3 @@ module _ (p : Program) (marks line output work : List ℕ) {w : EditRead} (e : w
 
   pub wanted-read : (d : Edit) → w ≡ read.Read d → editedBy d p marks output ≡ wantedBy (wantedEdit p line) p marks output work
   wanted-read d h = rw (← e, h) refl
-
-pub none-length : length none-set ≡ 16384
-unfolding none-set
-none-length = length-replicate {A = ℕ} 16384 0

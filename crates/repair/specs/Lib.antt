@@ -1,4 +1,2 @@
 pub mod Repairs
 pub mod Desk
-pub mod Reanalyzed
-pub mod Parts

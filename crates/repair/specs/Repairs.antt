@@ -1,6 +1,8 @@
 -- A repair (paper): it reads a file, its marks and one edit line, changes the marks to those of the edited program, and
 -- writes that program. One function of everything that is lent gives the answer and every lent byte afterwards.
 use Prim.Native.Nat.{ℕ}
+use mathlib.Core.Path.{_≡_}
+use mathlib.Core.Bool.{Bool, true, false}
 use mathlib.Core.List.{List, _++_}
 use lib.ListN.{length, drop}
 use Rattle.program.specs.Program.{Program}
@@ -15,10 +17,12 @@ use Rattle.writer.specs.declared.WriteAnswer.the-variants.{Written, Refused}
 use Rattle.reach.specs.Configurations.{none-set}
 use Rattle.reach.specs.Marks.{freshMarks}
 use Rattle.analysis.specs.Answers.{owned}
+use Rattle.callgraph.specs.Components.{Bits}
 use Rattle.edit.specs.Editing.{editedProgram, wantedEdit}
 use Rattle.edit.specs.declared.Edit.{Edit}
 use Rattle.edit.specs.declared.EditRead.{EditRead}
 use Rattle.edit.specs.declared.EditRead.the-variants as read
+use Rattle.update.specs.Reanalyzed.{ReanalyzedBy}
 use Rattle.repair.specs.declared.RepairAnswer.{RepairAnswer}
 use Rattle.repair.specs.declared.RepairAnswer.the-variants as repair
 
@@ -89,3 +93,10 @@ plain (repair.Refused n line) = Refused n line
 abbrev pub reanalyzed : RepairAnswer → ℕ
 reanalyzed (repair.Repaired size routines) = routines
 reanalyzed (repair.Refused n line) = 0
+
+-- the number that the inside-out repair answers for them: for an edit of p that is accepted a bit each, and 0 for a
+-- refused call
+abbrev pub InsideOutNumber : Bool → EditRead → Program → ℕ → Type 0
+InsideOutNumber true (read.Read e) p n = Bits (ReanalyzedBy e p) n
+InsideOutNumber true (read.Refused m) p n = n ≡ 0
+InsideOutNumber false w p n = n ≡ 0

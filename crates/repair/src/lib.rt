@@ -1,17 +1,14 @@
 // Repairs: one edit line changes a program, its marks become those of the edited program, and the new file is written.
-mod forward;
-mod inside_out;
-
 use analysis::check_own;
 use callgraph::routines::bits_of;
 use checks::checked_program;
 use edit::Edit;
 use edit::EditRead;
 use edit::wanted_edit;
-use inside_out::mend;
 use program::DecodedProgram;
 use program::Length;
 use program::Verdict;
+use update::mend;
 use writer::WriteAnswer;
 use writer::put::write_program;
 ghost use mathlib.Core.Path.{_≡_};
@@ -26,8 +23,7 @@ ghost use Rattle.edit.specs.Editing.{wantedEdit, Applies};
 ghost use Rattle.program.specs.Reading.{readFile};
 ghost use Rattle.writer.specs.Answers.{refusal};
 ghost use Rattle.edit.specs.declared.EditRead.the-variants.{Read};
-ghost use Rattle.repair.specs.Repairs.{After, editedBy, wantedBy, repaired, plain, reanalyzed};
-ghost use Rattle.repair.specs.Reanalyzed.{InsideOutNumber};
+ghost use Rattle.repair.specs.Repairs.{After, editedBy, wantedBy, repaired, plain, reanalyzed, InsideOutNumber};
 
 // So many bytes were written, and these routines were reanalyzed, a bit each; or nothing was done, and a refusal says
 // why, at which line.

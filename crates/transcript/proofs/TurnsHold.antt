@@ -17,7 +17,7 @@ use Rattle.program.specs.declared.Verdict.the-variants as verdict
 use Rattle.program.proofs.Theorems.{read-again, accepted-well-formed, written-back}
 use Rattle.reach.specs.Configurations.{none-set}
 use Rattle.reach.specs.Marks.{freshMarks}
-use Rattle.reach.proofs.ShapeKept.{marks-length}
+use Rattle.reach.proofs.ShapeKept.{marks-length, none-length}
 use Rattle.analysis.proofs.AnswersByChecks.{same-self}
 use Rattle.edit.specs.Editing.{editedProgram, wantedEdit}
 use Rattle.edit.specs.declared.EditRead.{EditRead}
@@ -25,7 +25,6 @@ use Rattle.edit.specs.declared.EditRead.the-variants as read
 use Rattle.edit.proofs.Theorems.{wanted-applies, applied-well-formed, edited-read}
 use Rattle.repair.specs.Repairs.{wantedBy, repaired}
 use Rattle.repair.specs.Desk.{Desk}
-use Rattle.repair.proofs.RepairsAnswer.{none-length}
 use Rattle.report.specs.Report.{firstSize, editText, programAfter, editsText, blockOf, tooLong, fileSize, fileText, inputText, benchText}
 use Rattle.report.proofs.LineEnds.{next-line}
 use Rattle.transcript.specs.Transcript.{heldOf, Shown, TurnGives, lineAt, noOutput, editOn, turnedBy, turned, Turns, over, turn, fileOf, alone, begunBy, begun}

@@ -23,9 +23,8 @@ use Rattle.reach.specs.Marks.{Marked, Shows, Between, ClosedBut}
 use Rattle.base.proofs.SetFlags.{on-lt, zeros}
 use Rattle.reach.proofs.FollowingFromClosed.{Awaits, awaits-ends, awaits-shows, awaits-clear}
 use Rattle.marking.specs.Parts.{worklist, NoneBelow}
-use Rattle.worklist.specs.Parts.{firstPending, Learnt, followed, Ends}
+use Rattle.worklist.specs.Parts.{firstPending, Learnt, followed, Ends, Followable}
 use Rattle.base.specs.Filled.{Filled}
-use Rattle.worklist.specs.Slice.{Followable}
 use Rattle.base.proofs.BytesFilled.{Filling, filled-bits}
 use Rattle.worklist.proofs.RoutinePart.{table-edges}
 use Rattle.worklist.proofs.SummariesKnown.{exit-known, exit-marked, known-bits}

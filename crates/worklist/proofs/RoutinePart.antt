@@ -12,7 +12,7 @@ use Rattle.program.specs.Frames.{edgeKey}
 use Rattle.tables.specs.Keys.{Ascending}
 use Rattle.program.specs.Decoded.{edgeOf, programOf}
 use Rattle.program.specs.declared.DecodedProgram.{DecodedProgram}
-use Rattle.worklist.specs.Slice.{FirstOf}
+use Rattle.worklist.specs.Parts.{FirstOf}
 use Rattle.worklist.proofs.AnalysisBegun.{take-min}
 
 abbrev pub routineAt : List ℕ → ℕ → ℕ

@@ -1,15 +1,19 @@
 -- What the functions that follow what is pending promise of each other; nothing here has to be believed.
-use Prim.Native.Nat.{ℕ}
+use Prim.Native.Nat.{ℕ, _≤_, _<_}
 use mathlib.Core.Path.{_≡_}
 use mathlib.Core.Bool.{cond, _&&_}
 use mathlib.Core.Option.{Option, some, none}
-use mathlib.Core.List.{List}
+use mathlib.Core.List.{List, map}
 use lib.Dec.{eqb, ltb, leb}
 use lib.ListN.{getD}
 use Rattle.base.specs.Filled.{Filled}
+use Rattle.automaton.specs.Flags.{Answers}
 use Rattle.program.specs.Program.{Program}
+use Rattle.program.specs.WellFormed.{WellFormed}
+use Rattle.program.specs.Decoded.{edgeOf}
 use Rattle.reach.specs.Sizes.{enoughIterations, summariesSize}
 use Rattle.reach.specs.Configurations.{nodeOf, exitAt}
+use Rattle.reach.specs.Marks.{ClosedBut}
 use Rattle.reach.specs.Worklist.{Worklist, Shape, lowest, work}
 use Rattle.marking.specs.Parts.{worklist, Tables}
 
@@ -34,3 +38,19 @@ pub record Ends (p : Program) (keys : List ℕ) (count : ℕ) (next marks pendin
   pub tables : Tables p keys count next
   pub shape : Shape (worklist marks pending known 0)
   pub ends : lowest (followed p marks pending known .pending) 0 ≡ none
+
+-- ---- a part of the table of edges: where that of one routine begins, and marks that can be followed by a part
+
+-- the first edge, of the keys in use, whose routine is not below f
+pub record FirstOf (keys : List ℕ) (count f at : ℕ) : Type 0 where
+  pub within : at ≤ count
+  pub below : (i : ℕ) → i < at → edgeOf (getD keys i 0) .routine < f
+  pub not-below : at < count → f ≤ edgeOf (getD keys at 0) .routine
+
+-- a program has these edges and no others, its automaton these answers, and the marks are closed under its steps but
+-- for the numbers from low up to high
+pub record Followable (p : Program) (steps next : List ℕ) (low high : ℕ) (marks : List ℕ) : Type 0 where
+  pub well-formed : WellFormed p
+  pub edges : p .edges ≡ map edgeOf steps
+  pub answers : Answers (p .automaton) next
+  pub closed : ClosedBut p low high marks

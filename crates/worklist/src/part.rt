@@ -16,9 +16,8 @@ ghost use Rattle.program.specs.Program.{Program};
 ghost use Rattle.reach.specs.Configurations.{nodeOf, none-set};
 ghost use Rattle.reach.specs.Reachable.{Derivable, Any};
 ghost use Rattle.reach.specs.Marks.{Marked, Shows};
-ghost use Rattle.worklist.specs.Parts.{firstPending};
+ghost use Rattle.worklist.specs.Parts.{firstPending, FirstOf, Followable};
 ghost use Rattle.base.specs.Filled.{Filled};
-ghost use Rattle.worklist.specs.Slice.{FirstOf, Followable};
 
 // Where the edges of the routines that are not below f begin: the table ascends. Only the first `count` keys are in
 // use, and the caller has them all: hence the `requires`.

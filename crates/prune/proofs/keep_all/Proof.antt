@@ -6,11 +6,11 @@ use Rattle.prune.proofs.keep_all.Statement.{statement}
 use Rattle.prune.proofs.keep_all.Tie as tie
 
 abbrev Inv-loop : tie.InvT-loop
-Inv-loop keys m lines k marks kept₀ more₀ kept more =
-    Passing (keepsAt keys m lines k marks) kept₀ kept more
+Inv-loop keys m transitions k marks kept₀ more₀ kept more =
+    Passing (keepsAt keys m transitions k marks) kept₀ kept more
 
 abbrev μ-loop : tie.MeasureT-loop
-μ-loop keys m lines k marks kept₀ more₀ kept more = left kept more
+μ-loop keys m transitions k marks kept₀ more₀ kept more = left kept more
 
 loop-holds : tie.Need-loop-holds Inv-loop μ-loop
 loop-holds c = passing-none _ _

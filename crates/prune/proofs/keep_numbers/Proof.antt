@@ -12,11 +12,11 @@ use Rattle.prune.proofs.keep_numbers.Statement.{statement}
 use Rattle.prune.proofs.keep_numbers.Tie as tie
 
 abbrev Inv-loop : tie.InvT-loop
-Inv-loop keys m part lines k marks kept₀ f first more₀ i₀ kept more i =
-    (first ≤ i) × (i ≤ first + routineSpan) × Passed (keepsAt keys m lines k marks) kept₀ kept more first i
+Inv-loop keys m part transitions k marks kept₀ f first more₀ i₀ kept more i =
+    (first ≤ i) × (i ≤ first + routineSpan) × Passed (keepsAt keys m transitions k marks) kept₀ kept more first i
 
 abbrev μ-loop : tie.MeasureT-loop
-μ-loop keys m part lines k marks kept₀ f first more₀ i₀ kept more i = first + routineSpan - i
+μ-loop keys m part transitions k marks kept₀ f first more₀ i₀ kept more i = first + routineSpan - i
 
 loop-holds : tie.Need-loop-holds Inv-loop μ-loop
 loop-holds c = (omega arith, omega arith, pass-none _ _ _)

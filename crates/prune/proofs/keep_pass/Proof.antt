@@ -11,11 +11,11 @@ use Rattle.prune.proofs.keep_pass.Statement.{statement}
 use Rattle.prune.proofs.keep_pass.Tie as tie
 
 abbrev Inv-loop : tie.InvT-loop
-Inv-loop keys m lines k marks kept₀ more₀ f₀ kept more f =
-    (f ≤ maxRoutines) × Passed (keepsAt keys m lines k marks) kept₀ kept more 0 (f * routineSpan)
+Inv-loop keys m transitions k marks kept₀ more₀ f₀ kept more f =
+    (f ≤ maxRoutines) × Passed (keepsAt keys m transitions k marks) kept₀ kept more 0 (f * routineSpan)
 
 abbrev μ-loop : tie.MeasureT-loop
-μ-loop keys m lines k marks kept₀ more₀ f₀ kept more f = maxRoutines - f
+μ-loop keys m transitions k marks kept₀ more₀ f₀ kept more f = maxRoutines - f
 
 loop-holds : tie.Need-loop-holds Inv-loop μ-loop
 loop-holds c = (omega arith, pass-none _ _ 0)

@@ -1,5 +1,6 @@
-use Rattle.repair.proofs.RepairsAnswer.{own-answer, foreign-answer, room, none-length}
-use Rattle.repair.proofs.InsideOutNumbers.{number-foreign, bits-of-flags}
+use Rattle.repair.proofs.RepairsAnswer.{own-answer, foreign-answer, room}
+use Rattle.repair.proofs.InsideOutNumbers.{number-foreign, bits-told}
+use Rattle.reach.proofs.ShapeKept.{none-length}
 use Rattle.analysis.proofs.AnswersByChecks.{accepted-own}
 use Rattle.program.specs.Decoded.{programOf}
 use lib.ListN.{length}
@@ -49,7 +50,7 @@ returns-2 c =
     let h = sym (own t .check-own .ensures .0) ∙ t .enum-told .given .1 in
     let r = m .mend .ensures in (
       own-answer (z .args .e) (programOf (z .args .p)) (z .args .marks .now) (z .args .output .now) h (r .0) (c .before .before .write-program .ensures),
-      λ i. bits-of-flags (r .1 i) (d .bits-of .ensures),
+      λ i. bits-told (z .args .e) (programOf (z .args .p)) i (r .1) (d .bits-of .ensures),
     )
 
 pub repair-own-spec : {M : Type 1} → statement M

@@ -16,18 +16,18 @@ use Rattle.prune.proofs.support.supported.Statement.{statement}
 use Rattle.prune.proofs.support.supported.Tie as tie
 
 abbrev Inv-loop : tie.InvT-loop
-Inv-loop keys m lines k kept c found₀ i e end base j₀ found j =
-    (j ≤ end) × (found ≡ false) × Left (anyKey (transitionSupports kept base (e .label) (c .state))) lines end j
+Inv-loop keys m transitions k kept c found₀ i e end base j₀ found j =
+    (j ≤ end) × (found ≡ false) × Left (anyKey (transitionSupports kept base (e .label) (c .state))) transitions end j
 
 abbrev μ-loop : tie.MeasureT-loop
-μ-loop keys m lines k kept c found₀ i e end base j₀ found j = end - j
+μ-loop keys m transitions k kept c found₀ i e end base j₀ found j = end - j
 
 abbrev Inv-scan : tie.InvT-scan
-Inv-scan keys m lines k kept c found₀ i₀ found i =
-    (i ≤ m) × (found ≡ false) × Left (anyKey (λ key. edgeSupports kept lines k (c .routine) (c .node) (c .root) (c .state) (edgeOf key))) keys m i
+Inv-scan keys m transitions k kept c found₀ i₀ found i =
+    (i ≤ m) × (found ≡ false) × Left (anyKey (λ key. edgeSupports kept transitions k (c .routine) (c .node) (c .root) (c .state) (edgeOf key))) keys m i
 
 abbrev μ-scan : tie.MeasureT-scan
-μ-scan keys m lines k kept c found₀ i₀ found i = m - i
+μ-scan keys m transitions k kept c found₀ i₀ found i = m - i
 
 scan-holds : tie.Need-scan-holds Inv-loop μ-loop Inv-scan μ-scan
 scan-holds c = (search needs, refl, record { decide = refl })
@@ -49,8 +49,8 @@ start-of p =
 edge-room : (start : tie.Start Inv-loop μ-loop Inv-scan μ-scan) {i : ℕ} → i < start .args .m → i < length (start .args .keys .now)
 edge-room start h = omega (arith, h, start .pre)
 
-line-room : (start : tie.Start Inv-loop μ-loop Inv-scan μ-scan) {j end : ℕ} → end ≤ start .args .k → j < end → j < length (start .args .lines .now)
-line-room start few h = omega (arith, few, h, start .pre)
+transition-room : (start : tie.Start Inv-loop μ-loop Inv-scan μ-scan) {j end : ℕ} → end ≤ start .args .k → j < end → j < length (start .args .transitions .now)
+transition-room start few h = omega (arith, few, h, start .pre)
 
 loop-again : tie.Need-loop-again Inv-loop μ-loop Inv-scan μ-scan
 loop-again c =
@@ -58,7 +58,7 @@ loop-again c =
     let few = p .before .before .transitions-to-try .ensures .1 in
     let start = start-of p in
     let more = c .before .before .before .loop-test .taken in
-    (omega (arith, more), p .loop .inv .1, passed (asks-key _) (p .loop .inv .2) more (line-room start few more) (sym (c .before .transition-supports .ensures) ∙ c .if2 .left))
+    (omega (arith, more), p .loop .inv .1, passed (asks-key _) (p .loop .inv .2) more (transition-room start few more) (sym (c .before .transition-supports .ensures) ∙ c .if2 .left))
 
 -- what the edge supports, said of its key
 by-key : {A : Type 0} (P : Edge → A) {e d : Edge} {x : A} → e ≡ d → P e ≡ x → P d ≡ x
@@ -99,11 +99,11 @@ returns-3 c =
     let asked = no-call .before in
     let key = asked .before in
     let more = key .before .before .scan-test .taken in
-    let line = c .before .before .before .loop-test .taken in
+    let another = c .before .before .before .loop-test .taken in
     found (asks-key _) (key .before .before .before .scan .inv .2) more (edge-room (start-of p) more)
     (by-key (edgeSupports _ _ _ _ _ _ _) (key .edge .ensures)
     (sym (edge-is _ _ _ _ _ _ _ _ (sym (asked .call-supports .ensures) ∙ no-call .if1 .left) (p .before .before .transitions-to-try .ensures .0) (p .before .number-of .ensures .0))
-    ∙ sym (found (asks-key _) (p .loop .inv .2) line (line-room (start-of p) (p .before .before .transitions-to-try .ensures .1) line) (sym (c .before .transition-supports .ensures) ∙ c .if2 .taken))))
+    ∙ sym (found (asks-key _) (p .loop .inv .2) another (transition-room (start-of p) (p .before .before .transitions-to-try .ensures .1) another) (sym (c .before .transition-supports .ensures) ∙ c .if2 .taken))))
 
 pub supported-spec : {M : Type 1} → statement M
 supported-spec =

@@ -5,7 +5,7 @@ use Rattle.program.specs.Decoded.{programOf}
 use Rattle.reach.specs.Sizes.{nodeSpan}
 use Rattle.reach.specs.Marks.{ClosedBut}
 use Rattle.reach.proofs.Numbers.{node-fits}
-use Rattle.worklist.specs.Slice.{Followable}
+use Rattle.worklist.specs.Parts.{Followable}
 use Rattle.worklist.proofs.PartAwaited.{all-edges}
 use lib.ListN.{length, take}
 use lib.Seq.{length-take-le}

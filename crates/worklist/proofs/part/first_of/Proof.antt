@@ -8,7 +8,7 @@ use lib.Seq.{getD-take, length-take-le}
 use borrow.Author.Needs.{needs}
 use Rattle.program.specs.Decoded.{edgeOf}
 use Rattle.tables.specs.Keys.{FirstFrom}
-use Rattle.worklist.specs.Slice.{FirstOf}
+use Rattle.worklist.specs.Parts.{FirstOf}
 use Rattle.worklist.proofs.part.first_of.Statement.{statement}
 use Rattle.worklist.proofs.part.first_of.Tie as tie
 

@@ -1,0 +1,251 @@
+-- The inside-out repair of the marks, by what the functions below promise.
+use mathlib.Core.Path.{_≡_, refl, sym, ap, subst, _∙_}
+use mathlib.Core.Logic.{inl, inr, _↔_, _≢_}
+use mathlib.Core.Bool.{Bool, true, false, true≢false, not, _&&_}
+use mathlib.Core.List.{List, [], _++_, append-nil}
+use Prim.Native.Nat.{ℕ, _+_, _/_, _≤_, _<_}
+use native.Mathlib.Omega.{arith}
+use native.Mathlib.Decide.{ℕ-discrete}
+use lib.Dec.{eqb}
+use lib.ListN.{length, getD, set, take, drop, replicate, length-set, length-replicate}
+use lib.Seq.{getD-set-same, getD-set-other, take-length, drop-length}
+use borrow.Author.Tests.{eqb-true, eqb-false}
+use Rattle.program.specs.Sizes.{marksSize}
+use Rattle.program.specs.Program.{Program}
+use Rattle.program.specs.WellFormed.{WellFormed}
+use Rattle.reach.specs.Configurations.{InRange, number, routineOf, nodeOf, rootOf, stateOf, none-set}
+use Rattle.reach.specs.Marks.{freshMarks}
+use Rattle.reach.proofs.Numbers.{number-of, routine-of, routine-small, number-fits, node-small, root-small, state-small}
+use Rattle.base.proofs.SetFlags.{zeros}
+use Rattle.reach.proofs.ShapeKept.{marks-length}
+use Rattle.reach.proofs.AnalysisExact.{analysis-exact}
+use Rattle.callgraph.specs.Components.{Reanalyzed, Gained}
+use Rattle.components.specs.TurnParts.{DropOf}
+use Rattle.callgraph.specs.Parts.{Joined}
+use Rattle.edit.specs.Edits.{edgeOfStep, relabelled}
+use Rattle.edit.specs.Editing.{without, withEdges, editedProgram, Applies}
+use Rattle.edit.specs.declared.Step.{Step}
+use Rattle.edit.specs.declared.Label.{Label}
+use Rattle.edit.specs.declared.Edit.{Edit}
+use Rattle.edit.specs.declared.Edit.the-variants.{Add, Drop, Replace}
+use Rattle.edit.proofs.Theorems.{applied-well-formed, dropped-is, replaced-is}
+use Rattle.update.specs.Parts.{Repaired, FlagsOf, MarkedMore, Told}
+use Rattle.update.specs.Reanalyzed.{ReanalyzedBy}
+use Rattle.update.proofs.EditedSteps.{other-steps, drop-within}
+
+-- ---- the routines that have a mark more
+
+-- a number of routine f, below i, is newly marked
+pub record NewBelow (old new : List ℕ) (f i : ℕ) : Type 0 where
+  pub place : ℕ
+  pub below : place < i
+  pub routine : routineOf place ≡ f
+  pub is : getD new place 0 ≢ 0
+  pub was : getD old place 0 ≡ 0
+
+-- the flags are those of the routines that have a new mark below i
+pub record Gaining (old new : List ℕ) (i : ℕ) (flags : List ℕ) : Type 0 where
+  pub len : length flags ≡ 16
+  pub bound : i ≤ 16384
+  pub flag : (f : ℕ) → f < 16 → (getD flags f 0 ≢ 0) ↔ NewBelow old new f i
+
+-- the test of one number
+abbrev pub more : ℕ → ℕ → Bool
+more was is = not (not (eqb was 0)) && not (eqb is 0)
+
+pub more-yes : (was is : ℕ) → more was is ≡ true → (was ≡ 0) × (is ≢ 0)
+more-yes was is h = go (eqb was 0) refl (eqb is 0) refl h
+  where
+    go : (x : Bool) → eqb was 0 ≡ x → (y : Bool) → eqb is 0 ≡ y → not (not x) && not y ≡ true → (was ≡ 0) × (is ≢ 0)
+    go true e true f h = absurd (let z : _≡_ {A = ℕ} 0 1 = cc in omega arith)
+    go true e false f h = (eqb-true was 0 e, eqb-false is 0 f)
+    go false e y f h = absurd (let z : _≡_ {A = ℕ} 0 1 = cc in omega arith)
+
+pub more-no : (was is : ℕ) → more was is ≡ false → was ≡ 0 → is ≢ 0 → ⊥
+more-no was is h = go (eqb was 0) refl (eqb is 0) refl h
+  where
+    go : (x : Bool) → eqb was 0 ≡ x → (y : Bool) → eqb is 0 ≡ y → not (not x) && not y ≡ false → was ≡ 0 → is ≢ 0 → ⊥
+    go true e true f h a b = b (eqb-true is 0 f)
+    go true e false f h a b = let z : _≡_ {A = ℕ} 0 1 = cc in omega arith
+    go false e y f h a b = eqb-false was 0 e a
+
+pub gaining-start : (old new : List ℕ) → Gaining old new 0 (replicate 16 0)
+gaining-start old new =
+    record {
+      len = length-replicate {A = ℕ} 16 0;
+      bound = omega arith;
+      flag = λ f h. (λ n. absurd (n (zeros 16 f)), λ x. absurd (omega (arith, x .below)));
+    }
+
+place-of : (f j : ℕ) → routineOf j ≡ f → number f (nodeOf j) (rootOf j) (stateOf j) ≡ j
+place-of f j e = rw (← e) (number-of j)
+
+module _ {old new flags : List ℕ} {i : ℕ} (g : Gaining old new i flags) where
+  widened : {f : ℕ} → NewBelow old new f i → NewBelow old new f (i + 1)
+  widened x = record { place = x .place; below = omega (arith, x .below); routine = x .routine; is = x .is; was = x .was }
+
+  narrowed : {f : ℕ} → (x : NewBelow old new f (i + 1)) → x .place ≢ i → NewBelow old new f i
+  narrowed x n = record { place = x .place; below = omega (arith, x .below); routine = x .routine; is = x .is; was = x .was }
+
+  pub gaining-off : i < 16384 → (getD old i 0 ≡ 0 → getD new i 0 ≢ 0 → ⊥) → Gaining old new (i + 1) flags
+  gaining-off b n =
+      record {
+        len = g .len;
+        bound = omega arith;
+        flag = λ f h.
+            (λ o. widened (g .flag f h .0 o), λ x. g .flag f h .1 (narrowed x (λ e. n (rw e at (x .was)) (rw e at (x .is)))));
+      }
+
+  pub gaining-on : i < marksSize → getD old i 0 ≡ 0 → getD new i 0 ≢ 0 → Gaining old new (i + 1) (set flags (routineOf i) 1)
+  gaining-on b a n =
+      record {
+        len = length-set flags (routineOf i) 1 ∙ g .len;
+        bound = omega arith;
+        flag = λ f h.
+            elim (ℕ-discrete f (routineOf i)) [
+              | yes e ↦ (λ o. record { place = i; below = omega arith; routine = sym e; is = n; was = a }, λ x. set-there b f e)
+              | no e ↦ (λ o. widened (g .flag f h .0 (rw (other f e) at o)), λ x. rw (other f e) (g .flag f h .1 (narrowed x (λ z. e (sym (x .routine) ∙ ap routineOf z)))))
+            ];
+      }
+    where
+      other : (f : ℕ) → f ≢ routineOf i → getD (set flags (routineOf i) 1) f 0 ≡ getD flags f 0
+      other f e = getD-set-other flags (routineOf i) f 1 0 e
+
+      set-there : i < marksSize → (f : ℕ) → f ≡ routineOf i → getD (set flags (routineOf i) 1) f 0 ≢ 0
+      set-there b f e z =
+          let s : getD (set flags (routineOf i) 1) (routineOf i) 0 ≡ 1 = getD-set-same flags (routineOf i) 1 0 (omega (arith, g .len, routine-small i b)) in
+          let y : getD (set flags (routineOf i) 1) (routineOf i) 0 ≡ 0 = rw e at z in
+          omega (arith, s, y)
+
+  pub gaining-end : marksSize ≤ i → FlagsOf (MarkedMore old new) flags
+  gaining-end b = record { flag = λ f h. (λ o. to f h (g .flag f h .0 o), λ x. g .flag f h .1 (from f x)) }
+    where
+      to : (f : ℕ) → f < 16 → NewBelow old new f i → MarkedMore old new f
+      to f h x =
+          let j = x .place in
+          let e : number f (nodeOf j) (rootOf j) (stateOf j) ≡ j = place-of f j (x .routine) in
+          record {
+            node = nodeOf j;
+            root = rootOf j;
+            state = stateOf j;
+            now-there = (record { routine = h; node = node-small j; root = root-small j; state = state-small j }, rw e (x .is));
+            not-before = λ m. m .1 (rw e (x .was));
+          }
+
+      from : (f : ℕ) → MarkedMore old new f → NewBelow old new f i
+      from f x =
+          let j = number f (x .node) (x .root) (x .state) in
+          let r = x .now-there .0 in
+          record {
+            place = j;
+            below = omega (arith, number-fits r, g .bound, b);
+            routine = routine-of r;
+            is = x .now-there .1;
+            was = elim (ℕ-discrete (getD old j 0) 0) [ yes e ↦ e | no e ↦ absurd (x .not-before (r, e)) ];
+          }
+
+-- ---- an add
+
+copied-is : (from to : List ℕ) {copy : List ℕ} → copy ≡ take (length from) from ++ drop (length from) to → length from ≡ length to → copy ≡ from
+copied-is from to e h =
+    let past : drop (length from) to ≡ [] = rw h (drop-length to) in
+    rw (e, past, take-length from, append-nil from) refl
+
+-- the copy of the old marks
+pub copied-fresh : (p : Program) (from : List ℕ) {copy : List ℕ} → from ≡ freshMarks p
+    → copy ≡ take (length from) from ++ drop (length from) (replicate 16384 0) → copy ≡ freshMarks p
+copied-fresh p from f e =
+    copied-is from (replicate 16384 0) e (ap length f ∙ marks-length p ∙ sym (length-replicate {A = ℕ} 16384 0)) ∙ f
+
+-- on fresh marks, a mark more is a configuration more
+module _ (p p′ : Program) (w : WellFormed p) (w′ : WellFormed p′) where
+  more-gained : {f : ℕ} → MarkedMore (freshMarks p) (freshMarks p′) f → Gained p p′ f
+  more-gained {f} x =
+      record {
+        node = x .node;
+        root = x .root;
+        state = x .state;
+        now-there = analysis-exact p′ w′ f (x .node) (x .root) (x .state) .0 (x .now-there);
+        not-before = λ y. x .not-before (analysis-exact p w f (x .node) (x .root) (x .state) .1 y);
+      }
+
+  gained-more : {f : ℕ} → Gained p p′ f → MarkedMore (freshMarks p) (freshMarks p′) f
+  gained-more {f} x =
+      record {
+        node = x .node;
+        root = x .root;
+        state = x .state;
+        now-there = analysis-exact p′ w′ f (x .node) (x .root) (x .state) .1 (x .now-there);
+        not-before = λ y. x .not-before (analysis-exact p w f (x .node) (x .root) (x .state) .0 y);
+      }
+
+  gained-flags : {flags : List ℕ} → FlagsOf (MarkedMore (freshMarks p) (freshMarks p′)) flags → FlagsOf (Gained p p′) flags
+  gained-flags k = record { flag = λ f h. (λ o. more-gained (k .flag f h .0 o), λ x. k .flag f h .1 (gained-more x)) }
+
+module _ (s : Step) (p p′ : Program) (w : WellFormed p) (a : Applies (Add s) p) {old marks work flags : List ℕ} where
+  pub added-flags : old ≡ freshMarks p → Repaired (Add s) p p′ marks work → FlagsOf (MarkedMore old marks) flags → FlagsOf (ReanalyzedBy (Add s) p) flags
+  added-flags o r k = gained-flags p (editedProgram (Add s) p) w (applied-well-formed (Add s) p w a) shown
+    where
+      new : marks ≡ freshMarks (editedProgram (Add s) p)
+      new = r .own ∙ ap freshMarks (r .is-edited)
+
+      shown : FlagsOf (MarkedMore (freshMarks p) (freshMarks (editedProgram (Add s) p))) flags
+      shown =
+          subst (λ (l : List ℕ). FlagsOf (MarkedMore (freshMarks p) l) flags) new
+          (subst (λ (l : List ℕ). FlagsOf (MarkedMore l marks) flags) o k)
+
+-- ---- a drop
+
+-- a drop of nothing leaves the program as it was
+pub none-dropped : (p : Program) → WellFormed p → (f : ℕ) → DropOf p p f
+none-dropped p w f =
+    record { old-well-formed = w; well-formed = w; automaton = refl; steps = λ h. h; others = λ n h. h }
+
+module _ (s : Step) (p : Program) (w : WellFormed p) (a : Applies (Drop s) p) where
+  drop-is : DropOf p (editedProgram (Drop s) p) (s .routine)
+  drop-is =
+      record {
+        old-well-formed = w;
+        well-formed = applied-well-formed (Drop s) p w a;
+        automaton = ap (λ (x : Program). x .automaton) (dropped-is s p);
+        steps = λ h. drop-within s p w .steps h;
+        others = λ ne h. other-steps (Drop s) p ne h;
+      }
+
+  module _ (p′ : Program) (e : p′ ≡ withEdges p (without (edgeOfStep s) (p .edges))) where
+    is-edited : p′ ≡ editedProgram (Drop s) p
+    is-edited = e ∙ sym (dropped-is s p)
+
+    pub drop-of : DropOf p p′ (s .routine)
+    drop-of = subst (λ (x : Program). DropOf p x (s .routine)) (sym is-edited) drop-is
+
+    pub dropped-inside-out : {marks work flags : List ℕ}
+        → (marks ≡ freshMarks p′) × (work ≡ none-set) × ((f : ℕ) → f < 16 → (getD flags f 0 ≢ 0) ↔ Reanalyzed p p′ (s .routine) f)
+        → Repaired (Drop s) p p′ marks work × FlagsOf (ReanalyzedBy (Drop s) p) flags
+    dropped-inside-out {marks} {work} {flags} h =
+        (record { is-edited = is-edited; own = h .0; clear = h .1 }, subst (λ (x : Program). FlagsOf (Reanalyzed p x (s .routine)) flags) is-edited (record { flag = h .2 }))
+
+-- ---- a replace
+
+module _ (s : Step) (l : Label) (p d : Program) {a b c : List ℕ} where
+  pub replaced-flags : d ≡ editedProgram (Drop s) p → FlagsOf (ReanalyzedBy (Drop s) p) a → FlagsOf (ReanalyzedBy (Add (relabelled s l)) d) b → Joined a b c
+      → FlagsOf (ReanalyzedBy (Replace s l) p) c
+  replaced-flags e x y j =
+      record {
+        flag = λ f h. (
+          λ o. elim (j .joined f h .0 o) [ inl m ↦ inl (x .flag f h .0 m) | inr m ↦ inr (after f .0 (y .flag f h .0 m)) ],
+          λ o. j .joined f h .1 (elim o [ inl m ↦ inl (x .flag f h .1 m) | inr m ↦ inr (y .flag f h .1 (after f .1 m)) ]),
+        );
+      }
+    where
+      after : (f : ℕ) → Gained d (editedProgram (Add (relabelled s l)) d) f ↔ Gained (editedProgram (Drop s) p) (editedProgram (Replace s l) p) f
+      after f = rw (e, replaced-is s l p) (λ g. g, λ g. g)
+
+-- ---- what is told
+
+module _ (e : Edit) (p : Program) {inward : Bool} where
+  pub told : inward ≡ true → {flags : List ℕ} → FlagsOf (ReanalyzedBy e p) flags → FlagsOf (Told inward e p) flags
+  told i k = record { flag = λ f h. (λ o. (i, k .flag f h .0 o), λ x. k .flag f h .1 (x .1)) }
+
+  pub none-told : inward ≡ false → FlagsOf (Told inward e p) (replicate 16 0)
+  none-told i = record { flag = λ f h. (λ o. absurd (o (zeros 16 f)), λ x. absurd (true≢false (sym (x .0) ∙ i))) }

@@ -1,0 +1,3 @@
+pub mod EditedSteps
+pub mod EditedMarks
+pub mod InsideOutMarks

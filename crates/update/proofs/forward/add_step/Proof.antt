@@ -1,0 +1,31 @@
+use Rattle.update.proofs.EditedSteps.{add-from}
+use Rattle.update.proofs.EditedMarks.{added-well-formed, added-closed, added}
+use Rattle.edit.proofs.Theorems.{add-ready}
+use Rattle.program.specs.Decoded.{programOf}
+use borrow.Author.Needs.{needs}
+use Rattle.update.proofs.forward.add_step.Statement.{statement}
+use Rattle.update.proofs.forward.add_step.Tie as tie
+
+with-step-requires : tie.Need-with-step-requires
+with-step-requires c κs =
+    let z = c .before .before in
+    add-ready (z .args .s) (programOf (z .args .p)) (z .pre .0 .0) (z .pre .0 .1)
+
+follow-added-requires : tie.Need-follow-added-requires
+follow-added-requires c κs =
+    let z = c .before .before .before .before .before in
+    let p = programOf (z .args .p) in
+    let e = c .before .before .with-step .ensures in
+    let from = add-from (z .args .s) p (z .pre .0 .0) (z .pre .0 .1) in (
+      (added-well-formed (z .args .s) p _ (z .pre .0 .0) (z .pre .0 .1) e, from .0, from .1, z .pre .1 .1),
+      added-closed (z .args .s) p _ (z .pre .0 .0) (z .pre .0 .1) e (z .pre .1 .0),
+    )
+
+returns : tie.Need-returns
+returns c =
+    let z = c .before .before .before .before .before .before .before .before .before .before in
+    added (z .args .s) (programOf (z .args .p)) _ (z .pre .0 .0) (z .pre .0 .1) (c .before .before .before .before .before .before .before .with-step .ensures) (z .pre .1 .0) (c .before .before .before .before .follow-added .ensures)
+
+pub add-step-spec : {M : Type 1} → statement M
+add-step-spec =
+    tie.close (tie.spec with-step-requires follow-added-requires (λ c. search needs) (λ c. search needs) returns)

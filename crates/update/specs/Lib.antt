@@ -1,0 +1,2 @@
+pub mod Reanalyzed
+pub mod Parts
