@@ -1,11 +1,11 @@
 -- What is proved of the whole, for people: the three demands and the ten cases. Each proof cites.
 use mathlib.Core.Path.{_≡_}
-use mathlib.Core.Logic.{_↔_}
-use mathlib.Core.List.{List, _∷_, flatten, List·Memᴰ}
+use mathlib.Core.Logic.{_↔_, _≢_}
+use mathlib.Core.List.{List, [], _∷_, flatten, List·Memᴰ}
 use Prim.Native.Nat.{ℕ, _<_}
 use lib.ListN.{length, take}
 use Rattle.program.specs.Program.{Program}
-use Rattle.program.specs.Reading.{readFile}
+use Rattle.program.specs.Reading.{readFile, rowsIn}
 use Rattle.program.specs.declared.Verdict.the-variants.{Accepted}
 use Rattle.reach.specs.Marks.{Marked, Shows}
 use Rattle.prune.specs.Pruning.{Kept}
@@ -23,11 +23,11 @@ use Rattle.transcript.proofs.TurnsHold.{turns-print}
 use Rattle.desk.specs.Entries.{Entry, read, write, analyze, next-violation, prune, repair-forward, Lent, Back, programIn, Gives}
 use Rattle.demands.specs.Lists.{Call, wrote, Gave}
 use Rattle.demands.specs.Inputs.{SameInputs}
-use Rattle.demands.specs.Demands.{Demand1, Acceptance, Demand2, Safe, Next, Procedure, Demand3, keepingOf}
+use Rattle.demands.specs.Demands.{Demand1, Acceptance, withWritten, WrittenFile, Tabulated, Demand2, Safe, Next, Procedure, Demand3, keepingOf}
 use Rattle.demands.specs.Cases.{Case, Holds, table}
 use Rattle.demands.proofs.RefusalsReturned.{gives-demanded}
 use Rattle.demands.proofs.OneAnswer.{given-once}
-use Rattle.demands.proofs.FilesAccepted.{file-acceptance, comes-back}
+use Rattle.demands.proofs.FilesAccepted.{file-acceptance, comes-back, written-accepted, tabulated}
 use Rattle.demands.proofs.BenchTooLong.{too-long}
 use Rattle.demands.proofs.AnalysisAnswers.{analyzed-exact, count-safe, next-given, procedure-ends}
 use Rattle.demands.proofs.PruneKeeps.{pruned, drop-kept}
@@ -49,9 +49,17 @@ one-answer = given-once
 pub accepted-files : (b : Lent) (a : Back) → Gives read b a → Acceptance b a
 accepted-files = file-acceptance
 
--- an accepted file comes back as its own bytes
-pub same-bytes : (b : Lent) (a : Back) → Gives write b a → a .refusal ≡ 0 → wrote a ≡ b .file
+-- an accepted file comes back as its own bytes exactly when it has no row
+pub same-bytes : (b : Lent) (a : Back) → Gives write b a → a .refusal ≡ 0 → (wrote a ≡ b .file) ↔ (rowsIn (b .file) ≡ [])
 same-bytes = comes-back
+
+-- what is written of an accepted file, with rows or without, is accepted, has no row and is read as the same program
+pub written-file : (b : Lent) (a c : Back) → Gives write b a → a .refusal ≡ 0 → Gives read (withWritten b a) c → WrittenFile b a c
+written-file = written-accepted
+
+-- the transitions of an accepted file with rows are those of its table
+pub table-of-rows : (b : Lent) (a : Back) → Gives read b a → a .refusal ≡ 0 → rowsIn (b .file) ≢ [] → Tabulated (programIn b) (rowsIn (b .file))
+table-of-rows = tabulated
 
 -- what `bench` prints: the texts that the functions of its turns give, the first for the file and then one for each edit line by either repair, are together
 -- the text of the input

@@ -3,17 +3,18 @@ use mathlib.Core.Path.{_≡_, refl, sym, subst, ap, _∙_}
 use mathlib.Core.Logic.{_≢_}
 use mathlib.Core.Bool.{Bool, true, false, cond}
 use mathlib.Core.List.{List, [], _∷_}
-use Prim.Native.Nat.{ℕ, _+_}
+use Prim.Native.Nat.{ℕ, zero, suc, _+_}
 use native.Mathlib.Omega.{arith}
-use lib.Dec.{ltb}
-use borrow.Author.Tests.{ltb-true, ltb-false}
+use lib.Dec.{ltb, eqb}
+use lib.ListN.{length}
+use borrow.Author.Tests.{ltb-true, ltb-false, eqb-true, eqb-false, lt-ltb, ne-eqb}
+use Rattle.rows.specs.Rows.{TableRow, Pair, timesMet, pairRefusal, tableRefusal}
 use Rattle.text.specs.Lines.{lines, numbers, lineFrom}
-use Rattle.text.specs.declared.Line.{Line}
-use Rattle.program.specs.Reading.{Progress, start, accepted, refused, judgeAs, judge, after, readFrom, readFile}
+use Rattle.program.specs.Reading.{Progress, start, refused, judgeAs, judge, after, pairsOf, tableDecides, finished, readFrom, readFile}
 use Rattle.program.specs.Checks.{firstMet}
 use Rattle.program.specs.declared.Verdict.{Verdict}
 use Rattle.program.specs.declared.Verdict.the-variants.{Accepted, Refused}
-use Rattle.demands.specs.Refusals.{lineRows, lineNumber, Faulty, unended, after-end, here, later, FaultyFile}
+use Rattle.demands.specs.Refusals.{lineNumber, tableRows, tableNumber, Faulty, unended, by-table, after-end, here, later}
 
 -- what a verdict says: this refusal, or none
 abbrev pub Says : Progress → List (List ℕ) → Verdict → Type 0
@@ -28,8 +29,9 @@ not-none n h z = let x = ltb-true 0 n h in absurd (omega arith)
 
 -- ---- lines that refuse nothing
 
-ended-good : {s : Progress} {n line : ℕ} → s .ended ≡ true → ¬ (Faulty s [] n line)
-ended-good e (unended h) = both e h
+ended-good : {s : Progress} {n line : ℕ} → s .ended ≡ true → (s .rows ≢ [] → tableNumber s ≡ 0) → ¬ (Faulty s [] n line)
+ended-good e t (unended h) = both e h
+ended-good e t (by-table h r x) = x (t r)
 
 line-good : {s : Progress} {l : List ℕ} {ls : List (List ℕ)} {n line : ℕ} → s .ended ≡ false → lineNumber s l ≡ 0
     → ¬ (Faulty (after s (lineFrom (numbers l))) ls n line) → ¬ (Faulty s (l ∷ ls) n line)
@@ -37,14 +39,41 @@ line-good e z r (after-end h) = both h e
 line-good e z r (here h x) = x z
 line-good e z r (later h y f) = r f
 
+-- ---- the table
+
+pair-told : (n rest : ℕ) → cond (eqb n 0) 19 (cond (ltb 1 n) 20 rest) ≡ cond (eqb (pairRefusal n) 0) rest (pairRefusal n)
+pair-told zero rest = refl
+pair-told (suc zero) rest = refl
+pair-told (suc (suc n)) rest = rw (ne-eqb (suc (suc n)) 0 (λ z. omega arith), lt-ltb 1 (suc (suc n)) (omega arith))
+
+table-told : (rs : List TableRow) (ps : List Pair) → firstMet (tableRows rs ps) ≡ tableRefusal rs ps
+unfolding firstMet tableRefusal
+table-told rs [] = refl
+table-told rs (p ∷ ps) = rw (table-told rs ps) (pair-told (timesMet p rs) (tableRefusal rs ps))
+
+at-end : (s : Progress) → s .ended ≡ true → (rs : List TableRow) → s .rows ≡ rs → Says s [] (finished rs (s .program) .verdict)
+at-end s e [] h = λ n line. ended-good e (λ x. absurd (x h))
+at-end s e (r ∷ rs) h = go (eqb (tableRefusal (r ∷ rs) (pairsOf (s .program))) 0) refl
+  where
+    told-here : tableNumber s ≡ tableRefusal (r ∷ rs) (pairsOf (s .program))
+    told-here = table-told (s .rows) (pairsOf (s .program)) ∙ ap (λ (t : List TableRow). tableRefusal t (pairsOf (s .program))) h
+
+    some : s .rows ≢ []
+    some z = absurd (let y = ap length (sym h ∙ z) in omega arith)
+
+    go : (t : Bool) → eqb (tableRefusal (r ∷ rs) (pairsOf (s .program))) 0 ≡ t
+        → Says s [] (tableDecides t (tableRefusal (r ∷ rs) (pairsOf (s .program))) (r ∷ rs) (s .program) .verdict)
+    go true x = λ n line. ended-good e (λ y. told-here ∙ eqb-true _ 0 x)
+    go false x = subst (λ n. Faulty s [] n 0) told-here (by-table e some (λ z. eqb-false _ 0 x (sym told-here ∙ z)))
+
 -- ---- line after line
 
 pub told : (ls : List (List ℕ)) (s : Progress) → Says s ls (readFrom s ls .verdict)
 unfolding readFrom judge judgeAs firstMet
 told [] s = go (s .ended) refl
   where
-    go : (t : Bool) → s .ended ≡ t → Says s [] (cond t (accepted (s .program)) (refused 8 (s .frames + 1)) .verdict)
-    go true e = λ n line. ended-good e
+    go : (t : Bool) → s .ended ≡ t → Says s [] (cond t (finished (s .rows) (s .program)) (refused 8 (s .frames + 1)) .verdict)
+    go true e = at-end s e (s .rows) refl
     go false e = unended e
 told (l ∷ ls) s = go (s .ended) refl (told ls (after s (lineFrom (numbers l))))
   where
@@ -73,12 +102,16 @@ file-told file = told (lines file) start
 
 pub faulty-number : {s : Progress} {ls : List (List ℕ)} {n line : ℕ} → Faulty s ls n line → n ≢ 0
 faulty-number (unended e) z = absurd (omega arith)
+faulty-number (by-table e r x) z = x z
 faulty-number (after-end e) z = absurd (omega arith)
 faulty-number (here e x) z = x z
 faulty-number (later e x f) z = faulty-number f z
 
 pub faulty-once : {s : Progress} {ls : List (List ℕ)} {n line m at : ℕ} → Faulty s ls n line → Faulty s ls m at → (n ≡ m) × (line ≡ at)
 faulty-once (unended e) (unended h) = (refl, refl)
+faulty-once (unended e) (by-table h r x) = both h e
+faulty-once (by-table e r x) (unended h) = both e h
+faulty-once (by-table e r x) (by-table h t y) = (refl, refl)
 faulty-once (after-end e) (after-end h) = (refl, refl)
 faulty-once (after-end e) (here h x) = both e h
 faulty-once (after-end e) (later h x f) = both e h

@@ -1,6 +1,6 @@
 -- Demand 1, function by function: what is returned is of the table, and what a refusal leaves.
 use mathlib.Core.Path.{_≡_, refl, sym, ap, subst, _∙_}
-use mathlib.Core.Logic.{_≢_, _⊎_, inl, inr}
+use mathlib.Core.Logic.{_≢_, _⊎_, inl, inr, ⊎-elim}
 use mathlib.Core.Bool.{Bool, true, false, cond, not}
 use mathlib.Core.Option.{Option, some, none}
 use mathlib.Core.List.{List, [], _∷_, _++_}
@@ -125,7 +125,7 @@ file-judged e b = go (readFile (b .file) .verdict) refl (file-told (b .file))
     go Accepted h t = of-the-rest t
     go (Refused n line) h t =
         let x = few-lines (b .file) n line h in
-        record { returned = of-the-file t; some-number = faulty-number t; before-17 = λ z. absurd (omega arith) }
+        record { returned = of-the-file t; some-number = faulty-number t; before-17 = λ z. ⊎-elim (λ y. absurd (omega arith)) (λ y. absurd (omega arith)) (x .3) }
 
 -- the file and the lengths, whatever was asked, and whatever comes after them
 pub checked-judged : (e : Entry) (b : Lent) (marks output work : Length) (final : List Row) → rows e b ≡ bufferRows marks output work ++ final

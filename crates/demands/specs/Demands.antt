@@ -7,11 +7,12 @@ use mathlib.Core.List.{List, [], map, List·Memᴰ}
 use Prim.Native.Nat.{ℕ, _≤_, _<_}
 use lib.ListN.{getD, length}
 use Rattle.program.specs.Sizes.{marksSize, outputSize}
-use Rattle.automaton.specs.Automaton.{isRejecting}
+use Rattle.automaton.specs.Automaton.{listed, isRejecting}
+use Rattle.rows.specs.Rows.{TableRow, meets, timesMet}
 use Rattle.program.specs.Program.{Program}
 use Rattle.program.specs.WellFormed.{WellFormed}
 use Rattle.program.specs.Writing.{written}
-use Rattle.program.specs.Reading.{readFile}
+use Rattle.program.specs.Reading.{readFile, rowsIn}
 use Rattle.reach.specs.Configurations.{InRange, number, routineOf, nodeOf, rootOf, stateOf, none-set}
 use Rattle.reach.specs.Runs.{Activation, Run, Occurs}
 use Rattle.reach.specs.Worklist.{analysis}
@@ -46,11 +47,45 @@ pub record FileOf (p : Program) (file : List ℕ) : Type 0 where
   pub well-formed : WellFormed p
   pub is-written : file ≡ written p
 
--- a file is accepted exactly when it is that of some program; this is then its program, and it has at most 5,328 bytes
+-- a file is accepted and has no row exactly when it is that of some program; this is then its program, and it has at
+-- most 5,328 bytes
 pub record Acceptance (b : Lent) (a : Back) : Type 0 where
-  pub accepted : (a .refusal ≡ 0) ↔ ((p : Program) × FileOf p (b .file))
+  pub accepted : ((a .refusal ≡ 0) × (rowsIn (b .file) ≡ [])) ↔ ((p : Program) × FileOf p (b .file))
   pub its-program : (p : Program) → FileOf p (b .file) → programIn b ≡ p
   pub its-size : (p : Program) → FileOf p (b .file) → length (b .file) ≤ outputSize
+
+-- the program of an accepted file with rows: its transitions are those of the table
+pub record Tabulated (p : Program) (rs : List TableRow) : Type 0 where
+  -- each state below the count of states meets each action below theirs in exactly one row
+  pub met-once : (q a : ℕ) → q < p .automaton .states → a < p .automaton .actions
+      → timesMet (record { state = q; action = a }) rs ≡ 1
+  -- from q to s on a there is a transition (paper: a rule line) exactly when the row that meets q and a says s
+  pub by-row : (q a s : ℕ) → (listed q a s (p .automaton .transitions) ≡ true)
+      ↔ ((q < p .automaton .states) × (a < p .automaton .actions) × ((r : TableRow) × List·Memᴰ r rs
+      × (meets (record { state = q; action = a }) r ≡ true) × (r .next ≡ s)))
+  -- so there is exactly one for each state and action
+  pub one-each : (q a : ℕ) → q < p .automaton .states → a < p .automaton .actions
+      → (s : ℕ) × (listed q a s (p .automaton .transitions) ≡ true)
+      × ((s′ : ℕ) → listed q a s′ (p .automaton .transitions) ≡ true → s′ ≡ s)
+
+-- what is lent, with what was written in the place of the file
+abbrev pub withWritten : Lent → Back → Lent
+withWritten b a = record {
+  file = wrote a;
+  marks = b .marks;
+  edit = b .edit;
+  output = b .output;
+  work = b .work;
+  from = b .from;
+}
+
+-- what is written of a file, and what reading that gives back: it is accepted, has no row, is read as the file's
+-- program and has at most 5,328 bytes
+pub record WrittenFile (b : Lent) (a c : Back) : Type 0 where
+  pub accepted : c .refusal ≡ 0
+  pub no-row : rowsIn (wrote a) ≡ []
+  pub same-program : programIn (withWritten b a) ≡ programIn b
+  pub its-size : length (wrote a) ≤ outputSize
 
 -- ---- demand 2: the sheet marks a standing exactly when some run, each return going back to its own call, arrives
 -- there

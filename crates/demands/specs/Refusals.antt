@@ -5,13 +5,14 @@ use mathlib.Core.Path.{_≡_}
 use mathlib.Core.Logic.{_≢_}
 use mathlib.Core.Bool.{Bool, true, false, _&&_, not}
 use mathlib.Core.List.{List, [], _∷_, _++_}
-use lib.Dec.{leb, eqb}
+use lib.Dec.{ltb, leb, eqb}
 use lib.ListN.{length}
 use Rattle.text.specs.Lines.{lines, numbers, lineFrom}
 use Rattle.text.specs.declared.Line.{Line}
 use Rattle.program.specs.Program.{Program}
 use Rattle.program.specs.Frames.{size, kind}
-use Rattle.program.specs.Reading.{Progress, start, ordered, ranged, full, miscounted, after}
+use Rattle.rows.specs.Rows.{TableRow, Pair, timesMet}
+use Rattle.program.specs.Reading.{Progress, start, ordered, ranged, full, miscounted, after, pairsOf}
 use Rattle.program.specs.Checks.{Row, row, firstMet, bufferRows}
 use Rattle.program.specs.declared.Length.the-variants.{NotAsked, Of}
 use Rattle.analysis.specs.Answers.{foreignRow}
@@ -35,11 +36,13 @@ lineRows s l =
     -- wrong count of numbers for the kind
     ∷ row 3 (not (eqb (l .count) (size (kind l))))
     -- order broken; first frame not 50; a second 50; a routine frame left out
-    ∷ row 4 (not (ordered (s .last) (s .frames) (s .program .routines) (length (s .program .nodes)) (kind l) l))
+    -- transitions (paper: rule lines) and rows in one file
+    ∷ row 4 (not (ordered (s .last) (s .frames) (s .program .routines) (length (s .program .nodes))
+    (length (s .program .automaton .transitions)) (kind l) l))
     -- a number outside its range, or a step from the exit
     ∷ row 5 (not (ranged (s .program) (kind l) l))
-    -- the 257th step or rule line
-    ∷ row 6 (full (length (s .program .edges)) (length (s .program .automaton .transitions)) (kind l))
+    -- the 257th step, rule line or row
+    ∷ row 6 (full (length (s .program .edges)) (length (s .program .automaton .transitions)) (length (s .rows)) (kind l))
     -- the end count is wrong
     ∷ row 7 (miscounted (s .frames) (kind l) l)
     ∷ []
@@ -47,11 +50,30 @@ lineRows s l =
 abbrev pub lineNumber : Progress → List ℕ → ℕ
 lineNumber s l = firstMet (lineRows s (lineFrom (numbers l)))
 
+-- the rows (of this table of refusals) for a state and an action, by the rows of a file
+abbrev pub pairRows : List TableRow → Pair → List Row
+pairRows rs p =
+    -- a pair met by no row
+    row 19 (eqb (timesMet p rs) 0)
+    -- a pair met twice
+    ∷ row 20 (ltb 1 (timesMet p rs))
+    ∷ []
+
+-- pair after pair, by state and then by action
+abbrev pub tableRows : List TableRow → List Pair → List Row
+tableRows rs [] = []
+tableRows rs (p ∷ ps) = pairRows rs p ++ tableRows rs ps
+
+abbrev pub tableNumber : Progress → ℕ
+tableNumber s = firstMet (tableRows (s .rows) (pairsOf (s .program)))
+
 -- the refusal of a file, after some frames: a number at a line. The first faulty line decides, in it the lowest number;
 -- a line after the end is 8, before 1 to 7
 pub data Faulty : Progress → List (List ℕ) → ℕ → ℕ → Type 0 where
   -- the input ends without an end frame
   unended : {s : Progress} → s .ended ≡ false → Faulty s [] 8 (s .frames + 1)
+  -- every line is good, but not the table of a file with rows: the first faulty pair decides, and there is no line
+  by-table : {s : Progress} → s .ended ≡ true → s .rows ≢ [] → tableNumber s ≢ 0 → Faulty s [] (tableNumber s) 0
   -- a line follows the end frame
   after-end : {s : Progress} {l : List ℕ} {ls : List (List ℕ)} → s .ended ≡ true → Faulty s (l ∷ ls) 8 (s .frames + 1)
   -- this line meets a row

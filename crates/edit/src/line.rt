@@ -152,8 +152,8 @@ fn edit_or(bad: bool, out: bool, e: Edit) -> EditRead
     EditRead::Read(e)
 }
 
-// The edit that a line says for a program, or its refusal. A line keeps six numbers whatever it says, so that its
-// edit can be made before it is judged.
+// The edit that a line says for a program, or its refusal. Whatever a line says, the numbers of an edit are kept, so
+// that its edit can be made before it is judged.
 pub fn edit_from(p: DecodedProgram, l: Line) -> EditRead
     ensures { λ r. ⌜ r ≡ editFrom (programOf p) l ⌝ }
 {

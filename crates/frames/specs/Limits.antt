@@ -11,6 +11,7 @@ use Rattle.program.specs.Reading.{ordered, ranged, full, miscounted, lowest}
 use Rattle.program.specs.Decoded.{nodesOf}
 use Rattle.program.specs.declared.DecodedProgram.{DecodedProgram}
 use Rattle.frames.specs.declared.Limits.{Limits}
+use Rattle.frames.specs.declared.Counts.{Counts}
 
 -- what bounds the numbers of a program's frames, and a program of which only that is known
 abbrev pub limits : DecodedProgram → Limits
@@ -31,8 +32,9 @@ limitsOf h =
     }
 
 -- the judgement of a line, by counts
-abbrev pub judgedBy : ℕ → ℕ → Limits → ℕ → ℕ → ℕ → Line → ℕ
-judgedBy last frames h done edges transitions l =
+abbrev pub judgedBy : ℕ → Counts → Limits → Line → ℕ
+judgedBy last n h l =
     lowest (eqb (l .count) 0) (eqb (kind l) 0) (not (eqb (l .count) (size (kind l))))
-    (not (ordered last frames (h .routines) done (kind l) l)) (not (ranged (limitsOf h) (kind l) l))
-    (full edges transitions (kind l)) (miscounted frames (kind l) l)
+    (not (ordered last (n .frames) (h .routines) (n .nodes) (n .transitions) (kind l) l))
+    (not (ranged (limitsOf h) (kind l) l))
+    (full (n .edges) (n .transitions) (n .rows) (kind l)) (miscounted (n .frames) (kind l) l)

@@ -1,8 +1,10 @@
 // The refusal that one line meets (1 to 7).
+use crate::Counts;
 use crate::Limits;
 use crate::key_of;
 use crate::kind_of;
 use crate::number;
+use crate::row_in;
 use crate::size_of;
 use automaton::sizes::MAX_ACTIONS;
 use automaton::sizes::MAX_STATES;
@@ -14,13 +16,16 @@ use program::sizes::FIRST_CALL;
 use program::sizes::MAX_EDGES;
 use program::sizes::MAX_NODES;
 use program::sizes::MAX_ROUTINES;
+use rows::MAX_ROWS;
+use rows::row_fits;
 use tables::in_use;
 use text::Line;
 ghost use mathlib.Core.Path.{_≡_};
 ghost use lib.ListN.{getD};
 ghost use Rattle.program.specs.Program.{within, countsFit, labelFits, placed, edgeFits};
-ghost use Rattle.program.specs.Reading.{due, ordered, edgeIn, ranged, full, miscounted, lowest};
+ghost use Rattle.program.specs.Reading.{due, inPlace, ordered, edgeIn, rowIn, ranged, full, miscounted, lowest};
 ghost use Rattle.program.specs.Decoded.{nodesOf};
+ghost use Rattle.rows.specs.Rows.{rowFits};
 ghost use Rattle.frames.specs.Limits.{limits, limitsOf, judgedBy};
 
 fn inside(lo: u8, hi: u8, x: u8) -> bool
@@ -37,15 +42,20 @@ fn is_due(routines: u8, done: usize, f: u8) -> bool
     (i == done) | ((r <= done) & (done < i))
 }
 
-fn in_order(last: u64, frames: usize, routines: u8, done: usize, k: u8, l: Line) -> bool
-    ensures { λ y. ⌜ y ≡ ordered last frames routines done k l ⌝ }
+fn is_in_place(frames: usize, routines: u8, done: usize, k: u8, l: Line) -> bool
+    ensures { λ y. ⌜ y ≡ inPlace frames routines done k l ⌝ }
+{
+    let d = is_due(routines, done, number(l, 1));
+    ((k == 1) & (frames == 0))
+        | ((k == 2) & (0 < frames) & d)
+        | ((2 < k) & (0 < frames) & (done == (routines as usize)))
+}
+
+fn in_order(last: u64, n: Counts, routines: u8, k: u8, l: Line) -> bool
+    ensures { λ y. ⌜ y ≡ ordered last (n .frames) routines (n .nodes) (n .transitions) k l ⌝ }
 {
     let x = key_of(k, l);
-    let d = is_due(routines, done, number(l, 1));
-    (last < x)
-        & (((k == 1) & (frames == 0))
-            | ((k == 2) & (0 < frames) & d)
-            | ((2 < k) & (0 < frames) & (done == (routines as usize))))
+    (last < x) & is_in_place(n.frames, routines, n.nodes, k, l) & !((k == 5) & (0 < n.transitions))
 }
 
 fn node_count(n: Nodes, f: u8) -> u8
@@ -90,6 +100,12 @@ pub fn edge_fits(h: Limits, l: Line) -> bool
         & label_fits(h.routines, h.actions, number(l, 3))
 }
 
+fn is_row_in_range(h: Limits, l: Line) -> bool
+    ensures { λ y. ⌜ y ≡ rowFits (limitsOf h .automaton) (rowIn l) ⌝ }
+{
+    row_fits(row_in(l), h.states, h.actions)
+}
+
 fn in_range(h: Limits, k: u8, l: Line) -> bool
     ensures { λ y. ⌜ y ≡ ranged (limitsOf h) k l ⌝ }
 {
@@ -100,14 +116,17 @@ fn in_range(h: Limits, k: u8, l: Line) -> bool
         | ((k == 2) & (a < h.routines) & inside(2, MAX_NODES as u8, b))
         | ((k == 3) & edge_fits(h, l))
         | ((k == 4) & ((a < h.states) & (b < h.actions) & (c < h.states)))
-        | (inside(5, 6, k) & (a < h.states))
-        | (k == 7)
+        | ((k == 5) & is_row_in_range(h, l))
+        | (inside(6, 7, k) & (a < h.states))
+        | (k == 8)
 }
 
-fn is_full(edges: usize, transitions: usize, k: u8) -> bool
-    ensures { λ y. ⌜ y ≡ full edges transitions k ⌝ }
+fn is_full(n: Counts, k: u8) -> bool
+    ensures { λ y. ⌜ y ≡ full (n .edges) (n .transitions) (n .rows) k ⌝ }
 {
-    ((k == 3) & (MAX_EDGES <= edges)) | ((k == 4) & (MAX_TRANSITIONS <= transitions))
+    ((k == 3) & (MAX_EDGES <= n.edges))
+        | ((k == 4) & (MAX_TRANSITIONS <= n.transitions))
+        | ((k == 5) & (MAX_ROWS <= n.rows))
 }
 
 fn is_miscounted(frames: usize, k: u8, l: Line) -> bool
@@ -115,7 +134,7 @@ fn is_miscounted(frames: usize, k: u8, l: Line) -> bool
 {
     let a = number(l, 1);
     let b = number(l, 2);
-    (k == 7) & !((a as usize) * 256 + (b as usize) == frames)
+    (k == 8) & !((a as usize) * 256 + (b as usize) == frames)
 }
 
 fn lowest_of(a: bool, b: bool, c: bool, d: bool, e: bool, f: bool, g: bool) -> u8
@@ -158,27 +177,19 @@ pub fn limits_of(p: DecodedProgram) -> Limits
     }
 }
 
-// The refusal that a line meets, or 0: by the last frame's key, how many frames, routines, edges and transitions there
-// were, and what bounds the numbers. No more of what was read before has to be known.
-pub fn fault_by(
-    last: u64,
-    frames: usize,
-    h: Limits,
-    done: usize,
-    edges: usize,
-    transitions: usize,
-    l: Line,
-) -> u8
-    ensures { λ r. ⌜ r ≡ judgedBy last frames h done edges transitions l ⌝ }
+// The refusal that a line meets, or 0: by the last frame's key, how much was read, and what bounds the numbers. No more
+// of what was read before has to be known.
+pub fn fault_by(last: u64, n: Counts, h: Limits, l: Line) -> u8
+    ensures { λ r. ⌜ r ≡ judgedBy last n h l ⌝ }
 {
     let k = kind_of(l);
     lowest_of(
         l.count == 0,
         k == 0,
         !(l.count == size_of(k)),
-        !in_order(last, frames, h.routines, done, k, l),
+        !in_order(last, n, h.routines, k, l),
         !in_range(h, k, l),
-        is_full(edges, transitions, k),
-        is_miscounted(frames, k, l),
+        is_full(n, k),
+        is_miscounted(n.frames, k, l),
     )
 }

@@ -3,10 +3,23 @@ pub mod judge;
 
 use program::Nodes;
 use program::frames::pack;
+use rows::row_key;
 use text::Line;
 ghost use mathlib.Core.Path.{_≡_};
 ghost use Prim.Native.Nat.{_<_};
-ghost use Rattle.program.specs.Frames.{kindOrder, size, num, kind, word, keyOf};
+ghost use Rattle.text.specs.Lines.{maxNumbers};
+ghost use Rattle.rows.specs.Decoded.{rowOf};
+ghost use Rattle.program.specs.Frames.{kindOrder, size, num, kind, word, rest, keyOf};
+ghost use Rattle.program.specs.Reading.{rowIn};
+
+// How much was read before a line: frames, routine frames, edges, transitions and rows.
+pub struct Counts {
+    pub frames: usize,
+    pub nodes: usize,
+    pub edges: usize,
+    pub transitions: usize,
+    pub rows: usize,
+}
 
 // What bounds the numbers of a frame.
 pub struct Limits {
@@ -31,14 +44,17 @@ fn kind_order(k: u8) -> u8
     if k == 0x54 {
         return 4;
     }
-    if k == 0x49 {
+    if k == 0x55 {
         return 5;
     }
-    if k == 0x46 {
+    if k == 0x49 {
         return 6;
     }
-    if k == 0x45 {
+    if k == 0x46 {
         return 7;
+    }
+    if k == 0x45 {
+        return 8;
     }
     0
 }
@@ -58,15 +74,18 @@ pub fn size_of(k: u8) -> usize
     if k == 4 {
         return 4;
     }
-    if k == 7 {
+    if k == 5 {
+        return 7;
+    }
+    if k == 8 {
         return 3;
     }
     2
 }
 
-// A number of a line. Every caller names one of the six that a line keeps: hence the `requires`.
+// A number of a line. Every caller names one of those that a line keeps: hence the `requires`.
 pub fn number(l: Line, i: usize) -> u8
-    requires { ⌜ i < 6 ⌝ }
+    requires { ⌜ i < maxNumbers ⌝ }
     ensures { λ r. ⌜ r ≡ num l i ⌝ }
 {
     let v = l.numbers;
@@ -86,8 +105,20 @@ fn word_of(l: Line) -> u32
 }
 
 pub fn key_of(k: u8, l: Line) -> u64
-    ensures { λ r. ⌜ r ≡ keyOf k (word l) ⌝ }
+    ensures { λ r. ⌜ r ≡ keyOf k (word l) (rest l) ⌝ }
 {
     let w = word_of(l);
-    (k as u64) * 0x100000000 + (w as u64)
+    let a = number(l, 5);
+    let b = number(l, 6);
+    let c = number(l, 7);
+    let front = (k as u64) * 0x100000000 + (w as u64);
+    ((front * 256 + (a as u64)) * 256 + (b as u64)) * 256 + (c as u64)
+}
+
+// The key of the row that a line says.
+pub fn row_in(l: Line) -> u64
+    ensures { λ r. ⌜ rowOf r ≡ rowIn l ⌝ }
+{
+    let actions = pack(number(l, 2), number(l, 3), number(l, 4), number(l, 5));
+    row_key(number(l, 1) as u16, actions, number(l, 6))
 }

@@ -81,11 +81,11 @@ module _ (file : List ℕ) (marks output work : Length) where
       go c e (by-file h) = absurd (let z : _≡_ {A = ℕ} 0 1 = cc in omega arith)
       go c e (by-length h a b f) = absurd (let z : _≡_ {A = ℕ} 0 1 = cc in omega arith)
 
-  -- a refusal's number is 1 to 11, and its line at most 547
-  pub few-checks : {n line : ℕ} → checked file marks output work ≡ Refused n line → (0 < n) × (n ≤ 11) × (line ≤ 547)
+  -- a refusal's number is 1 to 20, and its line at most 547
+  pub few-checks : {n line : ℕ} → checked file marks output work ≡ Refused n line → (0 < n) × (n ≤ 20) × (line ≤ 547)
   few-checks {n} {line} e = go (checked file marks output work) e checked-file
     where
-      go : (c : Verdict) → c ≡ Refused n line → CheckedAs (readFile file .verdict) marks output work c → (0 < n) × (n ≤ 11) × (line ≤ 547)
+      go : (c : Verdict) → c ≡ Refused n line → CheckedAs (readFile file .verdict) marks output work c → (0 < n) × (n ≤ 20) × (line ≤ 547)
       go c e (passed h s f) = absurd (let z : _≡_ {A = ℕ} 0 1 = cc in omega arith)
       go c e (by-file h) = let k = few-lines file n line (h ∙ e) in (omega arith, omega arith, omega arith)
       go c e (by-length {n = m} h a b f) =

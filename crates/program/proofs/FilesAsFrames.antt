@@ -12,13 +12,14 @@ use Rattle.text.specs.Lines.{lines, numbers, Bytes, lineOf}
 use Rattle.text.proofs.RoundTrip.{numbers-hex, text-of}
 use Rattle.text.proofs.LinesSplit.{afterLine, lines-hex}
 use Rattle.program.specs.Writing.{text}
-use Rattle.program.specs.Reading.{Progress, Outcome, accepted, refused, decided, judge, after, readFrom}
+use Rattle.program.specs.Reading.{Progress, Outcome, refused, decided, judge, after, finished, readFrom, rowFirst, rowsFrom}
+use Rattle.rows.specs.Rows.{TableRow}
 use Rattle.program.specs.declared.Verdict.the-variants.{Accepted}
 use Rattle.program.proofs.ReadingTurns.{turn, has-numbers}
 
 -- reading, on frames
 unfoldable pub readFrames : Progress → List (List ℕ) → Outcome
-readFrames s [] = cond (s .ended) (accepted (s .program)) (refused 8 (s .frames + 1))
+readFrames s [] = cond (s .ended) (finished (s .rows) (s .program)) (refused 8 (s .frames + 1))
 readFrames s (f ∷ fs) = decided s (judge s (lineOf f)) (readFrames (after s (lineOf f)) fs)
 
 -- every number of every frame fits a byte
@@ -33,6 +34,19 @@ read-text [] s b = refl
 read-text (f ∷ fs) s b =
     rw (append-assoc (hex f) (10 ∷ []) (text fs), lines-hex f (text fs), numbers-hex f [] (b .0))
     (ap (decided s (judge s (lineOf f))) (read-text fs (after s (lineOf f)) (b .1)))
+
+-- the rows of some frames
+unfoldable pub rowsOf : List (List ℕ) → List TableRow
+rowsOf [] = []
+rowsOf (f ∷ fs) = rowFirst (lineOf f) (rowsOf fs)
+
+-- the rows of a text are those of its frames
+pub rows-text : (fs : List (List ℕ)) → Frames fs → rowsFrom (lines (text fs)) ≡ rowsOf fs
+unfolding text rowsOf rowsFrom lines Frames
+rows-text [] b = refl
+rows-text (f ∷ fs) b =
+    rw (append-assoc (hex f) (10 ∷ []) (text fs), lines-hex f (text fs), numbers-hex f [] (b .0))
+    (ap (rowFirst (lineOf f)) (rows-text fs (b .1)))
 
 -- an accepted line is before the end and has no fault, and the rest is accepted
 pub record Going (s : Progress) (n : ℕ) (rest : Outcome) : Type 0 where

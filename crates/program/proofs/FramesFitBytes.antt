@@ -1,24 +1,25 @@
--- The numbers of a well-formed program's frames fit a byte.
-use mathlib.Core.Path.{_≡_, refl}
-use mathlib.Core.Bool.{Bool, true, false, _&&_, _||_}
+-- The numbers of a well-formed program's frames fit a byte, and none of these frames is a row.
+use mathlib.Core.Path.{_≡_, refl, ap}
+use mathlib.Core.Bool.{Bool, true, false, cond, _&&_, _||_}
 use mathlib.Core.List.{List, [], _∷_, _++_, map}
 use Prim.Native.Nat.{ℕ, _+_, _≤_, _<_}
 use native.Mathlib.Omega.{arith}
-use lib.Dec.{ltb, leb}
+use lib.Dec.{ltb, leb, eqb}
 use lib.ListN.{length, getD}
 use borrow.Author.Tests.{ltb-true}
-use Rattle.text.specs.Lines.{Bytes}
+use Rattle.text.specs.Lines.{Bytes, lineOf}
 use Rattle.automaton.specs.Automaton.{Transition}
 use Rattle.program.specs.Sizes.{maxFrames}
 use Rattle.program.specs.Program.{Edge, Program, within, placed, labelFits, edgeFits, transitionFits}
-use Rattle.program.specs.Frames.{edgeFrame, transitionFrame, initialFrame, rejectingFrame, endFrame}
+use Rattle.program.specs.Frames.{kind, edgeFrame, transitionFrame, initialFrame, rejectingFrame, endFrame}
+use Rattle.program.specs.Reading.{rowIn}
 use Rattle.program.specs.WellFormed.{All, WellFormed}
 use Rattle.program.specs.Writing.{nodesFrames, framesOf}
 use Rattle.program.proofs.SectionsAscend.{all-at}
 use Rattle.program.proofs.LinesJudged.{at-most}
 use Rattle.base.proofs.Bools.{both}
 use Rattle.program.proofs.ProgramLimits.{Limits, length-frames, well-formed-limits}
-use Rattle.program.proofs.FilesAsFrames.{Frames}
+use Rattle.program.proofs.FilesAsFrames.{Frames, rowsOf}
 
 bytes-first : (f : List ℕ) (fs : List (List ℕ)) → Bytes f → Frames fs → Frames (f ∷ fs)
 unfolding Frames
@@ -45,6 +46,41 @@ label-small r a x f h i = go (ltb x a) refl f
     go : (t : Bool) → ltb x a ≡ t → t || (leb 0x40 x && ltb x (0x40 + r)) ≡ true → x < 80
     go true e f = omega (arith, ltb-true x a e)
     go false e f = omega (arith, ltb-true x (0x40 + r) (both (leb 0x40 x) _ f .1))
+
+-- ---- no frame of a program is a row
+
+rows-append : (fs gs : List (List ℕ)) → rowsOf fs ≡ [] → rowsOf gs ≡ [] → rowsOf (fs ++ gs) ≡ []
+unfolding rowsOf
+rows-append [] gs a b = b
+rows-append (f ∷ fs) gs a b = go (eqb (kind (lineOf f)) 5) (λ e. rows-append fs gs e b) a
+  where
+    go : (t : Bool) → (rowsOf fs ≡ [] → rowsOf (fs ++ gs) ≡ []) → cond t (rowIn (lineOf f) ∷ rowsOf fs) (rowsOf fs) ≡ []
+        → cond t (rowIn (lineOf f) ∷ rowsOf (fs ++ gs)) (rowsOf (fs ++ gs)) ≡ []
+    go true on a = absurd (let z = ap length a in omega arith)
+    go false on a = on a
+
+rows-map : {A : Type 0} (frame : A → List ℕ) → ((x : A) → eqb (kind (lineOf (frame x))) 5 ≡ false) → (xs : List A) → rowsOf (map frame xs) ≡ []
+unfolding rowsOf
+rows-map frame h [] = refl
+rows-map frame h (x ∷ xs) = rw (h x, rows-map frame h xs)
+
+rows-nodes : (f : ℕ) (ns : List ℕ) → rowsOf (nodesFrames f ns) ≡ []
+unfolding rowsOf nodesFrames
+rows-nodes f [] = refl
+rows-nodes f (n ∷ ns) = rows-nodes (f + 1) ns
+
+pub no-row-framed : (p : Program) → rowsOf (framesOf p ++ endFrame (length (framesOf p)) ∷ []) ≡ []
+unfolding rowsOf framesOf
+no-row-framed p =
+    rows-append (framesOf p) (endFrame (length (framesOf p)) ∷ [])
+    (rows-append (nodesFrames 0 (p .nodes)) _ (rows-nodes 0 (p .nodes))
+    (rows-append (map edgeFrame (p .edges)) _ (rows-map edgeFrame (λ x. refl) (p .edges))
+    (rows-append (map transitionFrame (p .automaton .transitions)) _ (rows-map transitionFrame (λ x. refl) (p .automaton .transitions))
+    (rows-append (map initialFrame (p .automaton .initial)) _ (rows-map initialFrame (λ x. refl) (p .automaton .initial))
+    (rows-map rejectingFrame (λ x. refl) (p .automaton .rejecting))))))
+    refl
+
+-- ---- for a well-formed program
 
 module _ (p : Program) (w : WellFormed p) where
   limit : Limits p

@@ -23,7 +23,7 @@ use Rattle.program.proofs.FilesAsFrames.{readFrames}
 
 -- before the end, with n frames read
 abbrev at : ℕ → ℕ → Program → Progress
-at last n p = record { last = last; frames = n; ended = false; program = p }
+at last n p = record { last = last; frames = n; ended = false; rows = []; program = p }
 
 -- reading these frames leads to n frames and this program, the last key below a bound
 record Leads (s : Progress) (fs : List (List ℕ)) (n : ℕ) (p : Program) (top : ℕ) : Type 0 where
@@ -97,69 +97,69 @@ module _ (p : Program) (w : WellFormed p) where
   here = eq-eqb (length (p .nodes)) (p .routines) (w .complete)
 
   -- the routine frames run by their number
-  node-clean : (last n : ℕ) (done : List ℕ) (x : ℕ) → 0 < n → last < keyOf 2 (packed (length done) x 0 0) → within 2 16 x ≡ true → length done < p .routines
+  node-clean : (last n : ℕ) (done : List ℕ) (x : ℕ) → 0 < n → last < keyOf 2 (packed (length done) x 0 0) 0 → within 2 16 x ≡ true → length done < p .routines
       → judge (at last n (made p done [] [] [] [])) (lineOf (nodesFrame (length done) x)) ≡ 0
   unfolding judge judgeAs
   node-clean last n done x h z f c =
-      rw (lt-ltb last (keyOf 2 (packed (length done) x 0 0)) z, lt-ltb 0 n h, eq-eqb (length done) (length done) refl, lt-ltb (length done) (p .routines) c, f)
+      rw (lt-ltb last (keyOf 2 (packed (length done) x 0 0) 0) z, lt-ltb 0 n h, eq-eqb (length done) (length done) refl, lt-ltb (length done) (p .routines) c, f)
 
-  node-on : (x : ℕ) (ns done : List ℕ) (last n : ℕ) → 0 < n → last < keyOf 2 (packed (length done) 0 0 0) → within 2 16 x ≡ true → length done < p .routines
-      → Leads (at (keyOf 2 (packed (length done) x 0 0)) (n + 1) (made p (done ++ x ∷ []) [] [] [] [])) (nodesFrames (length (done ++ x ∷ [])) ns) (n + 1 + length ns)
-      (made p (done ++ x ∷ [] ++ ns) [] [] [] []) (keyOf 3 0)
-      → Leads (at last n (made p done [] [] [] [])) (nodesFrames (length done) (x ∷ ns)) (n + length (x ∷ ns)) (made p (done ++ x ∷ ns) [] [] [] []) (keyOf 3 0)
+  node-on : (x : ℕ) (ns done : List ℕ) (last n : ℕ) → 0 < n → last < keyOf 2 (packed (length done) 0 0 0) 0 → within 2 16 x ≡ true → length done < p .routines
+      → Leads (at (keyOf 2 (packed (length done) x 0 0) 0) (n + 1) (made p (done ++ x ∷ []) [] [] [] [])) (nodesFrames (length (done ++ x ∷ [])) ns) (n + 1 + length ns)
+      (made p (done ++ x ∷ [] ++ ns) [] [] [] []) (keyOf 3 0 0)
+      → Leads (at last n (made p done [] [] [] [])) (nodesFrames (length done) (x ∷ ns)) (n + length (x ∷ ns)) (made p (done ++ x ∷ ns) [] [] [] []) (keyOf 3 0 0)
   unfolding nodesFrames after afterAs
   node-on x ns done last n h z f c r =
       let e : n + 1 + length ns ≡ n + length (x ∷ ns) = omega arith in
       first (at last n (made p done [] [] [] [])) _ (nodesFrame (length done) x) (nodesFrames (length done + 1) ns) refl (node-clean last n done x h (omega arith) f c)
       refl (rw (append-snoc done x ns, e, length-append done (x ∷ [])) at r)
 
-  nodes-on : (ns done : List ℕ) (last n : ℕ) → 0 < n → last < keyOf 2 (packed (length done) 0 0 0) → All (within 2 16) ns → length done + length ns ≡ p .routines
-      → Leads (at last n (made p done [] [] [] [])) (nodesFrames (length done) ns) (n + length ns) (made p (done ++ ns) [] [] [] []) (keyOf 3 0)
+  nodes-on : (ns done : List ℕ) (last n : ℕ) → 0 < n → last < keyOf 2 (packed (length done) 0 0 0) 0 → All (within 2 16) ns → length done + length ns ≡ p .routines
+      → Leads (at last n (made p done [] [] [] [])) (nodesFrames (length done) ns) (n + length ns) (made p (done ++ ns) [] [] [] []) (keyOf 3 0 0)
   unfolding All nodesFrames
   nodes-on [] done last n h z a c =
       let e : n + 0 ≡ n = omega arith in
       record { last = last; low = omega (arith, limit); reads = λ rest. rw (append-nil, e) }
   nodes-on (x ∷ ns) done last n h z a c =
       node-on x ns done last n h z (a .0) (omega arith)
-      (nodes-on ns (done ++ x ∷ []) (keyOf 2 (packed (length done) x 0 0)) (n + 1) (omega arith) (rw length-append (omega (arith, at-most 2 16 x (a .0)))) (a .1) (rw length-append (omega arith)))
+      (nodes-on ns (done ++ x ∷ []) (keyOf 2 (packed (length done) x 0 0) 0) (n + 1) (omega arith) (rw length-append (omega (arith, at-most 2 16 x (a .0)))) (a .1) (rw length-append (omega arith)))
 
-  after-nodes : (last : ℕ) → last < keyOf 3 0 → Leads (at last (1 + length (p .nodes)) (made p (p .nodes) [] [] [] []))
+  after-nodes : (last : ℕ) → last < keyOf 3 0 0 → Leads (at last (1 + length (p .nodes)) (made p (p .nodes) [] [] [] []))
       (map edgeFrame (p .edges) ++ (map transitionFrame (p .automaton .transitions) ++ (map initialFrame (p .automaton .initial) ++ map rejectingFrame (p .automaton .rejecting))))
-      (frameCount p) p (keyOf 7 0)
+      (frameCount p) p (keyOf 8 0 0)
   unfolding judge judgeAs after afterAs
   after-nodes last z =
       let ns = p .nodes in let es = p .edges in let ts = p .automaton .transitions in let is = p .automaton .initial in let rs = p .automaton .rejecting in
       let state : ℕ → Bool = λ q. ltb q (p .automaton .states) in
       followed (map edgeFrame es) _
-      (section edgeFrame edgeKey (λ xs. made p ns xs [] [] []) (edgeFits p) (keyOf 3 0) (keyOf 4 0) (λ x. omega arith) (λ x f. omega (arith, edge-bytes p w x f))
+      (section edgeFrame edgeKey (λ xs. made p ns xs [] [] []) (edgeFits p) (keyOf 3 0 0) (keyOf 4 0 0) (λ x. omega arith) (λ x f. omega (arith, edge-bytes p w x f))
       (λ last n done x h z f c. rw (lt-ltb last (edgeKey x) z, lt-ltb 0 n h, here, f, lt-leb 256 (length done) c))
       (λ last n done x. refl) es last _ (omega arith) z (omega arith) (w .edges-ascend) (w .edges-fit) (w .edges-limited))
       (λ last z. followed (map transitionFrame ts) _
-      (section transitionFrame transitionKey (λ xs. made p ns es xs [] []) (transitionFits (p .automaton)) (keyOf 4 0) (keyOf 5 0) (λ x. omega arith) (λ x f. omega (arith, transition-bytes p w x f))
+      (section transitionFrame transitionKey (λ xs. made p ns es xs [] []) (transitionFits (p .automaton)) (keyOf 4 0 0) (keyOf 6 0 0) (λ x. omega arith) (λ x f. omega (arith, transition-bytes p w x f))
       (λ last n done x h z f c. rw (lt-ltb last (transitionKey x) z, lt-ltb 0 n h, here, f, lt-leb 256 (length done) c))
       (λ last n done x. refl) ts last _ (omega arith) z (omega arith) (w .transitions-ascend) (w .transitions-fit) (w .transitions-limited))
       (λ last z. followed (map initialFrame is) _
-      (section initialFrame initialKey (λ xs. made p ns es ts xs []) state (keyOf 5 0) (keyOf 6 0) (λ x. omega arith) (λ x f. omega (arith, state-bytes p w 0x49 x (omega arith) f))
+      (section initialFrame initialKey (λ xs. made p ns es ts xs []) state (keyOf 6 0 0) (keyOf 7 0 0) (λ x. omega arith) (λ x f. omega (arith, state-bytes p w 0x49 x (omega arith) f))
       (λ last n done x h z f c. rw (lt-ltb last (initialKey x) z, lt-ltb 0 n h, here, f))
       (λ last n done x. refl) is last _ (omega arith) z (omega arith) (w .initial-ascend) (w .initial-fit) (omega (arith, limit)))
       (λ last z.
-      section rejectingFrame rejectingKey (λ xs. made p ns es ts is xs) state (keyOf 6 0) (keyOf 7 0) (λ x. omega arith) (λ x f. omega (arith, state-bytes p w 0x46 x (omega arith) f))
+      section rejectingFrame rejectingKey (λ xs. made p ns es ts is xs) state (keyOf 7 0 0) (keyOf 8 0 0) (λ x. omega arith) (λ x f. omega (arith, state-bytes p w 0x46 x (omega arith) f))
       (λ last n done x h z f c. rw (lt-ltb last (rejectingKey x) z, lt-ltb 0 n h, here, f))
       (λ last n done x. refl) rs last _ (omega arith) z (omega arith) (w .rejecting-ascend) (w .rejecting-fit) (omega (arith, limit)))))
 
-  frames-read : Leads start (framesOf p) (frameCount p) p (keyOf 7 0)
+  frames-read : Leads start (framesOf p) (frameCount p) p (keyOf 8 0 0)
   unfolding framesOf judge judgeAs after afterAs
   frames-read =
       let r = p .routines in let q = p .automaton .states in let a = p .automaton .actions in
-      first start (at (keyOf 1 (packed r q a 0)) 1 (made p [] [] [] [] [])) (headerFrame r q a) _ refl
-      (rw (lt-ltb 0 (keyOf 1 (packed r q a 0)) (omega arith), w .counts-fit)) refl
+      first start (at (keyOf 1 (packed r q a 0) 0) 1 (made p [] [] [] [] [])) (headerFrame r q a) _ refl
+      (rw (lt-ltb 0 (keyOf 1 (packed r q a 0) 0) (omega arith), w .counts-fit)) refl
       (followed (nodesFrames 0 (p .nodes)) _ (nodes-on (p .nodes) [] _ 1 (omega arith) (omega (arith, limit)) (w .nodes-fit) (omega (arith, w .complete))) after-nodes)
 
-  end-read : (last n : ℕ) → 0 < n → last < keyOf 7 0 → readFrames (at last n p) (endFrame n ∷ []) ≡ accepted p
+  end-read : (last n : ℕ) → 0 < n → last < keyOf 8 0 0 → readFrames (at last n p) (endFrame n ∷ []) ≡ accepted p
   unfolding readFrames judge judgeAs after afterAs
   end-read last n h z =
       let e : n / 256 * 256 + n % 256 ≡ n = omega arith in
-      rw (lt-ltb last (keyOf 7 (packed (n / 256) (n % 256) 0 0)) (omega arith), lt-ltb 0 n h, here, eq-eqb _ n e)
+      rw (lt-ltb last (keyOf 8 (packed (n / 256) (n % 256) 0 0) 0) (omega arith), lt-ltb 0 n h, here, eq-eqb _ n e)
 
   pub again : readFrames start (framesOf p ++ endFrame (length (framesOf p)) ∷ []) ≡ accepted p
   again = rw (length-frames p) (frames-read .reads _ ∙ end-read (frames-read .last) _ (omega arith) (frames-read .low))

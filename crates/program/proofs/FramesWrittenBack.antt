@@ -1,6 +1,7 @@
 -- The program of accepted frames is written as these frames.
 use mathlib.Core.Path.{_≡_, refl, sym, ap, _∙_}
 use mathlib.Core.Bool.{Bool, true, false, cond}
+use mathlib.Core.Logic.{_≢_}
 use mathlib.Core.Option.{some}
 use mathlib.Core.List.{List, [], _∷_, _++_, map, append-nil, append-assoc, map-append}
 use Prim.Native.Nat.{ℕ, zero, suc, _+_, _-_, _/_, _%_, _≤_, _<_}
@@ -10,18 +11,20 @@ use lib.Dec.{eqb}
 use borrow.Author.Tests.{eqb-true, ne-eqb}
 use lib.ListN.{length, getD, length-append, drop-of-length-le}
 use lib.Seq.{append-snoc}
-use Rattle.text.specs.Lines.{lines, Bytes, pad, lineOf}
+use Rattle.text.specs.Lines.{lines, Bytes, pad, maxNumbers, lineOf}
 use Rattle.text.specs.declared.Line.{Line}
 use Rattle.program.specs.Program.{Program}
-use Rattle.program.specs.Frames.{kindOrder, size, num, kind, word, keyOf, nodesFrame, edgeFrame, transitionFrame, initialFrame, rejectingFrame, endFrame, edgeKey, transitionKey, initialKey, rejectingKey}
+use Rattle.program.specs.Frames.{kindOrder, size, num, kind, word, rest, keyOf, nodesFrame, edgeFrame, transitionFrame, initialFrame, rejectingFrame, endFrame, edgeKey, transitionKey, initialKey, rejectingKey}
 use Rattle.program.specs.WellFormed.{WellFormed}
-use Rattle.program.specs.Writing.{nodesFrames, framesOf, text}
-use Rattle.program.specs.Reading.{Progress, start, accepted, refused, judge, programAfter, afterAs, after, readFrom, readFile}
+use Rattle.program.specs.Writing.{nodesFrames, framesOf, text, written}
+use Rattle.program.specs.Reading.{Progress, start, rowIn, more, refused, judge, programAfter, afterAs, after, pairsOf, tableDecides, finished, readFrom, readFile, rowsIn}
+use Rattle.rows.specs.Rows.{TableRow, tableRefusal, tableTransitions}
 use Rattle.program.specs.declared.Verdict.the-variants.{Accepted}
 use Rattle.program.proofs.SectionsAscend.{Rising, none-yet}
 use Rattle.program.proofs.LinesJudged.{padded, either, byteOf, kind-ordered, by-kind, Met, met}
-use Rattle.program.proofs.ProgressSound.{Begun, Sound, start-sound, after-sound, sound-accepted}
-use Rattle.program.proofs.FilesAsFrames.{readFrames, Frames, going, read-text, accepted-text}
+use Rattle.program.proofs.ProgressSound.{Begun, Sound, start-sound, after-sound, ended-begun, sound-accepted}
+use Rattle.program.proofs.TableWellFormed.{table-well-formed}
+use Rattle.program.proofs.FilesAsFrames.{readFrames, rowsOf, Frames, going, read-text, rows-text, accepted-text}
 
 -- ---- a frame, from the line that is kept of it
 
@@ -40,16 +43,16 @@ spelled zero (x ∷ f) h = absurd (omega arith)
 spelled (suc m) [] h = refl
 spelled (suc m) (x ∷ f) h = ap (λ (t : List ℕ). x ∷ t) (spelled m f (omega arith))
 
-size-small : (k : ℕ) → size k ≤ 5
-size-small k = either 5 (eqb k 1) 4 _ (omega arith) (either 5 (eqb k 2) 3 _ (omega arith) (either 5 (eqb k 3) 5 _ (omega arith)
-    (either 5 (eqb k 4) 4 _ (omega arith) (either 5 (eqb k 7) 3 2 (omega arith) (omega arith)))))
+size-small : (k : ℕ) → size k ≤ 7
+size-small k = either 7 (eqb k 1) 4 _ (omega arith) (either 7 (eqb k 2) 3 _ (omega arith) (either 7 (eqb k 3) 5 _ (omega arith)
+    (either 7 (eqb k 4) 4 _ (omega arith) (either 7 (eqb k 5) 7 _ (omega arith) (either 7 (eqb k 8) 3 2 (omega arith) (omega arith))))))
 
 -- a frame without a fault is the one of its line
 frame-is : (s : Progress) (f : List ℕ) → Met s (kind (lineOf f)) (lineOf f) → f ≡ frameAs (kind (lineOf f)) (lineOf f)
 frame-is s [] m = absurd (omega (arith, m .known))
 frame-is s (x ∷ f) m =
     let e : size (kindOrder x) - 1 ≡ length f = omega (arith, m .counted) in
-    rw (e, ← (kind-ordered x .byte (m .known))) (ap (λ (t : List ℕ). x ∷ t) (spelled 5 f (omega (arith, m .counted, size-small (kindOrder x)))))
+    rw (e, ← (kind-ordered x .byte (m .known))) (ap (λ (t : List ℕ). x ∷ t) (spelled 7 f (omega (arith, m .counted, size-small (kindOrder x)))))
 
 bytes-small : (m : ℕ) (f : List ℕ) (i : ℕ) → Bytes f → getD (pad m f) i 0 < 256
 bytes-small zero f i b = omega arith
@@ -74,18 +77,19 @@ nodes-more f (m ∷ ns) n =
 
 module _ (s : Progress) (l : Line) (bytes : (i : ℕ) → num l i < 256) (b : Begun s) where
   -- sections after the frame's own are empty
-  empty : {A : Type 0} (key : A → ℕ) (xs : List A) (j k : ℕ) → ((x : A) → keyOf j 0 ≤ key x) → k < j → s .last < keyOf k (word l) → Rising 0 (map key xs) (s .last) → xs ≡ []
-  empty key xs j k h z m r = none-yet key 0 (s .last) xs (λ x. omega (arith, h x, bytes 1, bytes 2, bytes 3, bytes 4)) r
+  empty : {A : Type 0} (key : A → ℕ) (xs : List A) (j k : ℕ) → ((x : A) → keyOf j 0 0 ≤ key x) → k < j → s .last < keyOf k (word l) (rest l) → Rising 0 (map key xs) (s .last) → xs ≡ []
+  empty key xs j k h z m r = none-yet key 0 (s .last) xs (λ x. omega (arith, h x, bytes 1, bytes 2, bytes 3, bytes 4, bytes 5, bytes 6, bytes 7)) r
 
-  one-more : (k : ℕ) → 1 < k → k ≤ 7 → Met s k l → sections (programAfter (s .program) k l) ≡ cond (eqb k 7) (sections (s .program)) (sections (s .program) ++ frameAs k l ∷ [])
-  one-more = by-kind (λ k. Met s k l → sections (programAfter (s .program) k l) ≡ cond (eqb k 7) (sections (s .program)) (sections (s .program) ++ frameAs k l ∷ []))
-      (λ m. rw (no-edges 2 m (omega arith), no-transitions 2 m (omega arith), no-initial 2 m (omega arith), no-rejecting 2 m (omega arith), nodes-more 0 (s .program .nodes) (num l 2))
+  one-more : (k : ℕ) → 1 < k → k ≤ 8 → Met s k l → eqb k 5 ≡ false → sections (programAfter (s .program) k l) ≡ cond (eqb k 8) (sections (s .program)) (sections (s .program) ++ frameAs k l ∷ [])
+  one-more = by-kind (λ k. Met s k l → eqb k 5 ≡ false → sections (programAfter (s .program) k l) ≡ cond (eqb k 8) (sections (s .program)) (sections (s .program) ++ frameAs k l ∷ []))
+      (λ m t. rw (no-edges 2 m (omega arith), no-transitions 2 m (omega arith), no-initial 2 m (omega arith), no-rejecting 2 m (omega arith), nodes-more 0 (s .program .nodes) (num l 2))
       (simp (append-nil, zero-add, m .nodes refl .0)))
-      (λ m. rw (no-transitions 3 m (omega arith), no-initial 3 m (omega arith), no-rejecting 3 m (omega arith)) (simp (map-append, append-nil, append-assoc)))
-      (λ m. rw (no-initial 4 m (omega arith), no-rejecting 4 m (omega arith)) (simp (map-append, append-nil, append-assoc)))
-      (λ m. rw (no-rejecting 5 m (omega arith)) (simp (map-append, append-nil, append-assoc)))
-      (λ m. simp (map-append, append-assoc))
-      (λ m. refl)
+      (λ m t. rw (no-transitions 3 m (omega arith), no-initial 3 m (omega arith), no-rejecting 3 m (omega arith)) (simp (map-append, append-nil, append-assoc)))
+      (λ m t. rw (no-initial 4 m (omega arith), no-rejecting 4 m (omega arith)) (simp (map-append, append-nil, append-assoc)))
+      (λ m t. absurd (let z : _≡_ {A = ℕ} 0 1 = cc in omega arith))
+      (λ m t. rw (no-rejecting 6 m (omega arith)) (simp (map-append, append-nil, append-assoc)))
+      (λ m t. simp (map-append, append-assoc))
+      (λ m t. refl)
     where
       no-edges : (k : ℕ) → Met s k l → k < 3 → s .program .edges ≡ []
       no-edges k m z = empty edgeKey _ 3 k (λ x. omega arith) z (m .later) (b .edges .rise)
@@ -93,16 +97,16 @@ module _ (s : Progress) (l : Line) (bytes : (i : ℕ) → num l i < 256) (b : Be
       no-transitions : (k : ℕ) → Met s k l → k < 4 → s .program .automaton .transitions ≡ []
       no-transitions k m z = empty transitionKey _ 4 k (λ x. omega arith) z (m .later) (b .transitions .rise)
 
-      no-initial : (k : ℕ) → Met s k l → k < 5 → s .program .automaton .initial ≡ []
-      no-initial k m z = empty initialKey _ 5 k (λ x. omega arith) z (m .later) (b .initial .rise)
+      no-initial : (k : ℕ) → Met s k l → k < 6 → s .program .automaton .initial ≡ []
+      no-initial k m z = empty initialKey _ 6 k (λ x. omega arith) z (m .later) (b .initial .rise)
 
-      no-rejecting : (k : ℕ) → Met s k l → k < 6 → s .program .automaton .rejecting ≡ []
-      no-rejecting k m z = empty rejectingKey _ 6 k (λ x. omega arith) z (m .later) (b .rejecting .rise)
+      no-rejecting : (k : ℕ) → Met s k l → k < 7 → s .program .automaton .rejecting ≡ []
+      no-rejecting k m z = empty rejectingKey _ 7 k (λ x. omega arith) z (m .later) (b .rejecting .rise)
 
-  frames-after : (k : ℕ) (f : List ℕ) → 1 < k → k ≤ 7 → Met s k l → f ≡ frameAs k l
-      → framesOf (programAfter (s .program) k l) ≡ cond (eqb k 7) (framesOf (s .program)) (framesOf (s .program) ++ f ∷ [])
+  frames-after : (k : ℕ) (f : List ℕ) → 1 < k → k ≤ 8 → Met s k l → eqb k 5 ≡ false → f ≡ frameAs k l
+      → framesOf (programAfter (s .program) k l) ≡ cond (eqb k 8) (framesOf (s .program)) (framesOf (s .program) ++ f ∷ [])
   unfolding framesOf
-  frames-after k f h j m e = rw (ne-eqb k 1 (λ i. omega arith), e) (go (eqb k 7) _ _ _ _ (one-more k h j m))
+  frames-after k f h j m t e = rw (ne-eqb k 1 (λ i. omega arith), e) (go (eqb k 8) _ _ _ _ (one-more k h j m t))
     where
       go : (t : Bool) (x : List ℕ) (a b c : List (List ℕ)) → a ≡ cond t b c → x ∷ a ≡ cond t (x ∷ b) (x ∷ c)
       go true x a b c e = ap (λ (d : List (List ℕ)). x ∷ d) e
@@ -113,69 +117,140 @@ module _ (s : Progress) (l : Line) (bytes : (i : ℕ) → num l i < 256) (b : Be
 -- these frames were read
 record Read (s : Progress) (done : List (List ℕ)) : Type 0 where
   count : length done ≡ s .frames
-  so-far : 0 < s .frames → s .ended ≡ false → framesOf (s .program) ≡ done
-  whole : s .ended ≡ true → framesOf (s .program) ++ endFrame (length (framesOf (s .program))) ∷ [] ≡ done
+  rows : s .rows ≡ rowsOf done
+  so-far : 0 < s .frames → s .ended ≡ false → s .rows ≡ [] → framesOf (s .program) ≡ done
+  whole : s .ended ≡ true → s .rows ≡ [] → framesOf (s .program) ++ endFrame (length (framesOf (s .program))) ∷ [] ≡ done
 
 nothing-read : Read start []
-nothing-read = record { count = refl; so-far = λ h e. absurd (omega arith); whole = λ e. absurd (let z : _≡_ {A = ℕ} 0 1 = cc in omega arith) }
+unfolding rowsOf
+nothing-read =
+    record {
+      count = refl;
+      rows = refl;
+      so-far = λ h e t. absurd (omega arith);
+      whole = λ e t. absurd (let z : _≡_ {A = ℕ} 0 1 = cc in omega arith);
+    }
+
+-- no row was there, and none has come
+no-row : (t : Bool) (x : TableRow) (xs : List TableRow) → more t x xs ≡ [] → (t ≡ false) × (xs ≡ [])
+no-row false x xs e = (refl, e)
+no-row true x [] e = absurd (let z : _≡_ {A = ℕ} 1 0 = ap length e in omega arith)
+no-row true x (y ∷ xs) e = absurd (let z = ap length e in omega arith)
+
+-- one frame more is one row more, if it is one
+rows-more : (fs : List (List ℕ)) (f : List ℕ) → rowsOf (fs ++ f ∷ []) ≡ more (eqb (kind (lineOf f)) 5) (rowIn (lineOf f)) (rowsOf fs)
+unfolding rowsOf
+rows-more [] f = by-kind-of (eqb (kind (lineOf f)) 5)
+  where
+    by-kind-of : (t : Bool) → cond t (rowIn (lineOf f) ∷ []) [] ≡ more t (rowIn (lineOf f)) []
+    by-kind-of true = refl
+    by-kind-of false = refl
+rows-more (g ∷ fs) f = rw (rows-more fs f) (through (eqb (kind (lineOf g)) 5) (eqb (kind (lineOf f)) 5))
+  where
+    through : (t u : Bool) → cond t (rowIn (lineOf g) ∷ more u (rowIn (lineOf f)) (rowsOf fs)) (more u (rowIn (lineOf f)) (rowsOf fs))
+        ≡ more u (rowIn (lineOf f)) (cond t (rowIn (lineOf g) ∷ rowsOf fs) (rowsOf fs))
+    through true true = refl
+    through true false = refl
+    through false true = refl
+    through false false = refl
 
 module _ (s : Progress) (done : List (List ℕ)) (f : List ℕ) (l : Line) (bytes : (i : ℕ) → num l i < 256) (g : Sound s) (r : Read s done) (o : s .ended ≡ false) where
   counted : length (done ++ f ∷ []) ≡ s .frames + 1
   counted = rw length-append (omega (arith, r .count))
 
-  header-read : Met s 1 l → f ≡ frameAs 1 l → Read (afterAs s 1 l) (done ++ f ∷ [])
+  -- the frame is a row of this line, or none, by its kind
+  abbrev RowBy : ℕ → Type 0
+  RowBy k = rowsOf (done ++ f ∷ []) ≡ more (eqb k 5) (rowIn l) (rowsOf done)
+
+  rows-after : (k : ℕ) → RowBy k → more (eqb k 5) (rowIn l) (s .rows) ≡ rowsOf (done ++ f ∷ [])
+  rows-after k t = rw (r .rows) (sym t)
+
+  header-read : Met s 1 l → f ≡ frameAs 1 l → RowBy 1 → Read (afterAs s 1 l) (done ++ f ∷ [])
   unfolding afterAs framesOf nodesFrames
-  header-read m e =
+  header-read m e t =
       let z = m .header refl .0 in
       let d : done ≡ [] = drop-of-length-le done {i = 0} (omega (arith, r .count)) in
       record {
         count = counted;
-        so-far = λ h n. rw (g .fresh z, d) (ap (λ (t : List ℕ). t ∷ []) (sym e));
-        whole = λ n. absurd (let z : _≡_ {A = ℕ} 0 1 = cc in omega arith);
+        rows = rows-after 1 t;
+        so-far = λ h n u. rw (g .fresh z, d) (ap (λ (t : List ℕ). t ∷ []) (sym e));
+        whole = λ n u. absurd (let z : _≡_ {A = ℕ} 0 1 = cc in omega arith);
       }
 
-  later-read : (k : ℕ) → 1 < k → k ≤ 7 → Met s k l → f ≡ frameAs k l → Read (afterAs s k l) (done ++ f ∷ [])
+  later-read : (k : ℕ) → 1 < k → k ≤ 8 → Met s k l → f ≡ frameAs k l → RowBy k → Read (afterAs s k l) (done ++ f ∷ [])
   unfolding afterAs
-  later-read k h j m e =
+  later-read k h j m e t =
       let z = m .begun h in
-      let w = frames-after s l bytes (g .begun z) k f h j m e in
-      let q = r .so-far z o in
+      let none : more (eqb k 5) (rowIn l) (s .rows) ≡ [] → (eqb k 5 ≡ false) × (s .rows ≡ []) = no-row (eqb k 5) (rowIn l) (s .rows) in
+      let w : (u : more (eqb k 5) (rowIn l) (s .rows) ≡ []) → framesOf (programAfter (s .program) k l) ≡ cond (eqb k 8) (framesOf (s .program)) (framesOf (s .program) ++ f ∷ []) =
+      λ u. frames-after s l bytes (g .begun z) k f h j m (none u .0) e in
+      let q : more (eqb k 5) (rowIn l) (s .rows) ≡ [] → framesOf (s .program) ≡ done = λ u. r .so-far z o (none u .1) in
       record {
         count = counted;
-        so-far = λ a n. (rw n at w) ∙ ap (λ (t : List (List ℕ)). t ++ f ∷ []) q;
-        whole = λ n.
-            let i = eqb-true k 7 n in
+        rows = rows-after k t;
+        so-far = λ a n u. (rw n at (w u)) ∙ ap (λ (t : List (List ℕ)). t ++ f ∷ []) (q u);
+        whole = λ n u.
+            let i = eqb-true k 8 n in
             let x : length done / 256 ≡ num l 1 = omega (arith, m .end i, r .count, bytes 2) in
             let y : length done % 256 ≡ num l 2 = omega (arith, m .end i, r .count, bytes 2) in
-            rw ((rw n at w) ∙ q, x, y, e, i);
+            rw ((rw n at (w u)) ∙ q u, x, y, e, i);
       }
 
-  by-kind-read : (k : ℕ) → k ≤ 7 → Met s k l → f ≡ frameAs k l → Read (afterAs s k l) (done ++ f ∷ [])
-  by-kind-read zero j m e = absurd (omega (arith, m .known))
-  by-kind-read (suc zero) j m e = header-read m e
-  by-kind-read (suc (suc k)) j m e = later-read _ (omega arith) j m e
+  by-kind-read : (k : ℕ) → k ≤ 8 → Met s k l → f ≡ frameAs k l → RowBy k → Read (afterAs s k l) (done ++ f ∷ [])
+  by-kind-read zero j m e t = absurd (omega (arith, m .known))
+  by-kind-read (suc zero) j m e t = header-read m e t
+  by-kind-read (suc (suc k)) j m e t = later-read _ (omega arith) j m e t
 
 after-read : (s : Progress) (done : List (List ℕ)) (f : List ℕ) → Bytes f → Sound s → Read s done → s .ended ≡ false → judge s (lineOf f) ≡ 0
     → Read (after s (lineOf f)) (done ++ f ∷ [])
 unfolding judge after
 after-read s done f b g r o j =
     let m = met s (kind (lineOf f)) (lineOf f) j in
-    by-kind-read s done f (lineOf f) (λ i. bytes-small 6 f i b) g r o (kind (lineOf f)) (kind-ordered (num (lineOf f) 0) .small) m (frame-is s f m)
+    by-kind-read s done f (lineOf f) (λ i. bytes-small maxNumbers f i b) g r o (kind (lineOf f)) (kind-ordered (num (lineOf f) 0) .small) m (frame-is s f m) (rows-more done f)
 
 -- ---- to the end
 
--- the program is well-formed, and it is written as these frames and the end frame
-pub record WrittenAs (p : Program) (fs : List (List ℕ)) : Type 0 where
-  pub well-formed : WellFormed p
-  pub frames : framesOf p ++ endFrame (length (framesOf p)) ∷ [] ≡ fs
+-- the table of these rows is accepted, and its transitions are the program's
+pub record TableOf (p : Program) (rs : List TableRow) : Type 0 where
+  pub met : tableRefusal rs (pairsOf p) ≡ 0
+  pub transitions : p .automaton .transitions ≡ tableTransitions rs (pairsOf p)
 
-from : (fs done : List (List ℕ)) (s : Progress) → Frames fs → Sound s → Read s done → readFrames s fs .verdict ≡ Accepted → WrittenAs (readFrames s fs .program) (done ++ fs)
+-- the program is well-formed; without a row it is written as these frames, and with rows its transitions are the table's
+pub record ReadAs (p : Program) (fs : List (List ℕ)) : Type 0 where
+  pub well-formed : WellFormed p
+  pub frames : rowsOf fs ≡ [] → framesOf p ++ endFrame (length (framesOf p)) ∷ [] ≡ fs
+  pub table : rowsOf fs ≢ [] → TableOf p (rowsOf fs)
+
+-- every line is good
+ends : (s : Progress) (done : List (List ℕ)) → Sound s → Read s done → s .ended ≡ true → finished (s .rows) (s .program) .verdict ≡ Accepted
+    → ReadAs (finished (s .rows) (s .program) .program) done
+ends s done g r e h = go (s .rows) refl h
+  where
+    none : {A : Type 0} (x : TableRow) (rs : List TableRow) → s .rows ≡ x ∷ rs → rowsOf done ≡ [] → A
+    none x rs i u = absurd (let z : _≡_ {A = ℕ} 0 (suc (length rs)) = ap length (sym u ∙ sym (r .rows) ∙ i) in omega arith)
+
+    by-table : (x : TableRow) (rs : List TableRow) → s .rows ≡ x ∷ rs → (t : Bool) → eqb (tableRefusal (x ∷ rs) (pairsOf (s .program))) 0 ≡ t
+        → tableDecides t (tableRefusal (x ∷ rs) (pairsOf (s .program))) (x ∷ rs) (s .program) .verdict ≡ Accepted
+        → ReadAs (tableDecides t (tableRefusal (x ∷ rs) (pairsOf (s .program))) (x ∷ rs) (s .program) .program) done
+    by-table x rs i false t h = absurd (let z : _≡_ {A = ℕ} 0 1 = cc in omega arith)
+    by-table x rs i true t h =
+        record {
+          well-formed = table-well-formed (s .program) (sound-accepted s g e) (x ∷ rs) (rw i at (ended-begun s g e .rows-fit));
+          frames = none x rs i;
+          table = λ u. rw (← (r .rows), i) (record { met = eqb-true _ 0 t; transitions = refl });
+        }
+
+    go : (rs : List TableRow) → s .rows ≡ rs → finished rs (s .program) .verdict ≡ Accepted → ReadAs (finished rs (s .program) .program) done
+    go [] i h = record { well-formed = sound-accepted s g e; frames = λ u. r .whole e i; table = λ n. absurd (n (sym (r .rows) ∙ i)) }
+    go (x ∷ rs) i h = by-table x rs i (eqb (tableRefusal (x ∷ rs) (pairsOf (s .program))) 0) refl h
+
+from : (fs done : List (List ℕ)) (s : Progress) → Frames fs → Sound s → Read s done → readFrames s fs .verdict ≡ Accepted → ReadAs (readFrames s fs .program) (done ++ fs)
 unfolding readFrames Frames
 from [] done s b g r h = rw append-nil (go (s .ended) refl h)
   where
-    go : (t : Bool) → s .ended ≡ t → cond t (accepted (s .program)) (refused 8 (s .frames + 1)) .verdict ≡ Accepted
-        → WrittenAs (cond t (accepted (s .program)) (refused 8 (s .frames + 1)) .program) done
-    go true e h = record { well-formed = sound-accepted s g e; frames = r .whole e }
+    go : (t : Bool) → s .ended ≡ t → cond t (finished (s .rows) (s .program)) (refused 8 (s .frames + 1)) .verdict ≡ Accepted
+        → ReadAs (cond t (finished (s .rows) (s .program)) (refused 8 (s .frames + 1)) .program) done
+    go true e h = ends s done g r e h
     go false e h = absurd (let z : _≡_ {A = ℕ} 0 1 = cc in omega arith)
 from (f ∷ fs) done s b g r h =
     let w = going s (judge s (lineOf f)) (readFrames (after s (lineOf f)) fs) h in
@@ -183,13 +258,29 @@ from (f ∷ fs) done s b g r h =
     (from fs (done ++ f ∷ []) (after s (lineOf f)) (b .1) (after-sound s (lineOf f) (padded (some f)) g (w .open-yet) (w .no-fault))
     (after-read s done f (b .0) g r (w .open-yet) (w .no-fault)) (w .rest-accepted))
 
-pub frames-back : (fs : List (List ℕ)) → Frames fs → readFrames start fs .verdict ≡ Accepted → WrittenAs (readFrames start fs .program) fs
+pub frames-back : (fs : List (List ℕ)) → Frames fs → readFrames start fs .verdict ≡ Accepted → ReadAs (readFrames start fs .program) fs
 frames-back fs b h = from fs [] start b start-sound nothing-read h
 
--- an accepted file is the text of frames that its program is written as
-pub accepted-frames : (file : List ℕ) → readFile file .verdict ≡ Accepted → (fs : List (List ℕ)) × (file ≡ text fs) × WrittenAs (readFile file .program) fs
-unfolding readFile
-accepted-frames file h =
-    let w = accepted-text file start h in
-    let e = ap (λ (f : List ℕ). readFrom start (lines f)) (w .1) ∙ read-text (w .0) start (w .2) in
-    (w .0, w .1, rw e (frames-back (w .0) (w .2) (rw e at h)))
+-- ---- an accepted file
+
+module _ (file : List ℕ) where
+  abbrev itsProgram : Program
+  itsProgram = readFile file .program
+
+  pub record FileRead : Type 0 where
+    pub well-formed : WellFormed itsProgram
+    pub comes-back : rowsIn file ≡ [] → written itsProgram ≡ file
+    pub table : rowsIn file ≢ [] → TableOf itsProgram (rowsIn file)
+
+  pub accepted-file : readFile file .verdict ≡ Accepted → FileRead
+  unfolding readFile written
+  accepted-file h =
+      let w = accepted-text file start h in
+      let e = ap (λ (f : List ℕ). readFrom start (lines f)) (w .1) ∙ read-text (w .0) start (w .2) in
+      let t : rowsIn file ≡ rowsOf (w .0) = ap rowsIn (w .1) ∙ rows-text (w .0) (w .2) in
+      let r : ReadAs (readFrom start (lines file) .program) (w .0) = rw e (frames-back (w .0) (w .2) (rw e at h)) in
+      record {
+        well-formed = r .well-formed;
+        comes-back = λ u. ap text (r .frames (sym t ∙ u)) ∙ sym (w .1);
+        table = λ u. rw t (r .table (λ z. u (t ∙ z)));
+      }

@@ -7,6 +7,7 @@ pub mod ProgressSound
 pub mod RefusalsSmall
 pub mod FilesAsFrames
 pub mod FramesFitBytes
+pub mod TableWellFormed
 pub mod FramesWrittenBack
 pub mod FramesReadAgain
 pub mod Theorems

@@ -7,13 +7,14 @@ use Prim.Native.Nat.{ℕ, zero, suc, _+_, _*_, _≤_, _<_}
 use native.Mathlib.Omega.{arith}
 use lib.Dec.{ltb, leb, eqb}
 use lib.ListN.{length, getD}
-use borrow.Author.Tests.{ltb-true, leb-true, leb-false, eqb-true, eqb-false, not-false, lt-ltb, ne-eqb}
+use borrow.Author.Tests.{ltb-true, leb-true, leb-false, eqb-true, eqb-false, ltb-false, not-true, not-false, lt-ltb, ne-eqb}
 use Rattle.base.proofs.Bools.{both}
-use Rattle.text.specs.Lines.{pad, lineFrom}
+use Rattle.text.specs.Lines.{pad, maxNumbers, lineFrom}
 use Rattle.text.specs.declared.Line.{Line}
 use Rattle.program.specs.Program.{within, countsFit, edgeFits, transitionFits}
-use Rattle.program.specs.Frames.{kindOrder, size, num, word, keyOf}
-use Rattle.program.specs.Reading.{Progress, lowest, due, ordered, ranged, full, miscounted, edgeIn, judgeAs}
+use Rattle.program.specs.Frames.{kindOrder, size, num, word, rest, keyOf}
+use Rattle.program.specs.Reading.{Progress, lowest, due, inPlace, mixed, ordered, ranged, full, miscounted, edgeIn, rowIn, judgeAs}
+use Rattle.rows.specs.Rows.{rowFits}
 
 -- ---- lines as they are read
 
@@ -29,8 +30,8 @@ pad-past (suc n) (x ∷ xs) zero h = absurd (omega arith)
 pad-past (suc n) (x ∷ xs) (suc i) h = pad-past n xs i (omega arith)
 
 pub padded : (m : Option (List ℕ)) → Padded (lineFrom m)
-padded none = pad-past 6 []
-padded (some xs) = pad-past 6 xs
+padded none = pad-past maxNumbers []
+padded (some xs) = pad-past maxNumbers xs
 
 -- ---- tests
 
@@ -40,6 +41,10 @@ at-most lo hi x h = leb-true x hi (both (leb lo x) (leb x hi) h .1)
 pub either : (n : ℕ) (t : Bool) (a b : ℕ) → a ≤ n → b ≤ n → cond t a b ≤ n
 either n true a b h i = h
 either n false a b h i = i
+
+pub positive : (k : ℕ) → (k ≡ 0 → ⊥) → 0 < k
+positive zero h = absurd (h refl)
+positive (suc k) h = omega arith
 
 no-fault : (a b c d e f g : Bool) → lowest a b c d e f g ≡ 0 → (b ≡ false) × (c ≡ false) × (d ≡ false) × (e ≡ false) × (f ≡ false) × (g ≡ false)
 no-fault true b c d e f g h = absurd (omega arith)
@@ -55,21 +60,23 @@ no-fault false false false false false false false h = (refl, refl, refl, refl, 
 
 -- the byte of the kind at a place
 abbrev pub byteOf : ℕ → ℕ
-byteOf k = cond (eqb k 1) 0x50 (cond (eqb k 2) 0x52 (cond (eqb k 3) 0x53 (cond (eqb k 4) 0x54 (cond (eqb k 5) 0x49 (cond (eqb k 6) 0x46 0x45)))))
+byteOf k =
+    cond (eqb k 1) 0x50 (cond (eqb k 2) 0x52 (cond (eqb k 3) 0x53 (cond (eqb k 4) 0x54 (cond (eqb k 5) 0x55
+    (cond (eqb k 6) 0x49 (cond (eqb k 7) 0x46 0x45))))))
 
 pub record KindOrdered (n k : ℕ) : Type 0 where
-  pub small : k ≤ 7
+  pub small : k ≤ 8
   pub byte : 0 < k → n ≡ byteOf k
 
 pub kind-ordered : (n : ℕ) → KindOrdered n (kindOrder n)
 kind-ordered n =
     pick 0x50 1 _ refl (omega arith) (pick 0x52 2 _ refl (omega arith) (pick 0x53 3 _ refl (omega arith) (pick 0x54 4 _ refl (omega arith)
-    (pick 0x49 5 _ refl (omega arith) (pick 0x46 6 _ refl (omega arith) (pick 0x45 7 0 refl (omega arith) none))))))
+    (pick 0x55 5 _ refl (omega arith) (pick 0x49 6 _ refl (omega arith) (pick 0x46 7 _ refl (omega arith) (pick 0x45 8 0 refl (omega arith) none)))))))
   where
     none : KindOrdered n 0
     none = record { small = omega arith; byte = λ h. absurd (omega arith) }
 
-    pick : (b k rest : ℕ) → b ≡ byteOf k → k ≤ 7 → KindOrdered n rest → KindOrdered n (cond (eqb n b) k rest)
+    pick : (b k rest : ℕ) → b ≡ byteOf k → k ≤ 8 → KindOrdered n rest → KindOrdered n (cond (eqb n b) k rest)
     pick b k rest e h r = go (eqb n b) refl
       where
         go : (t : Bool) → eqb n b ≡ t → KindOrdered n (cond t k rest)
@@ -77,23 +84,24 @@ kind-ordered n =
         go false i = r
 
 -- what holds at each place but the header's holds at every such place
-pub by-kind : (P : ℕ → Type 0) → P 2 → P 3 → P 4 → P 5 → P 6 → P 7 → (k : ℕ) → 1 < k → k ≤ 7 → P k
-by-kind P b c d e f g zero h j = absurd (omega arith)
-by-kind P b c d e f g (suc zero) h j = absurd (omega arith)
-by-kind P b c d e f g (suc (suc zero)) h j = b
-by-kind P b c d e f g (suc (suc (suc zero))) h j = c
-by-kind P b c d e f g (suc (suc (suc (suc zero)))) h j = d
-by-kind P b c d e f g (suc (suc (suc (suc (suc zero))))) h j = e
-by-kind P b c d e f g (suc (suc (suc (suc (suc (suc zero)))))) h j = f
-by-kind P b c d e f g (suc (suc (suc (suc (suc (suc (suc zero))))))) h j = g
-by-kind P b c d e f g (suc (suc (suc (suc (suc (suc (suc (suc n)))))))) h j = absurd (omega arith)
+pub by-kind : (P : ℕ → Type 0) → P 2 → P 3 → P 4 → P 5 → P 6 → P 7 → P 8 → (k : ℕ) → 1 < k → k ≤ 8 → P k
+by-kind P b c d e f g i zero h j = absurd (omega arith)
+by-kind P b c d e f g i (suc zero) h j = absurd (omega arith)
+by-kind P b c d e f g i (suc (suc zero)) h j = b
+by-kind P b c d e f g i (suc (suc (suc zero))) h j = c
+by-kind P b c d e f g i (suc (suc (suc (suc zero)))) h j = d
+by-kind P b c d e f g i (suc (suc (suc (suc (suc zero))))) h j = e
+by-kind P b c d e f g i (suc (suc (suc (suc (suc (suc zero)))))) h j = f
+by-kind P b c d e f g i (suc (suc (suc (suc (suc (suc (suc zero))))))) h j = g
+by-kind P b c d e f g i (suc (suc (suc (suc (suc (suc (suc (suc zero)))))))) h j = i
+by-kind P b c d e f g i (suc (suc (suc (suc (suc (suc (suc (suc (suc n))))))))) h j = absurd (omega arith)
 
 -- ---- a line without a fault
 
 pub record Met (s : Progress) (k : ℕ) (l : Line) : Type 0 where
   pub known : 0 < k
   pub counted : l .count ≡ size k
-  pub later : s .last < keyOf k (word l)
+  pub later : s .last < keyOf k (word l) (rest l)
   pub header : k ≡ 1 → (s .frames ≡ 0) × (countsFit (num l 1) (num l 2) (num l 3) ≡ true)
   pub begun : 1 < k → 0 < s .frames
   pub nodes : k ≡ 2 → (num l 1 ≡ length (s .program .nodes)) × (num l 1 < s .program .routines) × (within 2 16 (num l 2) ≡ true)
@@ -102,9 +110,10 @@ pub record Met (s : Progress) (k : ℕ) (l : Line) : Type 0 where
   pub transition : k ≡ 4
       → (transitionFits (s .program .automaton) (record { before = num l 1; action = num l 2; after = num l 3 }) ≡ true)
       × (length (s .program .automaton .transitions) < 256)
-  pub initial : k ≡ 5 → ltb (num l 1) (s .program .automaton .states) ≡ true
-  pub rejecting : k ≡ 6 → ltb (num l 1) (s .program .automaton .states) ≡ true
-  pub end : k ≡ 7 → num l 1 * 256 + num l 2 ≡ s .frames
+  pub row : k ≡ 5 → (rowFits (s .program .automaton) (rowIn l) ≡ true) × (length (s .program .automaton .transitions) ≡ 0) × (length (s .rows) < 256)
+  pub initial : k ≡ 6 → ltb (num l 1) (s .program .automaton .states) ≡ true
+  pub rejecting : k ≡ 7 → ltb (num l 1) (s .program .automaton .states) ≡ true
+  pub end : k ≡ 8 → num l 1 * 256 + num l 2 ≡ s .frames
 
 begun-by : (a b c d e : Bool) → (a && b && c) || (d && b && e) ≡ true → b ≡ true
 begun-by a true c d e h = refl
@@ -126,14 +135,15 @@ unfolding judgeAs
 met s k l j =
     let p = s .program in
     let w = no-fault (eqb (l .count) 0) (eqb k 0) (not (eqb (l .count) (size k)))
-    (not (ordered (s .last) (s .frames) (p .routines) (length (p .nodes)) k l)) (not (ranged p k l))
-    (full (length (p .edges)) (length (p .automaton .transitions)) k) (miscounted (s .frames) k l) j in
-    let o = both (ltb (s .last) (keyOf k (word l))) _ (not-false _ (w .2)) in
+    (not (ordered (s .last) (s .frames) (p .routines) (length (p .nodes)) (length (p .automaton .transitions)) k l)) (not (ranged p k l))
+    (full (length (p .edges)) (length (p .automaton .transitions)) (length (s .rows)) k) (miscounted (s .frames) k l) j in
+    let v = both (ltb (s .last) (keyOf k (word l) (rest l)) && inPlace (s .frames) (p .routines) (length (p .nodes)) k l) (not (mixed (length (p .automaton .transitions)) k)) (not-false _ (w .2)) in
+    let o = both (ltb (s .last) (keyOf k (word l) (rest l))) (inPlace (s .frames) (p .routines) (length (p .nodes)) k l) (v .0) in
     let r = not-false (ranged p k l) (w .3) in
     record {
       known = positive k (eqb-false k 0 (w .0));
       counted = eqb-true (l .count) (size k) (not-false _ (w .1));
-      later = ltb-true (s .last) (keyOf k (word l)) (o .0);
+      later = ltb-true (s .last) (keyOf k (word l) (rest l)) (o .0);
       header = λ e. (eqb-true (s .frames) 0 (simp (e, or-false) at (o .1)), simp (e, or-false) at r);
       begun = λ h. ltb-true 0 (s .frames) (begun-by (eqb k 2) _ _ (ltb 2 k) _ (rw (ne-eqb k 1 (λ e. omega arith)) at (o .1)));
       nodes = λ e.
@@ -143,12 +153,12 @@ met s k l j =
           (due-here (p .routines) (length (p .nodes)) (num l 1) (both (ltb 0 (s .frames)) _ y .1) z, z, both (ltb (num l 1) (p .routines)) _ x .1);
       complete = λ h. eqb-true _ _ (both (ltb 0 (s .frames)) _ (rw (ne-eqb k 1 (λ e. omega arith), ne-eqb k 2 (λ e. omega arith), lt-ltb 2 k h) at (o .1)) .1);
       edge = λ e. (simp (e, or-false) at r, leb-false 256 _ (simp (e, or-false) at (w .4)));
-      transition = λ e. (simp (e, or-false) at r, leb-false 256 _ (rw e at (w .4)));
+      transition = λ e. (simp (e, or-false) at r, leb-false 256 _ (simp (e, or-false) at (w .4)));
+      row = λ e. (simp (e, or-false) at r, none-there (length (p .automaton .transitions)) (rw e at (v .1)), leb-false 256 _ (rw e at (w .4)));
       initial = λ e. simp (e, or-false) at r;
       rejecting = λ e. simp (e, or-false) at r;
       end = λ e. eqb-true _ _ (not-false _ (rw e at (w .5)));
     }
   where
-    positive : (k : ℕ) → (k ≡ 0 → ⊥) → 0 < k
-    positive zero h = absurd (h refl)
-    positive (suc k) h = omega arith
+    none-there : (n : ℕ) → not (ltb 0 n) ≡ true → n ≡ 0
+    none-there n h = omega (arith, ltb-false 0 n (not-true (ltb 0 n) h))

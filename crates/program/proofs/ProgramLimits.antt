@@ -31,8 +31,8 @@ pub record Limits (p : Program) : Type 0 where
   pub rejecting : length (p .automaton .rejecting) ≤ 8
 
 -- a list of states ascends, so there are at most as many as there are states
-states-few : (r n : ℕ) (qs : List ℕ) → n ≤ 8 → Ascending 0 (map (λ q. keyOf r (packed q 0 0 0)) qs) → All (λ q. ltb q n) qs → length qs ≤ 8
-states-few r n qs h s a = omega (arith, few (λ q. keyOf r (packed q 0 0 0)) (λ a b z. omega arith) n 0 qs s a)
+states-few : (r n : ℕ) (qs : List ℕ) → n ≤ 8 → Ascending 0 (map (λ q. keyOf r (packed q 0 0 0) 0) qs) → All (λ q. ltb q n) qs → length qs ≤ 8
+states-few r n qs h s a = omega (arith, few (λ q. keyOf r (packed q 0 0 0) 0) (λ a b z. omega arith) n 0 qs s a)
 
 pub limits : (p : Program) → countsFit (p .routines) (p .automaton .states) (p .automaton .actions) ≡ true → length (p .nodes) ≤ p .routines
     → length (p .edges) ≤ 256 → length (p .automaton .transitions) ≤ 256
@@ -51,8 +51,8 @@ limits p c n e t si ai sr ar =
       nodes = omega arith;
       edges = e;
       transitions = t;
-      initial = states-few 5 q (p .automaton .initial) y si ai;
-      rejecting = states-few 6 q (p .automaton .rejecting) y sr ar;
+      initial = states-few 6 q (p .automaton .initial) y si ai;
+      rejecting = states-few 7 q (p .automaton .rejecting) y sr ar;
     }
 
 -- how many frames a program is, without the end frame

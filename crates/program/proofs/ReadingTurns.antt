@@ -10,7 +10,7 @@ use lib.Seq.{drop-cons, drop-drop}
 use borrow.Author.Tests.{lt-ltb}
 use Rattle.text.specs.Lines.{lines, numbers, lineFrom, lineAt}
 use Rattle.text.proofs.LinesSplit.{afterLine, lines-first, numbers-first, after-numbers}
-use Rattle.program.specs.Reading.{Progress, accepted, refused, decided, judgeAs, judge, after, readFrom}
+use Rattle.program.specs.Reading.{Progress, refused, decided, judgeAs, judge, after, finished, readFrom}
 
 -- a text that is not empty: its first line decides, or the rest does
 pub turn : (s : Progress) (b : ℕ) (t : List ℕ)
@@ -37,7 +37,7 @@ module _ (file : List ℕ) (at : ℕ) (s : Progress) where
   turned h = rw (drop-cons file at 0 h) (turn s (getD file at 0) (drop (suc at) file))
 
   -- past the last line
-  pub at-last : length file ≤ at → readFrom s (lines (drop at file)) ≡ cond (s .ended) (accepted (s .program)) (refused 8 (s .frames + 1))
+  pub at-last : length file ≤ at → readFrom s (lines (drop at file)) ≡ cond (s .ended) (finished (s .rows) (s .program)) (refused 8 (s .frames + 1))
   unfolding readFrom lines
   at-last h = rw (drop-of-length-le file h)
 

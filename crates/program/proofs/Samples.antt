@@ -2,12 +2,15 @@
 use mathlib.Core.Path.{_≡_, refl}
 use mathlib.Core.List.{List, [], _∷_, _++_}
 use Prim.Native.Nat.{ℕ}
+use Prim.Native.String.{String}
 use Rattle.text.specs.Hex.{hex}
 use Rattle.text.specs.Lines.{lines, numbers}
 use Rattle.program.specs.Program.{Program}
 use Rattle.program.specs.Sample.{bytes, header, F}
+use Rattle.program.specs.declared.Verdict.the-variants.{Accepted}
 use Rattle.program.specs.Writing.{nodesFrames, framesOf, text, written}
 use Rattle.program.specs.Reading.{accepted, refused, judgeAs, judge, afterAs, after, readFrom, readFile}
+use Rattle.rows.specs.Rows.{pairsFrom, timesMet, tableRefusal, nextState}
 
 abbrev sample : Program
 sample =
@@ -31,7 +34,7 @@ sample =
 
 -- to unfold this is to unfold all that reading computes with
 reading : Unit {0}
-unfolding lines numbers judgeAs judge afterAs after readFrom readFile
+unfolding lines numbers judgeAs judge afterAs after pairsFrom timesMet tableRefusal nextState readFrom readFile
 reading = tt
 
 sample-read : readFile (bytes F) ≡ accepted sample
@@ -89,3 +92,83 @@ empty-input = refl
 line-after-the-end : readFile (bytes (F ++ "" ∷ [])) ≡ refused 8 14
 unfolding reading
 line-after-the-end = refl
+
+-- ---- files with rows: two states and two actions
+
+-- one routine, these lines, and the end frame with this count
+abbrev rule : List String → String → List ℕ
+rule rows end = bytes (("50010202" ∷ "520002" ∷ []) ++ rows ++ end ∷ [])
+
+tabled : Program
+tabled =
+    record {
+      routines = 1;
+      nodes = 2 ∷ [];
+      edges = [];
+      automaton =
+          record {
+            states = 2;
+            actions = 2;
+            transitions =
+                record { before = 0; action = 0; after = 1 } ∷ record { before = 0; action = 1; after = 0 }
+                ∷ record { before = 1; action = 0; after = 1 } ∷ record { before = 1; action = 1; after = 1 } ∷ [];
+            initial = [];
+            rejecting = [];
+          };
+    }
+
+-- the row without a bit meets no pair; action 1 leads from state 0 to state 0
+table-read : readFile (rule ("55000000000000" ∷ "55010000000101" ∷ "55010000000200" ∷ "55020000000301" ∷ []) "450006") ≡ accepted tabled
+unfolding reading tabled
+table-read = refl
+
+one-row : readFile (rule ("55030000000301" ∷ []) "450003") .verdict ≡ Accepted
+unfolding reading
+one-row = refl
+
+-- no row meets state 1
+pair-missing : readFile (rule ("55010000000301" ∷ []) "450003") ≡ refused 19 0
+unfolding reading
+pair-missing = refl
+
+pair-doubled : readFile (rule ("55010000000301" ∷ "55030000000300" ∷ []) "450004") ≡ refused 20 0
+unfolding reading
+pair-doubled = refl
+
+-- state 0 with action 1 is missing, state 1 with action 0 is met twice: the lower state decides, not the lower action
+first-pair : readFile (rule ("55010000000100" ∷ "55020000000100" ∷ "55020000000300" ∷ []) "450005") ≡ refused 19 0
+unfolding reading
+first-pair = refl
+
+-- a fault of a line, or a missing end, comes before the table's
+line-first : readFile (rule ("55010000000301" ∷ []) "450004") ≡ refused 7 4
+unfolding reading
+line-first = refl
+
+row-after-transition : readFile (rule ("54000001" ∷ "55030000000301" ∷ []) "450004") ≡ refused 4 4
+unfolding reading
+row-after-transition = refl
+
+transition-after-row : readFile (rule ("55030000000301" ∷ "54000001" ∷ []) "450004") ≡ refused 4 4
+unfolding reading
+transition-after-row = refl
+
+rows-descend : readFile (rule ("55020000000301" ∷ "55010000000301" ∷ []) "450004") ≡ refused 4 4
+unfolding reading
+rows-descend = refl
+
+state-bit-outside : readFile (rule ("55040000000301" ∷ []) "450003") ≡ refused 5 3
+unfolding reading
+state-bit-outside = refl
+
+action-bit-outside : readFile (rule ("55030000000401" ∷ []) "450003") ≡ refused 5 3
+unfolding reading
+action-bit-outside = refl
+
+next-state-outside : readFile (rule ("55030000000302" ∷ []) "450003") ≡ refused 5 3
+unfolding reading
+next-state-outside = refl
+
+row-too-short : readFile (rule ("550300000003" ∷ []) "450003") ≡ refused 3 3
+unfolding reading
+row-too-short = refl

@@ -1,7 +1,7 @@
 -- A section of a program: a list whose elements pass a test and whose keys ascend.
-use mathlib.Core.Path.{_≡_, refl}
+use mathlib.Core.Path.{_≡_, refl, ap, _∙_}
 use mathlib.Core.Bool.{Bool, true, false, cond}
-use mathlib.Core.List.{List, [], _∷_, _++_, map}
+use mathlib.Core.List.{List, [], _∷_, _++_, map, List·Memᴰ, List·Memᴰ·head, List·Memᴰ·tail}
 use Prim.Native.Nat.{ℕ, zero, suc, _+_, _≤_, _<_}
 use native.Mathlib.Omega.{arith}
 use lib.Dec.{ltb}
@@ -90,6 +90,12 @@ module _ {A : Type 0} (t : Bool) (x : A) where
       record { fit = all-more fits xs (s .fit) (λ z. e z .0); rise = rising-more key 0 last k xs h (λ z. e z .1) (s .rise) }
 
 -- an element of a list of which all pass
+pub all-in : {A : Type 0} (test : A → Bool) {x : A} (xs : List A) → All test xs → List·Memᴰ x xs → test x ≡ true
+unfolding All
+all-in test [] a m = elim m [ ]
+all-in test (y ∷ ys) a (List·Memᴰ·head e) = ap test e ∙ a .0
+all-in test (y ∷ ys) a (List·Memᴰ·tail m) = all-in test ys (a .1) m
+
 pub all-at : {A : Type 0} (test : A → Bool) (xs : List A) (i : ℕ) (d : A) → All test xs → i < length xs → test (getD xs i d) ≡ true
 unfolding All
 all-at test [] i d a h = absurd (omega arith)

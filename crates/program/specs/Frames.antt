@@ -8,15 +8,17 @@ use Rattle.text.specs.declared.Line.{Line}
 use Rattle.automaton.specs.Automaton.{Transition}
 use Rattle.program.specs.Program.{Edge}
 
--- a kind's place in the table of kinds, from 1; 0 for an unknown kind
+-- a kind's place in the table of kinds, from 1; 0 for an unknown kind. A file has 54 or 55 and not both (`ordered`), so
+-- that rows stand where transitions would
 abbrev pub kindOrder : ℕ → ℕ
 kindOrder k =
-    cond (eqb k 0x50) 1 (cond (eqb k 0x52) 2 (cond (eqb k 0x53) 3 (cond (eqb k 0x54) 4
-    (cond (eqb k 0x49) 5 (cond (eqb k 0x46) 6 (cond (eqb k 0x45) 7 0))))))
+    cond (eqb k 0x50) 1 (cond (eqb k 0x52) 2 (cond (eqb k 0x53) 3 (cond (eqb k 0x54) 4 (cond (eqb k 0x55) 5
+    (cond (eqb k 0x49) 6 (cond (eqb k 0x46) 7 (cond (eqb k 0x45) 8 0)))))))
 
 -- how many numbers a frame of the kind at that place has, its kind among them
 abbrev pub size : ℕ → ℕ
-size k = cond (eqb k 1) 4 (cond (eqb k 2) 3 (cond (eqb k 3) 5 (cond (eqb k 4) 4 (cond (eqb k 7) 3 2))))
+size k =
+    cond (eqb k 1) 4 (cond (eqb k 2) 3 (cond (eqb k 3) 5 (cond (eqb k 4) 4 (cond (eqb k 5) 7 (cond (eqb k 8) 3 2)))))
 
 -- the numbers of a line, the kind at 0
 abbrev pub num : Line → ℕ → ℕ
@@ -29,12 +31,16 @@ kind l = kindOrder (num l 0)
 abbrev pub packed : ℕ → ℕ → ℕ → ℕ → ℕ
 packed a b c d = ((a * 256 + b) * 256 + c) * 256 + d
 
+-- the numbers after a line's kind: the first four as one, and the last three as one
 abbrev pub word : Line → ℕ
 word l = packed (num l 1) (num l 2) (num l 3) (num l 4)
 
+abbrev pub rest : Line → ℕ
+rest l = packed 0 (num l 5) (num l 6) (num l 7)
+
 -- the place of a frame's kind and its numbers as one number, its key: less means that it stands earlier in a file
-abbrev pub keyOf : ℕ → ℕ → ℕ
-keyOf k w = k * 0x100000000 + w
+abbrev pub keyOf : ℕ → ℕ → ℕ → ℕ
+keyOf k w v = (k * 0x100000000 + w) * 0x1000000 + v
 
 -- ---- the frames of a program's parts
 
@@ -62,13 +68,13 @@ endFrame n = 0x45 ∷ n / 256 ∷ n % 256 ∷ []
 
 -- their keys
 abbrev pub edgeKey : Edge → ℕ
-edgeKey e = keyOf 3 (packed (e .routine) (e .source) (e .label) (e .target))
+edgeKey e = keyOf 3 (packed (e .routine) (e .source) (e .label) (e .target)) 0
 
 abbrev pub transitionKey : Transition → ℕ
-transitionKey t = keyOf 4 (packed (t .before) (t .action) (t .after) 0)
+transitionKey t = keyOf 4 (packed (t .before) (t .action) (t .after) 0) 0
 
 abbrev pub initialKey : ℕ → ℕ
-initialKey q = keyOf 5 (packed q 0 0 0)
+initialKey q = keyOf 6 (packed q 0 0 0) 0
 
 abbrev pub rejectingKey : ℕ → ℕ
-rejectingKey q = keyOf 6 (packed q 0 0 0)
+rejectingKey q = keyOf 7 (packed q 0 0 0) 0

@@ -6,5 +6,5 @@ pub mod WellFormed
 pub mod Reading
 pub mod Checks
 pub mod Decoded
-pub mod Room
+pub mod RoomParts
 pub mod Sample

@@ -1,30 +1,32 @@
--- Reading a file: line after line, and the first faulty line decides.
+-- Reading a file: line after line, and the first faulty line decides; then the table of a file with rows.
 use Prim.Native.Nat.{ℕ, _+_, _*_}
-use mathlib.Core.Bool.{Bool, true, false, cond, _&&_, _||_, not}
+use mathlib.Core.Bool.{Bool, false, cond, _&&_, _||_, not}
 use mathlib.Core.List.{List, [], _∷_, _++_}
 use lib.Dec.{ltb, leb, eqb}
-use lib.ListN.{length, getD}
+use lib.ListN.{length}
 use Rattle.text.specs.Lines.{lines, numbers, lineFrom}
 use Rattle.text.specs.declared.Line.{Line}
 use Rattle.automaton.specs.Automaton.{Transition, Automaton}
 use Rattle.automaton.specs.Sizes.{maxTransitions}
+use Rattle.rows.specs.Rows.{maxRows, TableRow, rowFits, Pair, pairs, tableRefusal, tableTransitions}
 use Rattle.program.specs.Sizes.{maxEdges}
-use Rattle.program.specs.Program.{Edge, Program, noProgram, within, nodesFit, countsFit, placed, labelFits}
+use Rattle.program.specs.Program.{Edge, Program, noProgram, within, nodesFit, countsFit}
 use Rattle.program.specs.Program.{edgeFits, transitionFits}
-use Rattle.program.specs.Frames.{size, num, kind, word, keyOf}
+use Rattle.program.specs.Frames.{size, num, kind, packed, word, rest, keyOf}
 use Rattle.program.specs.declared.Verdict.{Verdict}
 use Rattle.program.specs.declared.Verdict.the-variants.{Accepted, Refused}
 
 -- what is known after some frames: the last one's key (0 before the first), how many there were, whether the last was
--- an end frame, and the program so far
+-- an end frame, the rows so far, and the program so far
 pub record Progress : Type 0 where
   pub last : ℕ
   pub frames : ℕ
   pub ended : Bool
+  pub rows : List TableRow
   pub program : Program
 
 abbrev pub start : Progress
-start = record { last = 0; frames = 0; ended = false; program = noProgram }
+start = record { last = 0; frames = 0; ended = false; rows = []; program = noProgram }
 
 -- ---- what one line meets; k is the place of its kind in the table of kinds
 
@@ -32,14 +34,21 @@ start = record { last = 0; frames = 0; ended = false; program = noProgram }
 abbrev pub due : ℕ → ℕ → ℕ → Bool
 due routines done f = eqb f done || (leb routines done && ltb done f)
 
--- 50 comes first and only there; the others ascend; routine frames run from 0 without a gap, and all are there
--- before what follows them
-abbrev pub ordered : ℕ → ℕ → ℕ → ℕ → ℕ → Line → Bool
-ordered last frames routines done k l =
-    ltb last (keyOf k (word l))
-    && ((eqb k 1 && eqb frames 0)
+-- 50 comes first and only there; routine frames run from 0 without a gap, and all are there before what follows them
+abbrev pub inPlace : ℕ → ℕ → ℕ → ℕ → Line → Bool
+inPlace frames routines done k l =
+    (eqb k 1 && eqb frames 0)
     || (eqb k 2 && ltb 0 frames && due routines done (num l 1))
-    || (ltb 2 k && ltb 0 frames && eqb done routines))
+    || (ltb 2 k && ltb 0 frames && eqb done routines)
+
+-- a row after a transition; a transition after a row is out of order by its kind
+abbrev pub mixed : ℕ → ℕ → Bool
+mixed transitions k = eqb k 5 && ltb 0 transitions
+
+-- frames ascend, each in its place; a file has transitions or rows
+abbrev pub ordered : ℕ → ℕ → ℕ → ℕ → ℕ → ℕ → Line → Bool
+ordered last frames routines done transitions k l =
+    ltb last (keyOf k (word l) (rest l)) && inPlace frames routines done k l && not (mixed transitions k)
 
 abbrev pub edgeIn : Line → Edge
 edgeIn l = record { routine = num l 1; source = num l 2; label = num l 3; target = num l 4 }
@@ -47,22 +56,29 @@ edgeIn l = record { routine = num l 1; source = num l 2; label = num l 3; target
 abbrev pub transitionIn : Line → Transition
 transitionIn l = record { before = num l 1; action = num l 2; after = num l 3 }
 
+-- a row (paper: a frame 55): one number of state bits, four of action bits, high first, and the next state
+abbrev pub rowIn : Line → TableRow
+rowIn l =
+    record { states = num l 1; actions = packed (num l 2) (num l 3) (num l 4) (num l 5); next = num l 6 }
+
 abbrev pub ranged : Program → ℕ → Line → Bool
 ranged p k l =
     (eqb k 1 && countsFit (num l 1) (num l 2) (num l 3))
     || (eqb k 2 && ltb (num l 1) (p .routines) && nodesFit (num l 2))
     || (eqb k 3 && edgeFits p (edgeIn l))
     || (eqb k 4 && transitionFits (p .automaton) (transitionIn l))
-    || (within 5 6 k && ltb (num l 1) (p .automaton .states))
-    || eqb k 7
+    || (eqb k 5 && rowFits (p .automaton) (rowIn l))
+    || (within 6 7 k && ltb (num l 1) (p .automaton .states))
+    || eqb k 8
 
--- the 257th edge or transition
-abbrev pub full : ℕ → ℕ → ℕ → Bool
-full edges transitions k = (eqb k 3 && leb maxEdges edges) || (eqb k 4 && leb maxTransitions transitions)
+-- the 257th edge, transition or row
+abbrev pub full : ℕ → ℕ → ℕ → ℕ → Bool
+full edges transitions rows k =
+    (eqb k 3 && leb maxEdges edges) || (eqb k 4 && leb maxTransitions transitions) || (eqb k 5 && leb maxRows rows)
 
 -- an end frame with a wrong count
 abbrev pub miscounted : ℕ → ℕ → Line → Bool
-miscounted frames k l = eqb k 7 && not (eqb (num l 1 * 256 + num l 2) frames)
+miscounted frames k l = eqb k 8 && not (eqb (num l 1 * 256 + num l 2) frames)
 
 -- the lowest number that is met, or 0
 abbrev pub lowest : Bool → Bool → Bool → Bool → Bool → Bool → Bool → ℕ
@@ -72,9 +88,10 @@ lowest a b c d e f g = cond a 1 (cond b 2 (cond c 3 (cond d 4 (cond e 5 (cond f 
 unfoldable pub judgeAs : Progress → ℕ → Line → ℕ
 judgeAs s k l =
     lowest (eqb (l .count) 0) (eqb k 0) (not (eqb (l .count) (size k)))
-    (not (ordered (s .last) (s .frames) (s .program .routines) (length (s .program .nodes)) k l))
+    (not (ordered (s .last) (s .frames) (s .program .routines) (length (s .program .nodes))
+    (length (s .program .automaton .transitions)) k l))
     (not (ranged (s .program) k l))
-    (full (length (s .program .edges)) (length (s .program .automaton .transitions)) k)
+    (full (length (s .program .edges)) (length (s .program .automaton .transitions)) (length (s .rows)) k)
     (miscounted (s .frames) k l)
 
 unfoldable pub judge : Progress → Line → ℕ
@@ -92,8 +109,8 @@ automatonAfter r k l =
       states = cond (eqb k 1) (num l 2) (r .states);
       actions = cond (eqb k 1) (num l 3) (r .actions);
       transitions = more (eqb k 4) (transitionIn l) (r .transitions);
-      initial = more (eqb k 5) (num l 1) (r .initial);
-      rejecting = more (eqb k 6) (num l 1) (r .rejecting);
+      initial = more (eqb k 6) (num l 1) (r .initial);
+      rejecting = more (eqb k 7) (num l 1) (r .rejecting);
     }
 
 abbrev pub programAfter : Program → ℕ → Line → Program
@@ -107,7 +124,13 @@ programAfter p k l =
 
 unfoldable pub afterAs : Progress → ℕ → Line → Progress
 afterAs s k l =
-    record { last = keyOf k (word l); frames = s .frames + 1; ended = eqb k 7; program = programAfter (s .program) k l }
+    record {
+      last = keyOf k (word l) (rest l);
+      frames = s .frames + 1;
+      ended = eqb k 8;
+      rows = more (eqb k 5) (rowIn l) (s .rows);
+      program = programAfter (s .program) k l;
+    }
 
 unfoldable pub after : Progress → Line → Progress
 after s l = afterAs s (kind l) l
@@ -125,16 +148,62 @@ accepted p = record { verdict = Accepted; program = p }
 abbrev pub refused : ℕ → ℕ → Outcome
 refused n line = record { verdict = Refused n line; program = noProgram }
 
+-- ---- the table of a file with rows
+
+-- the pairs of each state and each action of a program
+abbrev pub pairsOf : Program → List Pair
+pairsOf p = pairs (p .automaton .states) (p .automaton .actions)
+
+abbrev pub withTransitions : Program → List Transition → Program
+withTransitions p ts =
+    record {
+      routines = p .routines;
+      nodes = p .nodes;
+      edges = p .edges;
+      automaton =
+          record {
+            states = p .automaton .states;
+            actions = p .automaton .actions;
+            transitions = ts;
+            initial = p .automaton .initial;
+            rejecting = p .automaton .rejecting;
+          };
+    }
+
+-- a table that is refused (19, 20) refuses the file, with line 0; else its transitions are the program's
+abbrev pub tableDecides : Bool → ℕ → List TableRow → Program → Outcome
+tableDecides good n rs p = cond good (accepted (withTransitions p (tableTransitions rs (pairsOf p)))) (refused n 0)
+
+-- every line is good: only a file with rows has a table
+abbrev pub finished : List TableRow → Program → Outcome
+finished [] p = accepted p
+finished (r ∷ rs) p =
+    tableDecides (eqb (tableRefusal (r ∷ rs) (pairsOf p)) 0) (tableRefusal (r ∷ rs) (pairsOf p)) (r ∷ rs) p
+
+-- ---- lines one by one
+
 -- the line after these frames: it comes after the end, or it is faulty, or the rest decides
 abbrev pub decided : Progress → ℕ → Outcome → Outcome
 decided s n rest = cond (s .ended) (refused 8 (s .frames + 1)) (cond (ltb 0 n) (refused n (s .frames + 1)) rest)
 
 unfoldable pub readFrom : Progress → List (List ℕ) → Outcome
-readFrom s [] = cond (s .ended) (accepted (s .program)) (refused 8 (s .frames + 1))
+readFrom s [] = cond (s .ended) (finished (s .rows) (s .program)) (refused 8 (s .frames + 1))
 readFrom s (l ∷ ls) = decided s (judge s (lineFrom (numbers l))) (readFrom (after s (lineFrom (numbers l))) ls)
 
 unfoldable pub readFile : List ℕ → Outcome
 readFile file = readFrom start (lines file)
+
+-- ---- the rows of a file: those of its lines of kind 55
+
+abbrev pub rowFirst : Line → List TableRow → List TableRow
+rowFirst l rs = cond (eqb (kind l) 5) (rowIn l ∷ rs) rs
+
+unfoldable pub rowsFrom : List (List ℕ) → List TableRow
+rowsFrom [] = []
+rowsFrom (l ∷ ls) = rowFirst (lineFrom (numbers l)) (rowsFrom ls)
+
+abbrev pub rowsIn : List ℕ → List TableRow
+rowsIn file = rowsFrom (lines file)
 
 -- ---- the numbers of a verdict
 

@@ -1,13 +1,13 @@
 -- What the search over edges and transitions means: it finds support just where there is some.
 use mathlib.Core.Path.{_≡_, refl, sym, ap, subst, _∙_}
 use mathlib.Core.Logic.{_≢_}
-use mathlib.Core.Bool.{Bool, true, false, cond, _&&_, not, or-true}
+use mathlib.Core.Bool.{Bool, true, false, cond, _&&_, or-true}
 use mathlib.Core.List.{List, [], _∷_, map, List·Memᴰ, List·Memᴰ·head, List·Memᴰ·tail}
 use Prim.Native.Nat.{ℕ, _+_, _-_, _*_, _/_, _%_, _<_}
 use native.Mathlib.Omega.{arith}
 use lib.Dec.{eqb, ltb}
 use lib.ListN.{getD, take}
-use borrow.Author.Tests.{eqb-true, eqb-false, ltb-true, ltb-false, leb-true, leb-false, not-true, eq-eqb, ne-eqb, lt-ltb, le-ltb, lt-leb, le-leb}
+use borrow.Author.Tests.{eqb-true, ltb-true, ltb-false, leb-true, leb-false, eq-eqb, lt-ltb, le-ltb, lt-leb, le-leb}
 use Rattle.base.proofs.SetFlags.{set-byte, byte-set}
 use Rattle.automaton.specs.Automaton.{Transition, goes, listed, moves}
 use Rattle.automaton.specs.Decoded.{transitionOf}
@@ -24,7 +24,8 @@ use Rattle.reach.specs.Configurations.{Set, InRange, number}
 use Rattle.reach.specs.Runs.{Step, labelOf, stepOf, HasStep, Moves}
 use Rattle.reach.specs.Marks.{Marked}
 use Rattle.reach.proofs.Numbers.{number-state, number-root}
-use Rattle.reach.proofs.ProgramInSizes.{Sizes, sizes, all-in, listed-in, map-in, label-call}
+use Rattle.program.proofs.SectionsAscend.{all-in}
+use Rattle.reach.proofs.ProgramInSizes.{Sizes, sizes, listed-in, map-in, label-call}
 use Rattle.prune.specs.Parts.{anyFrom, anyKey, rootKept, returnKept, entrySupports, returnSupports, callSupports, transitionSupports, transitionsToTry, actionSupports, edgeSupports, supports, Tables}
 use Rattle.prune.proofs.SearchesAsk.{found-from, any-from, found-key, any-key, in-map}
 

@@ -1,7 +1,7 @@
 -- What a well-formed program keeps within the sizes.
-use mathlib.Core.Path.{_≡_, refl, sym, ap, subst, _∙_}
+use mathlib.Core.Path.{_≡_, refl, sym, subst}
 use mathlib.Core.Logic.{_≢_}
-use mathlib.Core.Bool.{Bool, true, false, cond, _&&_, _||_, not}
+use mathlib.Core.Bool.{Bool, true, false, cond, _&&_, not}
 use mathlib.Core.List.{List, [], _∷_, map, List·Memᴰ, List·Memᴰ·head, List·Memᴰ·tail}
 use Prim.Native.Nat.{ℕ, _+_, _-_, _≤_, _<_}
 use native.Mathlib.Omega.{arith}
@@ -12,22 +12,14 @@ use Rattle.automaton.specs.Automaton.{Transition, goes, listed, moves}
 use Rattle.automaton.specs.declared.Event.{Event}
 use Rattle.automaton.specs.declared.Event.the-variants.{Action, Call, Return}
 use Rattle.program.specs.Program.{Edge, Program, within, labelFits, placed, edgeFits, transitionFits}
-use Rattle.program.specs.WellFormed.{All, WellFormed}
-use Rattle.program.proofs.SectionsAscend.{all-at}
+use Rattle.program.specs.WellFormed.{WellFormed}
+use Rattle.program.proofs.SectionsAscend.{all-at, all-in}
 use Rattle.program.proofs.LinesJudged.{at-most}
 use Rattle.base.proofs.Bools.{both, either}
 use Rattle.program.proofs.ProgramLimits.{well-formed-limits}
 use Rattle.reach.specs.Configurations.{Set, InRange}
 use Rattle.reach.specs.Runs.{Step, labelOf, stepOf, HasStep, Moves}
 use Rattle.reach.specs.Reachable.{Derivable, seeded, by-action, by-call, by-return, Initial, initial, Reachable}
-
--- ---- lists whose elements pass a test
-
-pub all-in : {A : Type 0} (t : A → Bool) {x : A} (xs : List A) → All t xs → List·Memᴰ x xs → t x ≡ true
-unfolding All
-all-in t [] h m = elim m [ ]
-all-in t (y ∷ ys) h (List·Memᴰ·head e) = ap t e ∙ h .0
-all-in t (y ∷ ys) h (List·Memᴰ·tail m) = all-in t ys (h .1) m
 
 -- a listed move is one of a transition
 pub listed-in : (q a s : ℕ) (ts : List Transition) → listed q a s ts ≡ true → List·Memᴰ (record { before = q; action = a; after = s }) ts

@@ -1,2 +1,3 @@
 pub mod ListsKept
+pub mod FileFinished
 pub mod ReadingLoop

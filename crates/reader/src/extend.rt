@@ -4,6 +4,7 @@ use automaton::DecodedAutomaton;
 use automaton::States;
 use automaton::transitions::Transitions;
 use automaton::transitions::transition_key;
+use base::choose;
 use frames::key_of;
 use frames::kind_of;
 use frames::number;
@@ -15,26 +16,20 @@ use tables::with_byte;
 use tables::with_key;
 use text::Line;
 ghost use mathlib.Core.Path.{_≡_};
-ghost use mathlib.Core.Bool.{true, cond};
+ghost use mathlib.Core.Bool.{true};
+ghost use mathlib.Core.List.{List};
 ghost use Prim.Native.Nat.{_<_, _^_};
+ghost use lib.Dec.{eqb};
 ghost use lib.ListN.{length, take};
 ghost use Rattle.automaton.specs.Sizes.{maxStates, maxTransitions};
 ghost use Rattle.automaton.specs.Decoded.{statesOf, transitionKeysOf, transitionOf, automatonOf};
 ghost use Rattle.program.specs.Sizes.{maxRoutines, maxEdges};
 ghost use Rattle.program.specs.Frames.{kind};
-ghost use Rattle.program.specs.Reading.{edgeIn, transitionIn, more, automatonAfter, programAfter, after};
+ghost use Rattle.program.specs.Reading.{edgeIn, transitionIn, rowIn, more, automatonAfter, programAfter, after};
 ghost use Rattle.program.specs.Decoded.{nodesOf, edgeKeysOf, edgeOf, programOf};
-ghost use Rattle.program.specs.Room.{RoomInAutomaton, Room};
+ghost use Rattle.program.specs.RoomParts.{RoomInAutomaton, Room};
+ghost use Rattle.rows.specs.Rows.{TableRow};
 ghost use Rattle.reader.specs.Parts.{progressOf};
-
-fn choose(t: bool, a: u8, b: u8) -> u8
-    ensures { λ r. ⌜ r ≡ cond t a b ⌝ }
-{
-    if t {
-        return a;
-    }
-    b
-}
 
 // One key more at the end, where it is wanted.
 fn add_key(keys: &mut [u32], count: usize, yes: bool, key: u32) -> usize
@@ -114,8 +109,8 @@ fn automaton_after(a: DecodedAutomaton, k: u8, l: Line) -> DecodedAutomaton
     let j = a.rejecting;
     let q = number(l, 1);
     let transitions = add_transition(t, k == 4, transition_in(l));
-    let initial = add_state(i, k == 5, q);
-    let rejecting = add_state(j, k == 6, q);
+    let initial = add_state(i, k == 6, q);
+    let rejecting = add_state(j, k == 7, q);
     DecodedAutomaton {
         states: choose(k == 1, number(l, 2), a.states),
         actions: choose(k == 1, number(l, 3), a.actions),
@@ -143,10 +138,11 @@ fn program_after(p: DecodedProgram, k: u8, l: Line) -> DecodedProgram
     }
 }
 
-// A frame without a fault always finds room, and no file has 2^63 frames: hence the `requires`.
+// All but the rows. A frame without a fault always finds room, and no file has 2^63 frames: hence the `requires`.
 pub fn after_frame(s: Reader, l: Line) -> Reader
     requires { ⌜ Room (programOf (s .program)) (kind l) × (s .frames < 2 ^ 63) ⌝ }
-    ensures { λ r. ⌜ progressOf r ≡ after (progressOf s) l ⌝ }
+    ensures { λ r. ⌜ ((rows : List TableRow)
+        → progressOf r (more (eqb (kind l) 5) (rowIn l) rows) ≡ after (progressOf s rows) l) ⌝ }
 {
     let k = kind_of(l);
     let p = s.program;
@@ -154,7 +150,7 @@ pub fn after_frame(s: Reader, l: Line) -> Reader
     Reader {
         last: key_of(k, l),
         frames: s.frames + 1,
-        ended: k == 7,
+        ended: k == 8,
         program,
     }
 }

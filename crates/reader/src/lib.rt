@@ -4,21 +4,40 @@ mod extend;
 use automaton::DecodedAutomaton;
 use automaton::no_states;
 use automaton::sizes::MAX_TRANSITIONS;
+use automaton::transitions::Transitions;
 use automaton::transitions::no_transitions;
 use extend::after_frame;
+use frames::Counts;
 use frames::judge::fault_by;
 use frames::judge::limits_of;
+use frames::kind_of;
+use frames::row_in;
 use program::DecodedProgram;
 use program::Nodes;
 use program::Verdict;
 use program::edges::no_edges;
 use program::sizes::MAX_EDGES;
 use program::sizes::MAX_ROUTINES;
+use rows::Rows;
+use rows::add_row;
+use rows::no_rows;
+use rows::row_count;
+use rows::table_of;
 use tables::in_use;
 use text::Line;
 ghost use mathlib.Core.Path.{_≡_};
 ghost use Rattle.program.specs.Program.{noProgram};
-ghost use Rattle.program.specs.Reading.{start, judge, accepted, refused, readFile};
+ghost use mathlib.Core.List.{List, [], map};
+ghost use Prim.Native.Nat.{_≤_};
+ghost use Rattle.automaton.specs.Sizes.{maxStates, maxActions};
+ghost use Rattle.automaton.specs.Decoded.{transitionKeysOf, transitionOf};
+ghost use lib.Dec.{eqb};
+ghost use lib.ListN.{length};
+ghost use Rattle.rows.specs.Rows.{TableRow};
+ghost use Rattle.rows.specs.Decoded.{rowsOf};
+ghost use Rattle.program.specs.Frames.{kind};
+ghost use Rattle.program.specs.RoomParts.{RoomForRow};
+ghost use Rattle.program.specs.Reading.{start, rowIn, more, judge, accepted, refused, withTransitions, finished, readFile};
 ghost use Rattle.program.specs.Decoded.{programOf};
 ghost use Rattle.reader.specs.Parts.{progressOf};
 ghost use Rattle.reader.specs.Outcome.{outcomeOf};
@@ -29,7 +48,7 @@ pub struct Reading {
     pub program: DecodedProgram,
 }
 
-// What is known after some frames.
+// What is known after some frames, but for the rows.
 pub struct Reader {
     pub last: u64,
     pub frames: usize,
@@ -83,7 +102,7 @@ fn accept(program: DecodedProgram) -> Reading
 }
 
 fn start_reader() -> Reader
-    ensures { λ r. ⌜ progressOf r ≡ start ⌝ }
+    ensures { λ r. ⌜ progressOf r [] ≡ start ⌝ }
 {
     let program = no_program();
     Reader {
@@ -94,24 +113,77 @@ fn start_reader() -> Reader
     }
 }
 
-// The refusal that a line meets, or 0.
-fn fault_of(s: Reader, l: Line) -> u8
-    ensures { λ r. ⌜ r ≡ judge (progressOf s) l ⌝ }
+// The refusal that a line meets after so many rows, or 0.
+fn fault_of(s: Reader, rows: usize, l: Line) -> u8
+    ensures { λ r. ⌜ ((before : List TableRow) → rows ≡ length before → r ≡ judge (progressOf s before) l) ⌝ }
 {
     let p = s.program;
     let n = p.nodes;
     let e = p.edges;
     let a = p.automaton;
     let t = a.transitions;
-    fault_by(
-        s.last,
-        s.frames,
-        limits_of(p),
-        in_use(n.count, MAX_ROUTINES),
-        in_use(e.count, MAX_EDGES),
-        in_use(t.count, MAX_TRANSITIONS),
-        l,
-    )
+    let counts = Counts {
+        frames: s.frames,
+        nodes: in_use(n.count, MAX_ROUTINES),
+        edges: in_use(e.count, MAX_EDGES),
+        transitions: in_use(t.count, MAX_TRANSITIONS),
+        rows,
+    };
+    fault_by(s.last, counts, limits_of(p), l)
+}
+
+// The rows after a line without a fault, which finds room: hence the `requires`. They stand beside what else is known, so
+// that a line that is no row does not move them.
+fn rows_after(t: Rows, l: Line) -> Rows
+    requires { ⌜ RoomForRow (rowsOf t) (kind l) ⌝ }
+    ensures { λ r. ⌜ rowsOf r ≡ more (eqb (kind l) 5) (rowIn l) (rowsOf t) ⌝ }
+{
+    if kind_of(l) == 5 {
+        return add_row(t, row_in(l));
+    }
+    t
+}
+
+// The program with the transitions of its table.
+fn with_transitions(p: DecodedProgram, transitions: Transitions) -> DecodedProgram
+    ensures { λ r. ⌜ programOf r ≡ withTransitions (programOf p) (map transitionOf (transitionKeysOf transitions)) ⌝ }
+{
+    let nodes = p.nodes;
+    let edges = p.edges;
+    let a = p.automaton;
+    let initial = a.initial;
+    let rejecting = a.rejecting;
+    let automaton = DecodedAutomaton {
+        states: a.states,
+        actions: a.actions,
+        transitions,
+        initial,
+        rejecting,
+    };
+    DecodedProgram {
+        routines: p.routines,
+        nodes,
+        edges,
+        automaton,
+    }
+}
+
+// The end of a file whose lines are all good: rows are judged as a table, and become transitions. The header was judged
+// long before: hence the `requires`.
+fn finish(p: DecodedProgram, rows: Rows) -> Reading
+    requires { ⌜ (p .automaton .states ≤ maxStates) × (p .automaton .actions ≤ maxActions) ⌝ }
+    ensures { λ r. ⌜ outcomeOf r ≡ finished (rowsOf rows) (programOf p) ⌝ }
+{
+    if row_count(rows) == 0 {
+        return accept(p);
+    }
+    let a = p.automaton;
+    let table = table_of(rows, a.states, a.actions);
+    if 0 < table.refusal {
+        return refuse(table.refusal, 0);
+    }
+    let transitions = table.transitions;
+    accept(with_transitions(p, transitions))
 }
 
 // Reads a file: the verdict, and the program where it is accepted.
@@ -119,6 +191,7 @@ pub fn read(file: &[u8]) -> Reading
     ensures { λ r. ⌜ outcomeOf r ≡ readFile (now (file .entry)) ⌝ }
 {
     let mut s = start_reader();
+    let mut rows = no_rows();
     let mut at: usize = 0;
     while at < file.len() {
         if s.ended {
@@ -126,16 +199,17 @@ pub fn read(file: &[u8]) -> Reading
         }
         let next = text::read_line(file, at);
         let l = next.line;
-        let n = fault_of(s, l);
+        let n = fault_of(s, row_count(rows), l);
         if 0 < n {
             return refuse(n, s.frames + 1);
         }
         s = after_frame(s, l);
+        rows = rows_after(rows, l);
         at = next.next;
     }
     if s.ended {
         let p = s.program;
-        return accept(p);
+        return finish(p, rows);
     }
     refuse(8, s.frames + 1)
 }

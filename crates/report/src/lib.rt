@@ -89,7 +89,7 @@ pub fn block(file: &[u8], marks: &[u8], output: &mut [u8]) -> usize
 fn edit_refusal_line(n: u8) -> Line
     ensures { λ r. ⌜ r ≡ lineOf (0x21 ∷ n ∷ []) ⌝ }
 {
-    let numbers = [0x21, n, 0, 0, 0, 0];
+    let numbers = [0x21, n, 0, 0, 0, 0, 0, 0];
     Line { count: 2, numbers }
 }
 
@@ -101,6 +101,8 @@ fn file_refusal_line(n: u8, line: usize) -> Line
         n,
         (line % 65536 / 256) as u8,
         (line % 65536 % 256) as u8,
+        0,
+        0,
         0,
         0,
     ];

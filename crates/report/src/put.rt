@@ -26,7 +26,7 @@ fn violation_line(i: usize) -> Line
     ensures { λ r. ⌜ r ≡ lineOf (violationFrame i) ⌝ }
 {
     let c = parts_of(i);
-    let numbers = [0x58, c.routine, c.node, c.root, c.state, 0];
+    let numbers = [0x58, c.routine, c.node, c.root, c.state, 0, 0, 0];
     Line { count: 5, numbers }
 }
 
@@ -41,6 +41,8 @@ fn count_line(configurations: usize, violations: usize) -> Line
         (configurations % 256) as u8,
         (violations / 256) as u8,
         (violations % 256) as u8,
+        0,
+        0,
         0,
     ];
     Line { count: 5, numbers }

@@ -9,7 +9,7 @@ use lib.ListN.{length, drop, set, getD, length-append, drop-of-length-le}
 use lib.Seq.{drop-cons}
 use borrow.Author.Tests.{le-leb, lt-leb, ne-eqb}
 use Rattle.text.specs.Hex.{twoDigits}
-use Rattle.text.specs.Lines.{before, numbers, pad, lineOf, lineAt, grown}
+use Rattle.text.specs.Lines.{before, numbers, pad, maxNumbers, lineOf, lineAt, grown}
 use Rattle.text.specs.declared.Line.{Line}
 
 pub opened : (s : List ℕ) (i : ℕ) → i < length s → drop i s ≡ getD s i 0 ∷ drop (i + 1) s
@@ -62,7 +62,7 @@ set-pad (suc n) (a ∷ acc) x = ap (λ (l : List ℕ). a ∷ l) (set-pad n acc x
 
 grown-line : (acc : List ℕ) (x : ℕ) → grown (lineOf acc) x ≡ lineOf (acc ++ x ∷ [])
 grown-line acc x =
-    let e = set-pad 6 acc x in
+    let e = set-pad maxNumbers acc x in
     let f : length acc + 1 ≡ length (acc ++ x ∷ []) = sym (length-append acc (x ∷ [])) in
     cc
 

@@ -47,9 +47,13 @@ pad zero xs = []
 pad (suc n) [] = 0 ∷ pad n []
 pad (suc n) (x ∷ xs) = x ∷ pad n xs
 
--- a line as it is kept: how many numbers it has, and the first six; no format has a longer line
+-- how many numbers of a line are kept; no format has a longer line
+abbrev pub maxNumbers : ℕ
+maxNumbers = 8
+
+-- a line as it is kept: how many numbers it has, and the first of them
 abbrev pub lineOf : List ℕ → Line
-lineOf xs = record { count = length xs; numbers = pad 6 xs }
+lineOf xs = record { count = length xs; numbers = pad maxNumbers xs }
 
 -- the line of a text's first bytes; a line that is not good is kept as one without a number
 abbrev pub lineFrom : Option (List ℕ) → Line
@@ -65,6 +69,6 @@ nextFrom at (some xs) = at + 2 * length xs + 1
 abbrev pub lineAt : List ℕ → ℕ → ReadLine
 lineAt s at = record { line = lineFrom (numbers (drop at s)); next = nextFrom at (numbers (drop at s)) }
 
--- a line with one number more; a store past the sixth is none
+-- a line with one number more; a store past those that are kept is none
 abbrev pub grown : Line → ℕ → Line
 grown l x = record { count = l .count + 1; numbers = set (l .numbers) (l .count) x }

@@ -5,12 +5,15 @@ ghost use Prim.Native.Nat.{_<_, _≤_, _+_, _*_};
 ghost use lib.ListN.{length, take};
 ghost use lib.Seq.{sets};
 ghost use Rattle.text.specs.Hex.{digit, joined, twoDigits, hexDigit, hex, hexLine};
-ghost use Rattle.text.specs.Lines.{lineOf, lineAt, grown};
+ghost use Rattle.text.specs.Lines.{maxNumbers, lineOf, lineAt, grown};
 
-// The numbers of a line: how many there are, and the first six.
+// How many numbers of a line are kept; no format has a longer line.
+pub const MAX_NUMBERS: usize = 8;
+
+// The numbers of a line: how many there are, and the first of them.
 pub struct Line {
     pub count: usize,
-    pub numbers: [u8; 6],
+    pub numbers: [u8; MAX_NUMBERS],
 }
 
 // A line, and the position of the next one.
@@ -58,7 +61,7 @@ fn pair(a: u8, b: u8) -> u16
     join(digit_value(a), digit_value(b))
 }
 
-// One number more; only the first six are kept.
+// One number more; only the first ones are kept.
 fn grow(l: Line, x: u8, end: usize) -> Line
     requires { ⌜ l .count < end ⌝ }
     ensures { λ r. ⌜ r ≡ grown l x ⌝ }
@@ -66,7 +69,7 @@ fn grow(l: Line, x: u8, end: usize) -> Line
     let n = l.count;
     let mut longer = l;
     longer.count = n + 1;
-    if n < 6 {
+    if n < MAX_NUMBERS {
         longer.numbers[n] = x;
         return longer;
     }
@@ -77,7 +80,7 @@ fn grow(l: Line, x: u8, end: usize) -> Line
 pub fn no_line() -> Line
     ensures { λ r. ⌜ r ≡ lineOf [] ⌝ }
 {
-    let numbers = [0u8; 6];
+    let numbers = [0u8; MAX_NUMBERS];
     Line { count: 0, numbers }
 }
 
@@ -141,7 +144,7 @@ fn put_number(out: &mut [u8], at: usize, x: u8)
 // Writes a line at a position, and returns the position after it. Whoever writes has measured the room for all
 // lines before the first, so that a line needs no refusal of its own: hence the `requires`.
 pub fn put_line(out: &mut [u8], at: usize, l: Line) -> usize
-    requires { ⌜ (l .count ≤ 6) × (at + 2 * l .count < length (now out)) ⌝ }
+    requires { ⌜ (l .count ≤ maxNumbers) × (at + 2 * l .count < length (now out)) ⌝ }
     ensures { λ r. ⌜ r ≡ at + 2 * l .count + 1 ⌝ }
     ensures { λ r. ⌜ now (out .exit) ≡ sets (now (out .entry)) at (hexLine (take (l .count) (l .numbers))) ⌝ }
 {

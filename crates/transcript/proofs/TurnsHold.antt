@@ -1,4 +1,4 @@
--- From turn to turn: the held file is the program so far, written, and the held marks are its own.
+-- From turn to turn: the held file is read as the program so far, and the held marks are its own.
 use mathlib.Core.Path.{_≡_, refl, sym, ap, subst, _∙_}
 use mathlib.Core.Bool.{Bool, true, false, cond}
 use mathlib.Core.List.{List, [], _∷_, _++_, flatten, append-nil}
@@ -9,12 +9,11 @@ use lib.ListN.{length, take, drop, drop-of-length-le}
 use Rattle.text.specs.Lines.{lines}
 use Rattle.program.specs.Program.{Program}
 use Rattle.program.specs.WellFormed.{WellFormed}
-use Rattle.program.specs.Writing.{written}
-use Rattle.program.specs.Reading.{readFile}
+use Rattle.program.specs.Reading.{accepted, readFile}
 use Rattle.program.specs.Checks.{firstMet, checked}
 use Rattle.program.specs.declared.Verdict.{Verdict}
 use Rattle.program.specs.declared.Verdict.the-variants as verdict
-use Rattle.program.proofs.Theorems.{read-again, accepted-well-formed, written-back}
+use Rattle.program.proofs.Theorems.{accepted-well-formed}
 use Rattle.reach.specs.Configurations.{none-set}
 use Rattle.reach.specs.Marks.{freshMarks}
 use Rattle.reach.proofs.ShapeKept.{marks-length, none-length}
@@ -24,7 +23,7 @@ use Rattle.edit.specs.declared.EditRead.{EditRead}
 use Rattle.edit.specs.declared.EditRead.the-variants as read
 use Rattle.edit.proofs.Theorems.{wanted-applies, applied-well-formed, edited-read}
 use Rattle.repair.specs.Repairs.{wantedBy, repaired}
-use Rattle.repair.specs.Desk.{Desk}
+use Rattle.repair.specs.Desk.{Desk, started}
 use Rattle.report.specs.Report.{firstSize, editText, programAfter, editsText, blockOf, tooLong, fileSize, fileText, inputText, benchText}
 use Rattle.report.proofs.LineEnds.{next-line}
 use Rattle.transcript.specs.Transcript.{heldOf, Shown, TurnGives, lineAt, noOutput, editOn, turnedBy, turned, Turns, over, turn, fileOf, alone, begunBy, begun}
@@ -32,56 +31,55 @@ use Rattle.transcript.specs.declared.Turn.{Turn}
 use Rattle.transcript.proofs.ListParts.{printed-front}
 use Rattle.transcript.proofs.AnswersPrinted.{take-written}
 
--- a program's file, and its marks
-abbrev deskOf : Program → Desk
-deskOf p = record { file = written p; marks = freshMarks p }
+-- a file that is read as a program, and the marks of that program
+record Holds (p : Program) (d : Desk) : Type 0 where
+  well-formed : WellFormed p
+  file : readFile (d .file) ≡ accepted p
+  marks : d .marks ≡ freshMarks p
 
-module _ (p : Program) (f : WellFormed p) where
+-- what a turn shows for an edit, with the next program held
+record Turned (w : EditRead) (p : Program) (next : ℕ) (s : Shown) : Type 0 where
+  text : s .text ≡ editText w p
+  at : s .next ≡ next
+  held : Holds (programAfter w p) (s .held)
+
+module _ (p : Program) (d : Desk) (k : Holds p d) where
   -- on a program's own file and marks nothing is left to refuse but the line
-  edit-on : (line : List ℕ) → editOn line (deskOf p) ≡ wantedBy (wantedEdit p line) p (freshMarks p) noOutput none-set
+  edit-on : (line : List ℕ) → editOn line d ≡ wantedBy (wantedEdit p line) p (freshMarks p) noOutput none-set
   unfolding repaired checked firstMet noOutput
-  edit-on line = rw (read-again p f, marks-length p, none-length)
+  edit-on line = rw (k .file, k .marks, marks-length p, none-length)
 
-  -- the turn of a line is what the definition prints for it, and the next program's file and marks are held
+  -- the turn of a line is what the definition prints for it
   wanted-turn : (line : List ℕ) (next : ℕ) (w : EditRead) → wantedEdit p line ≡ w
-      → turnedBy (wantedBy w p (freshMarks p) noOutput none-set) (written p) next
-      ≡ record { text = editText w p; next = next; held = deskOf (programAfter w p) }
+      → Turned w p next (turnedBy (wantedBy w p (freshMarks p) noOutput none-set) (d .file) next)
   unfolding firstMet
-  wanted-turn line next (read.Refused n) h = refl
+  wanted-turn line next (read.Refused n) h =
+      record { text = refl; at = refl; held = record { well-formed = k .well-formed; file = k .file; marks = refl } }
   wanted-turn line next (read.Read e) h =
-      rw (same-self (freshMarks p), take-written (editedProgram e p) noOutput, edited-read e p f (wanted-applies p line e h))
+      let a = wanted-applies p line e h in
+      let q = editedProgram e p in
+      let r = edited-read e p (k .well-formed) a in
+      rw (same-self (freshMarks p), take-written q noOutput)
+      (record { text = rw r; at = refl; held = record { well-formed = applied-well-formed e p (k .well-formed) a; file = r; marks = refl } })
 
-  one-turn : (line : List ℕ) (next : ℕ) → turnedBy (editOn line (deskOf p)) (written p) next
-      ≡ record { text = editText (wantedEdit p line) p; next = next; held = deskOf (programAfter (wantedEdit p line) p) }
-  one-turn line next = rw (edit-on line) (wanted-turn line next (wantedEdit p line) refl)
-
-  still-well-formed : (line : List ℕ) (w : EditRead) → wantedEdit p line ≡ w → WellFormed (programAfter w p)
-  still-well-formed line (read.Refused n) h = f
-  still-well-formed line (read.Read e) h = applied-well-formed e p f (wanted-applies p line e h)
-
-is-turn : (input : List ℕ) (at : ℕ) (p : Program) → WellFormed p → turned input at (deskOf p)
-    ≡ record {
-      text = editText (wantedEdit p (lineAt input at)) p;
-      next = at + firstSize (lines (drop at input));
-      held = deskOf (programAfter (wantedEdit p (lineAt input at)) p);
-    }
-unfolding turned
-is-turn input at p f = one-turn p f (lineAt input at) (at + firstSize (lines (drop at input)))
+  is-turn : (input : List ℕ) (at : ℕ) → Turned (wantedEdit p (lineAt input at)) p (at + firstSize (lines (drop at input))) (turned input at d)
+  unfolding turned
+  is-turn input at = rw (edit-on (lineAt input at)) (wanted-turn (lineAt input at) (at + firstSize (lines (drop at input))) (wantedEdit p (lineAt input at)) refl)
 
 -- what is printed from a turn on is what the definition says of the lines that are left
-turns-text : {input : List ℕ} {t : Turn} {texts : List (List ℕ)} (p : Program) → WellFormed p → heldOf (t .held) ≡ deskOf p → Turns input t texts
+turns-text : {input : List ℕ} {t : Turn} {texts : List (List ℕ)} (p : Program) → Holds p (heldOf (t .held)) → Turns input t texts
     → flatten texts ≡ editsText p (lines (drop (t .next) input))
 unfolding editsText lines flatten
-turns-text {input} p f e (over h) = rw (drop-of-length-le input h)
-turns-text {input} {t} p f e (turn {t′ = t′} {old = old} {new = new} {texts = texts} h g ts) =
+turns-text {input} p k (over h) = rw (drop-of-length-le input h)
+turns-text {input} {t} p k (turn {t′ = t′} {old = old} {new = new} {texts = texts} h g ts) =
     let at : ℕ = t .next in
     let l : List ℕ = lineAt input at in
     let next : ℕ = at + firstSize (lines (drop at input)) in
     let q : Program = programAfter (wantedEdit p l) p in
-    let g′ = subst (λ (s : Shown). TurnGives s old new t′) (ap (turned input at) e ∙ is-turn input at p f) g in
-    let front : take (t′ .size) new ≡ editText (wantedEdit p l) p = printed-front (editText (wantedEdit p l) p) old (g′ .printed) in
+    let s : Turned (wantedEdit p l) p next (turned input at (heldOf (t .held))) = is-turn p (heldOf (t .held)) k input at in
+    let front : take (t′ .size) new ≡ editText (wantedEdit p l) p = printed-front (turned input at (heldOf (t .held)) .text) old (g .printed) ∙ s .text in
     let rest : flatten texts ≡ editsText q (lines (drop next input)) =
-    turns-text q (still-well-formed p f l (wantedEdit p l) refl) (g′ .held) ts ∙ ap (λ (n : ℕ). editsText q (lines (drop n input))) (g′ .next) in
+    turns-text q (subst (Holds q) (sym (g .held)) (s .held)) ts ∙ ap (λ (n : ℕ). editsText q (lines (drop n input))) (g .next ∙ s .at) in
     (λ i. front i ++ rest i) ∙ sym (ap (editsText p) (next-line input at (firstSize (lines (drop at input))) h refl))
 
 -- after the input's end there is no turn
@@ -103,8 +101,14 @@ module _ {input : List ℕ} {t : Turn} {texts : List (List ℕ)} (ts : Turns inp
   file-text (verdict.Refused n line) h g = alone-text _ g
   file-text {old} verdict.Accepted h g =
       let p : Program = readFile (fileOf input) .program in
-      let own : heldOf (t .held) ≡ deskOf p = g .held ∙ (λ i. record { file = sym (written-back (fileOf input) h) i; marks = freshMarks p }) in
-      let rest = turns-text p (accepted-well-formed (fileOf input) h) own ts ∙ ap (λ (n : ℕ). editsText p (lines (drop n input))) (g .next) in
+      let own : Holds p (started (fileOf input)) =
+      record {
+        well-formed = accepted-well-formed (fileOf input) h;
+        file = λ i. record { verdict = h i; program = p };
+        marks = refl;
+      }
+      in
+      let rest = turns-text p (subst (Holds p) (sym (g .held)) own) ts ∙ ap (λ (n : ℕ). editsText p (lines (drop n input))) (g .next) in
       λ i. printed-front (blockOf p (freshMarks p)) old (g .printed) i ++ rest i
 
 pub turns-print : {input old new : List ℕ} {t : Turn} {texts : List (List ℕ)} → TurnGives (begun input) old new t → Turns input t texts

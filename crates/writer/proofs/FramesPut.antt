@@ -1,7 +1,7 @@
 -- Frames written one after the other.
 use mathlib.Core.Path.{_≡_, refl, sym, ap, _∙_}
 use mathlib.Core.Bool.{Bool, true, false, cond, _&&_}
-use mathlib.Core.List.{List, [], _∷_, _++_, map, map-map, append-assoc, append-nil}
+use mathlib.Core.List.{List, [], _∷_, _++_, map, map-map, append-nil}
 use Prim.Native.Nat.{ℕ, zero, suc, min, _+_, _*_, _%_, _<_, _≤_}
 use native.Mathlib.Nat.{zero-add, add-zero}
 use native.Mathlib.Numerals.{add-one}
@@ -11,7 +11,7 @@ use lib.ListN.{length, take, drop, getD, length-append, length-map, length-take,
 use lib.Seq.{sets, length-sets, sets-eq, take-suc, take-all, getD-take}
 use borrow.Author.Tests.{ltb-true}
 use Rattle.text.specs.Hex.{hexLine}
-use Rattle.text.specs.Lines.{pad, lineOf}
+use Rattle.text.specs.Lines.{pad, maxNumbers, lineOf}
 use Rattle.text.specs.declared.Line.{Line}
 use Rattle.text.proofs.RoundTrip.{length-hex}
 use Rattle.text.proofs.NumbersStored.{sets-append}
@@ -19,17 +19,13 @@ use Rattle.automaton.specs.Automaton.{Automaton}
 use Rattle.automaton.specs.Decoded.{transitionOf}
 use Rattle.program.specs.Program.{Program, transitionFits}
 use Rattle.program.specs.Frames.{headerFrame, nodesFrame, edgeFrame, transitionFrame, endFrame}
+use Rattle.program.proofs.ProgramLimits.{text-append}
 use Rattle.program.specs.Writing.{nodesFrames, framesOf, text, written}
 use Rattle.program.specs.WellFormed.{All}
 use Rattle.program.specs.Decoded.{edgeOf}
 use Rattle.writer.specs.Parts.{lowerByte, keyFrame, byteFrame, byteFrames, automatonFrames, RoomFor, Put}
 
 -- ---- the text of frames
-
-text-append : (fs gs : List (List ℕ)) → text (fs ++ gs) ≡ text fs ++ text gs
-unfolding text
-text-append [] gs = refl
-text-append (f ∷ fs) gs = rw (text-append fs gs) (sym (append-assoc (hexLine f) (text fs) (text gs)))
 
 text-one : (f : List ℕ) → text (f ∷ []) ≡ hexLine f
 unfolding text
@@ -56,10 +52,10 @@ nodes-at f (n ∷ ns) (suc i) =
     let e : f + 1 + i ≡ f + suc i = omega arith in
     rw e at (nodes-at (f + 1) ns i)
 
-pub key-short : (kind k : ℕ) → length (keyFrame kind k) ≤ 6
+pub key-short : (kind k : ℕ) → length (keyFrame kind k) ≤ maxNumbers
 key-short kind k = go (eqb kind 0x53)
   where
-    go : (t : Bool) → length (cond t (edgeFrame (edgeOf k)) (transitionFrame (lowerByte (transitionOf k)))) ≤ 6
+    go : (t : Bool) → length (cond t (edgeFrame (edgeOf k)) (transitionFrame (lowerByte (transitionOf k)))) ≤ maxNumbers
     go true = omega arith
     go false = omega arith
 
@@ -101,11 +97,11 @@ take-pad zero (x ∷ xs) h = absurd (omega arith)
 take-pad (suc n) (x ∷ xs) h = ap (λ (l : List ℕ). x ∷ l) (take-pad n xs (omega arith))
 
 -- what `put_line` gives
-pub put-one : {o out : List ℕ} {at pos : ℕ} (l : Line) (f : List ℕ) → l ≡ lineOf f → length f ≤ 6
+pub put-one : {o out : List ℕ} {at pos : ℕ} (l : Line) (f : List ℕ) → l ≡ lineOf f → length f ≤ maxNumbers
     → (pos ≡ at + 2 * l .count + 1) × (out ≡ sets o at (hexLine (take (l .count) (l .numbers)))) → Put (f ∷ []) o out at pos
 put-one {o} {out} {at} {pos} l f e short p =
     let n : l .count ≡ length f = ap (λ (x : Line). x .count) e in
-    let w : take (l .count) (l .numbers) ≡ f = rw e (take-pad 6 f short) in
+    let w : take (l .count) (l .numbers) ≡ f = rw e (take-pad maxNumbers f short) in
     record { there = rw text-one (rw w at (p .1)); past = omega (arith, long-one f) }
 
 -- ---- a section: its frames are written in turn
@@ -114,14 +110,14 @@ put-one {o} {out} {at} {pos} l f e short p =
 pub record Section (F : ℕ → ℕ → List ℕ) (xs : List ℕ) (n : ℕ) (fs : List (List ℕ)) : Type 0 where
   pub long : length fs ≡ n
   pub frame : (i : ℕ) → i < n → getD fs i (F i 0) ≡ F i (getD xs i 0)
-  pub short : (i x : ℕ) → length (F i x) ≤ 6
+  pub short : (i x : ℕ) → length (F i x) ≤ maxNumbers
 
 module _ (xs : List ℕ) (count n : ℕ) (e : n ≡ min count (length xs)) where
   long-take : length (take count xs) ≡ n
   long-take = length-take count xs ∙ sym e
 
   -- a frame for each entry
-  pub mapped : (F : ℕ → List ℕ) → ((x : ℕ) → length (F x) ≤ 6) → Section (λ i x. F x) xs n (map F (take count xs))
+  pub mapped : (F : ℕ → List ℕ) → ((x : ℕ) → length (F x) ≤ maxNumbers) → Section (λ i x. F x) xs n (map F (take count xs))
   mapped F short = record {
     long = length-map (take count xs) F ∙ long-take;
     frame = λ i h. List·getD-map F (take count xs) i 0 ∙ rw (getD-take count xs i 0 (omega arith));
@@ -166,11 +162,11 @@ module _ {F : ℕ → ℕ → List ℕ} {xs : List ℕ} {n : ℕ} {fs : List (Li
     next = rw (add-one, take-suc fs i (F i 0) (omega (arith, s .section .long)), s .section .frame i h)
 
     -- what `put_line` asks
-    pub room : (l .count ≤ 6) × (pos + 2 * l .count < length out)
+    pub room : (l .count ≤ maxNumbers) × (pos + 2 * l .count < length out)
     room =
         let f : List ℕ = F i (getD xs i 0) in
         let c : l .count ≡ length f = ap (λ (x : Line). x .count) e in
-        let b : length f ≤ 6 = s .section .short i (getD xs i 0) in
+        let b : length f ≤ maxNumbers = s .section .short i (getD xs i 0) in
         let k = same-long (s .put) in
         let u = long-append (take (i + 1) fs) (drop (i + 1) fs) in
         let v = long-append (take i fs) (f ∷ []) in

@@ -27,7 +27,7 @@ ghost use Rattle.writer.specs.Parts.{lowerByte, keyFrame, byteFrame, byt
 fn header_line(routines: u8, states: u8, actions: u8) -> Line
     ensures { λ r. ⌜ r ≡ lineOf (headerFrame routines states actions) ⌝ }
 {
-    let numbers = [0x50, routines, states, actions, 0, 0];
+    let numbers = [0x50, routines, states, actions, 0, 0, 0, 0];
     Line { count: 4, numbers }
 }
 
@@ -36,7 +36,16 @@ fn end_line(frames: usize) -> Line
     requires { ⌜ frames ≤ maxFrames ⌝ }
     ensures { λ r. ⌜ r ≡ lineOf (endFrame frames) ⌝ }
 {
-    let numbers = [0x45, (frames / 256) as u8, (frames % 256) as u8, 0, 0, 0];
+    let numbers = [
+        0x45,
+        (frames / 256) as u8,
+        (frames % 256) as u8,
+        0,
+        0,
+        0,
+        0,
+        0,
+    ];
     Line { count: 3, numbers }
 }
 
@@ -46,10 +55,10 @@ fn entry_line(kind: u8, i: u8, x: u8) -> Line
     ensures { λ r. ⌜ r ≡ lineOf (byteFrame kind i x) ⌝ }
 {
     if kind == 0x52 {
-        let numbers = [0x52, i, x, 0, 0, 0];
+        let numbers = [0x52, i, x, 0, 0, 0, 0, 0];
         return Line { count: 3, numbers };
     }
-    let numbers = [kind, x, 0, 0, 0, 0];
+    let numbers = [kind, x, 0, 0, 0, 0, 0, 0];
     Line { count: 2, numbers }
 }
 
@@ -57,7 +66,7 @@ fn edge_line(key: u32) -> Line
     ensures { λ r. ⌜ r ≡ lineOf (edgeFrame (edgeOf key)) ⌝ }
 {
     let e = edge(key);
-    let numbers = [0x53, e.routine, e.source, e.label, e.target, 0];
+    let numbers = [0x53, e.routine, e.source, e.label, e.target, 0, 0, 0];
     Line { count: 5, numbers }
 }
 
@@ -70,6 +79,8 @@ fn transition_line(key: u32) -> Line
         (t.before % 256) as u8,
         t.action as u8,
         t.after as u8,
+        0,
+        0,
         0,
         0,
     ];

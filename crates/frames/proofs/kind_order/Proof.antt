@@ -6,4 +6,4 @@ pub kind-order-spec : {M : Type 1} → statement M
 kind-order-spec =
     tie.close
     (tie.spec (λ c. search tests) (λ c. search tests) (λ c. search tests) (λ c. search tests) (λ c. search tests)
-    (λ c. search tests) (λ c. search tests) (λ c. search tests))
+    (λ c. search tests) (λ c. search tests) (λ c. search tests) (λ c. search tests))

@@ -19,19 +19,21 @@ sizes z = (search needs, search needs, search needs)
 
 returns : tie.Need-returns
 unfolding judge judgeAs
-returns c =
-    let t = c .before in
+returns c = λ before h.
+    let limits = c .before in
+    let t = limits .before in
     let e = t .before in
     let n = e .before in
-    let z = n .before .before .before .before .before .before .before in
+    let z = n .before .before .before .before .before .before in
     let p = z .args .s .program in
     let s = sizes z in
     c .fault-by .ensures
     ∙ rw (
-      n .before .limits-of .ensures,
+      limits .limits-of .ensures,
       in-use-length (p .nodes .count) (p .nodes .list) (s .0) (n .in-use .ensures),
       counted edgeOf (p .edges .count) (p .edges .keys) (s .1) (e .in-use2 .ensures),
       counted transitionOf (p .automaton .transitions .count) (p .automaton .transitions .keys) (s .2) (t .in-use3 .ensures),
+      h,
     )
 
 pub fault-of-spec : {M : Type 1} → statement M

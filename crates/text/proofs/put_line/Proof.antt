@@ -6,6 +6,7 @@ use mathlib.Core.List.{[], _∷_}
 use lib.ListN.{length, take, length-set}
 use lib.Seq.{sets}
 use Rattle.text.specs.Hex.{hex}
+use Rattle.text.specs.Lines.{maxNumbers}
 use Rattle.text.proofs.NumbersStored.{one-more, after-hex}
 use borrow.Author.Needs.{needs}
 use Rattle.text.proofs.put_line.Statement.{statement}
@@ -18,7 +19,7 @@ Inv-loop out₀ at v n i₀ k₀ out i k =
 abbrev μ-loop : tie.MeasureT-loop
 μ-loop out₀ at v n i₀ k₀ out i k = n - k
 
-vlen : (c : tie.After-v Inv-loop μ-loop) → length (c .before .before .args .l .numbers) ≡ 6
+vlen : (c : tie.After-v Inv-loop μ-loop) → length (c .before .before .args .l .numbers) ≡ maxNumbers
 vlen c = search needs
 
 loop-holds : tie.Need-loop-holds Inv-loop μ-loop

@@ -4,11 +4,11 @@ use Rattle.reader.proofs.extend.after_frame.Statement.{statement}
 use Rattle.reader.proofs.extend.after_frame.Tie as tie
 
 program-after-requires : tie.Need-program-after-requires
-program-after-requires c κs = rw (c .before .kind-of .ensures) (c .before .before .pre .0)
+program-after-requires c κs = let k = c .before in rw (k .kind-of .ensures) (k .before .pre .0)
 
 returns : tie.Need-returns
 unfolding after afterAs
-returns c = cc
+returns c = λ rows. cc
 
 pub after-frame-spec : {M : Type 1} → statement M
 after-frame-spec =

@@ -14,10 +14,10 @@ add-transition-requires : tie.Need-add-transition-requires
 add-transition-requires c κs = λ e. let z = c .before .before .before .before .before in as-many transitionOf (transitionKeysOf (z .args .a .transitions)) maxTransitions (z .pre .transitions (eqb-true _ 4 e))
 
 add-state-requires : tie.Need-add-state-requires
-add-state-requires c κs = λ e. c .before .before .before .before .before .before .pre .initial (eqb-true _ 5 e)
+add-state-requires c κs = λ e. c .before .before .before .before .before .before .pre .initial (eqb-true _ 6 e)
 
 add-state-requires-2 : tie.Need-add-state-requires-2
-add-state-requires-2 c κs = λ e. c .before .before .before .before .before .before .before .pre .rejecting (eqb-true _ 6 e)
+add-state-requires-2 c κs = λ e. c .before .before .before .before .before .before .before .pre .rejecting (eqb-true _ 7 e)
 
 returns : tie.Need-returns
 returns c =
