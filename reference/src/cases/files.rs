@@ -84,7 +84,7 @@ fn lines_that_are_no_frames() -> Vec<Case> {
         case("the byte after 9", replaced(2, "52000:"), 1, 2),
         case("the byte before A", replaced(2, "52000@"), 1, 2),
         case("the byte after F", replaced(2, "52000G"), 1, 2),
-        case("kind unknown", replaced(4, "5500004102"), 2, 4),
+        case("kind unknown", replaced(4, "5600004102"), 2, 4),
         case("kind 51", inserted(2, "51"), 2, 2),
         case("kind 00 first", inserted(1, "00"), 2, 1),
         case("kind FF", inserted(13, "FF0000"), 2, 13),
@@ -139,7 +139,16 @@ fn broken_order() -> Vec<Case> {
 
 /// Every other kind as the first frame, well-formed or not.
 fn wrong_first_frames() -> Vec<Case> {
-    let first = ["520002", "5300000001", "54000000", "4900", "4600", "450000"];
+    let row = "55010000000100";
+    let first = [
+        "520002",
+        "5300000001",
+        "54000000",
+        row,
+        "4900",
+        "4600",
+        "450000",
+    ];
     let mut cases = vec![
         case("sizes left out", removed(1), 4, 1),
         case("sizes second", swapped(1, 2), 4, 1),
@@ -342,7 +351,7 @@ fn lines_past_full_tables() -> Vec<Case> {
             4,
             274,
         ),
-        case("257th of no kind", steps(&[0x55, 0, 0, 0, 0]), 2, 274),
+        case("257th of no kind", steps(&[0x56, 0, 0, 0, 0]), 2, 274),
         case("257th too short", steps(&[0x53, 15, 15, 31]), 3, 274),
         case("257th rule line", rule(&[0x54, 7, 31, 7]), 6, 274),
         case("257th rule, state 8", rule(&[0x54, 8, 0, 0]), 5, 274),
@@ -355,8 +364,8 @@ fn lines_past_full_tables() -> Vec<Case> {
 fn several_faults() -> Vec<Case> {
     let two_wrong_lines = "50020302\n520003\n520111\n5300004\n";
     vec![
-        case("unknown and odd", replaced(4, "550"), 1, 4),
-        case("unknown, a bad character", replaced(4, "55G0"), 1, 4),
+        case("unknown and odd", replaced(4, "560"), 1, 4),
+        case("unknown, a bad character", replaced(4, "56G0"), 1, 4),
         case("wrong count and odd", replaced(4, "53000"), 1, 4),
         case("unknown kind alone", replaced(4, "99"), 2, 4),
         case("unknown and first", "99\n", 2, 1),

@@ -30,7 +30,7 @@ pub fn bench(input: &[u8]) -> Vec<u8> {
 
 /// The file goes through the first line that starts with 45, and is all of the input if there is no
 /// such line. Each line after it is an edit.
-fn file_and_edits(input: &[u8]) -> (Vec<u8>, Vec<&[u8]>) {
+pub fn file_and_edits(input: &[u8]) -> (Vec<u8>, Vec<&[u8]>) {
     let mut lines = lines(input);
     let end = lines.iter().position(|line| starts_with_kind(line, END));
     let edits = match end {

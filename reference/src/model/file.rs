@@ -1,15 +1,18 @@
 //! Reading a program file.
 //!
 //! A file is cut into lines, each line is judged against the frames before it, and the first
-//! faulty line decides, with the lowest number among its faults.
+//! faulty line decides, with the lowest number among its faults. Only where no line has one, the
+//! table is judged, in a file with rows.
 
 use crate::model::kinds::{
-    place_of_frame, END, FORBIDDEN, FRAMES, ROUTINE, RULE, SIZES, START, STEP,
+    place_of_frame, END, FORBIDDEN, FRAMES, ROUTINE, ROW, RULE, SIZES, START, STEP,
 };
 use crate::model::lines::{lines, numbers_of_kind, two_numbers};
 use crate::model::program::{Program, RuleLine, Step, TABLE_ROWS};
 use crate::model::ranges::{sizes_in_range, Ranges};
 use crate::model::refusals::{FileRefusal, END_COUNT, FILE_END, ORDER, RANGE, TABLE_FULL};
+use crate::model::table::{rule_of_rows, Row};
+use std::collections::BTreeSet;
 
 /// What reading a file gives.
 pub type Reading = Result<Program, FileRefusal>;
@@ -40,7 +43,10 @@ pub fn read(file: &[u8]) -> Reading {
         let faults = vec![FILE_END];
         return Err(FileRefusal { faults, line });
     }
-    Ok(program_of(&before))
+    program_of(&before).map_err(|fault| FileRefusal {
+        faults: vec![fault],
+        line: 0,
+    })
 }
 
 fn ended(before: &[Frame]) -> bool {
@@ -79,7 +85,8 @@ fn order_broken(before: &[Frame], frame: &Frame) -> bool {
     let second_sizes = frame[0] == SIZES;
     let kind_too_late = place_of_frame(frame[0]) < place_of_frame(last[0]);
     let not_ascending = frame[0] == last[0] && frame[1..] <= last[1..];
-    second_sizes || kind_too_late || not_ascending || routine_misplaced(before, frame)
+    let misplaced = routine_misplaced(before, frame) || rule_mixed(before, frame);
+    second_sizes || kind_too_late || not_ascending || misplaced
 }
 
 /// Whether this frame shows that a routine frame is left out or repeated. While routine frames are
@@ -93,6 +100,16 @@ fn routine_misplaced(before: &[Frame], frame: &Frame) -> bool {
         (true, true) => routine != there,
         (true, false) => routine < there,
         (false, missing) => missing,
+    }
+}
+
+/// Whether this is a rule line in a file that has a row, or a row in a file that has a rule line.
+fn rule_mixed(before: &[Frame], frame: &Frame) -> bool {
+    let has = |kind| of_kind(before, kind).next().is_some();
+    match frame[0] {
+        RULE => has(ROW),
+        ROW => has(RULE),
+        _ => false,
     }
 }
 
@@ -110,6 +127,7 @@ fn out_of_range(before: &[Frame], frame: &Frame) -> bool {
         ROUTINE => ranges.has_routine(frame[1], frame[2]),
         STEP => ranges.has_step(Step::of_numbers(&frame[1..])),
         RULE => ranges.has_rule_line(RuleLine::of_numbers(&frame[1..])),
+        ROW => ranges.has_row(Row::of_numbers(&frame[1..])),
         START | FORBIDDEN => ranges.has_state(frame[1]),
         _ => true,
     };
@@ -128,7 +146,7 @@ fn ranges_of(before: &[Frame]) -> Ranges {
 
 /// Refusal 6.
 fn table_full(before: &[Frame], frame: &Frame) -> bool {
-    let has_table = frame[0] == STEP || frame[0] == RULE;
+    let has_table = [STEP, RULE, ROW].contains(&frame[0]);
     has_table && of_kind(before, frame[0]).count() >= TABLE_ROWS
 }
 
@@ -137,21 +155,31 @@ fn end_count_wrong(before: &[Frame], frame: &Frame) -> bool {
     frame[0] == END && frame[1..] != two_numbers(before.len())
 }
 
-/// The program that accepted frames say.
-fn program_of(frames: &[Frame]) -> Program {
+/// The program that accepted frames say, or the refusal of their table, 19 or 20.
+fn program_of(frames: &[Frame]) -> Result<Program, u32> {
     let ranges = ranges_of(frames);
     let step = |frame: &Frame| Step::of_numbers(&frame[1..]);
-    let rule_line = |frame: &Frame| RuleLine::of_numbers(&frame[1..]);
     let state = |frame: &Frame| frame[1];
-    Program {
+    Ok(Program {
+        rule: rule_of(frames, &ranges)?,
         places: ranges.places,
         states: ranges.states,
         actions: ranges.actions,
         steps: of_kind(frames, STEP).map(step).collect(),
-        rule: of_kind(frames, RULE).map(rule_line).collect(),
         starts: of_kind(frames, START).map(state).collect(),
         forbidden: of_kind(frames, FORBIDDEN).map(state).collect(),
+    })
+}
+
+/// The rule that accepted frames say. Nothing is asked of one that is put down in lines.
+fn rule_of(frames: &[Frame], ranges: &Ranges) -> Result<BTreeSet<RuleLine>, u32> {
+    let rule_line = |frame: &Frame| RuleLine::of_numbers(&frame[1..]);
+    let row = |frame: &Frame| Row::of_numbers(&frame[1..]);
+    let rows: Vec<Row> = of_kind(frames, ROW).map(row).collect();
+    if rows.is_empty() {
+        return Ok(of_kind(frames, RULE).map(rule_line).collect());
     }
+    rule_of_rows(&rows, ranges.states, ranges.actions)
 }
 
 #[cfg(test)]
@@ -159,7 +187,6 @@ mod tests {
     use super::*;
     use crate::cases::{self, sample};
     use crate::model::program::Label;
-    use std::collections::BTreeSet;
 
     #[test]
     fn sample_is_read_as_the_program_it_says() {

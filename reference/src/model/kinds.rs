@@ -15,19 +15,32 @@ pub const SIZES: u8 = 0x50;
 pub const ROUTINE: u8 = 0x52;
 pub const STEP: u8 = 0x53;
 pub const RULE: u8 = 0x54;
+pub const ROW: u8 = 0x55;
 pub const START: u8 = 0x49;
 pub const FORBIDDEN: u8 = 0x46;
 pub const END: u8 = 0x45;
 
-/// The kinds of frames, in the order in which they stand in a file.
-pub const FRAMES: [Kind; 7] = [
+/// The kinds of frames.
+pub const FRAMES: [Kind; 8] = [
     kind(SIZES, 3),
     kind(ROUTINE, 2),
     kind(STEP, 4),
     kind(RULE, 3),
+    kind(ROW, 6),
     kind(START, 1),
     kind(FORBIDDEN, 1),
     kind(END, 2),
+];
+
+/// The order in which the kinds of frames stand in a file. Rows stand where the rule lines would.
+const PLACES: [&[u8]; 7] = [
+    &[SIZES],
+    &[ROUTINE],
+    &[STEP],
+    &[RULE, ROW],
+    &[START],
+    &[FORBIDDEN],
+    &[END],
 ];
 
 pub const ADD: u8 = 0x2B;
@@ -50,5 +63,5 @@ pub fn count_of_numbers(kinds: &[Kind], number: u8) -> Option<usize> {
 
 /// Where a kind of frame stands in the order of a file; None if there is no such kind.
 pub fn place_of_frame(number: u8) -> Option<usize> {
-    FRAMES.iter().position(|kind| kind.number == number)
+    PLACES.iter().position(|kinds| kinds.contains(&number))
 }

@@ -11,6 +11,7 @@
 //! - `program` says what a program is, and `ranges` which numbers it may hold.
 //! - `lines` reads and writes lines of hexadecimal, `file` reads a file into a program or says which
 //!   line is refused, and why, and `write` writes a program.
+//! - `table` has the rows in which a file may put down its rule, and the rule lines that they become.
 //! - `edit` has the edits of a program's steps, and which of them are refused.
 //!
 //! What a program can do:
@@ -48,4 +49,5 @@ pub mod ranges;
 pub mod refusals;
 pub mod runs;
 pub mod standing;
+pub mod table;
 pub mod write;

@@ -4,7 +4,7 @@ use std::collections::BTreeSet;
 
 /// The label that calls routine 0; routine f is called by the label f above it.
 pub const FIRST_CALL: u8 = 0x40;
-/// How many steps a program may have, and how many rule lines.
+/// How many steps a program may have, and how many rule lines; and how many rows a file.
 pub const TABLE_ROWS: usize = 256;
 /// The exit of every routine.
 pub const EXIT: u8 = 1;

@@ -1,6 +1,7 @@
 //! Which numbers are in range: refusal 5 of a frame, and 13 of an edit, which is judged as 5.
 
 use crate::model::program::{Label, Program, RuleLine, Step, EXIT};
+use crate::model::table::Row;
 
 /// What numbers are held against: the sizes, and how many places each routine has, as far as it is
 /// known.
@@ -49,6 +50,13 @@ impl Ranges {
 
     pub fn has_rule_line(&self, line: RuleLine) -> bool {
         self.has_state(line.from) && line.action < self.actions && self.has_state(line.to)
+    }
+
+    /// Every bit and the next state have to fit. A row without a bit has no bit that does not.
+    pub fn has_row(&self, row: Row) -> bool {
+        let states_fit = row.states().all(|state| self.has_state(state));
+        let actions_fit = row.actions().all(|action| action < self.actions);
+        states_fit && actions_fit && self.has_state(row.to)
     }
 
     pub fn has_state(&self, state: u8) -> bool {

@@ -10,6 +10,8 @@ pub const TABLE_FULL: u32 = 6;
 pub const END_COUNT: u32 = 7;
 // Of the file as a whole.
 pub const FILE_END: u32 = 8;
+pub const PAIR_NOT_MET: u32 = 19;
+pub const PAIR_MET_TWICE: u32 = 20;
 // Of the buffers.
 pub const SHEET_LENGTH: u32 = 9;
 pub const OUTPUT_SHORT: u32 = 10;
@@ -26,10 +28,11 @@ pub const FOREIGN_SHEET: u32 = 17;
 pub const INPUT_LONG: u32 = 18;
 
 /// How many numbers there are to answer with: every refusal's, and 0 for none.
-pub const ANSWERS: usize = 19;
+pub const ANSWERS: usize = 21;
 
 /// Why a file is refused: all faults of the line that decides, lowest first, and that line's number,
-/// counted from 1.
+/// counted from 1. Where its table decides, the one fault is that of the first faulty pair, and the
+/// line is 0.
 #[derive(Clone, Debug, PartialEq, Eq)]
 pub struct FileRefusal {
     pub faults: Vec<u32>,
@@ -43,7 +46,8 @@ impl FileRefusal {
     }
 }
 
-/// A refusal as a call answers it: its number and its line, which is 0 for all but a file's.
+/// A refusal as a call answers it: its number and its line, which is 0 for all but those of a file's
+/// lines.
 #[derive(Clone, Copy, Debug, PartialEq, Eq)]
 pub struct Refused {
     pub number: u32,

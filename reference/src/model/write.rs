@@ -1,10 +1,12 @@
-//! Writing a program as a file.
+//! Writing a program as a file. Its rule is written as lines, whether it was read from lines or from
+//! rows.
 
 use crate::model::kinds::{END, FORBIDDEN, ROUTINE, RULE, SIZES, START, STEP};
 use crate::model::lines::{line_of, two_numbers};
 use crate::model::program::Program;
 
-/// The longest file, and the least length of an output.
+/// The longest file that is written, and so the least length of an output. One with rows that is
+/// read may be longer.
 pub const OUTPUT_SIZE: usize = 5328;
 
 /// The program's file.
