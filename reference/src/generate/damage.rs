@@ -47,7 +47,7 @@ fn place_of_line(line: &[u8]) -> usize {
 }
 
 /// Makes the last line's count right, if the last line is an end frame.
-fn correct_end_count(lines: &mut Lines) {
+pub fn correct_end_count(lines: &mut Lines) {
     let before = lines.len().saturating_sub(1);
     if let Some(last) = lines.last_mut() {
         if starts_with_kind(last, END) {

@@ -3,20 +3,27 @@
 use crate::generate::damage::damage;
 use crate::generate::edits;
 use crate::generate::files::file_of_seed;
-use crate::generate::programs::program_of_shape;
+use crate::generate::programs::{program_by_shares, program_of_shape};
 use crate::generate::random::Random;
 use crate::generate::shapes::{shape_by_shares, Shape};
+use crate::generate::tables::{complete_file, file_with_rows_of_seed};
 use crate::model::analysis::own_sheet;
 use crate::model::bench::MOST_INPUT;
 use crate::model::edit::edited_by_line;
+use crate::model::file::read;
 use crate::model::lines::lines;
 use crate::model::program::Program;
 use crate::model::write::write;
 
-/// A file and so many edits, each for the program as the others leave it. Some are no lines of their
-/// own, and the last may lack its 0A.
+/// A program's file and so many edits.
 pub fn file_with_edits(random: &mut Random, home: &Program, count: usize) -> Vec<u8> {
-    let mut input = write(home);
+    with_edits(random, write(home), home, count)
+}
+
+/// A file of a program and so many edits, each for the program as the others leave it. Some are no
+/// lines of their own, and the last may lack its 0A.
+pub fn with_edits(random: &mut Random, file: Vec<u8>, home: &Program, count: usize) -> Vec<u8> {
+    let mut input = file;
     let mut now = home.clone();
     for _ in 0..count {
         let line = edits::line(random, home, &now, &own_sheet(&now));
@@ -56,13 +63,47 @@ pub fn input_of_seed(seed: u64) -> Vec<u8> {
         0..=9 => damage(random, &input),
         10..=14 => [file_of_seed(seed), input].concat(),
         15..=24 => file_of_seed(seed),
-        25..=26 => {
-            let length = random.pick(&[MOST_INPUT - 1, MOST_INPUT, MOST_INPUT + 1]);
-            let filled = vec![b'\n'; length.saturating_sub(input.len())];
-            [input, filled].concat()
-        }
+        25..=26 => filled(random, input),
         _ => input,
     }
+}
+
+/// The input with empty lines after it, up to about as many bytes as there may be.
+fn filled(random: &mut Random, input: Vec<u8>) -> Vec<u8> {
+    let length = random.pick(&[MOST_INPUT - 1, MOST_INPUT, MOST_INPUT + 1]);
+    let lines = vec![b'\n'; length.saturating_sub(input.len())];
+    [input, lines].concat()
+}
+
+/// The input that begins with a file with rows and belongs to a seed.
+pub fn input_with_rows_of_seed(seed: u64) -> Vec<u8> {
+    let random = &mut Random::new(seed);
+    let file = match random.below(100) {
+        0..=39 => complete_table(random),
+        _ => file_with_rows_of_seed(seed),
+    };
+    let count = random.below(16);
+    let input = match read(&file) {
+        Ok(home) => with_edits(random, file, &home, count),
+        Err(_) => [&file[..], b"2B00000001\n"].concat(),
+    };
+    match random.below(100) {
+        0..=7 => damage(random, &input),
+        8..=9 => filled(random, input),
+        _ => input,
+    }
+}
+
+/// A file with a complete table, of a program in which much can happen.
+fn complete_table(random: &mut Random) -> Vec<u8> {
+    let shares = [
+        (40, Shape::Tiny),
+        (25, Shape::Recursive),
+        (25, Shape::Layered),
+        (10, Shape::Crowded),
+    ];
+    let program = program_by_shares(random, &shares);
+    complete_file(random, &program)
 }
 
 /// Whether a text can stand as a line of its own among others.

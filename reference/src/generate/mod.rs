@@ -3,12 +3,15 @@
 //! - `random` is the source of numbers.
 //! - `files` makes files for reading: programs of every size, damaged ones, and hardly files at all;
 //!   `damage` does the damage.
+//! - `tables` makes files with rows: complete tables, faulty ones, and damaged ones; `row_damage` does
+//!   the damage to rows.
 //! - `programs` makes programs for the analysis, in which much can happen, by plans for the `shapes`.
 //! - `edits` makes edit lines, `sheets` makes sheets, `calls` makes the calls of a list, and `inputs`
 //!   makes inputs of `bench`.
-//! - `met` counts what they have met.
+//! - `met` counts the refusals that they have met, and `classes` the kinds of files with rows.
 
 pub mod calls;
+pub mod classes;
 pub mod damage;
 pub mod edits;
 pub mod files;
@@ -16,5 +19,7 @@ pub mod inputs;
 pub mod met;
 pub mod programs;
 pub mod random;
+pub mod row_damage;
 pub mod shapes;
 pub mod sheets;
+pub mod tables;

@@ -1,5 +1,6 @@
 //! Lists of repair calls, played in two ways: each call by working afresh from the bytes that it
-//! gets, and by the plain book, which knows nothing of bytes.
+//! gets, and by the plain book, which knows nothing of bytes. The first file may have rows; what an
+//! accepted call writes has none.
 
 use crate::model::analysis::own_sheet;
 use crate::model::book::Book;
@@ -36,9 +37,10 @@ pub struct ByRepairs {
 }
 
 impl ByRepairs {
-    pub fn new(program: &Program) -> ByRepairs {
+    /// A list that begins with a file of this program.
+    pub fn new(first: &[u8], program: &Program) -> ByRepairs {
         ByRepairs {
-            file: write(program),
+            file: first.to_vec(),
             sheet: own_sheet(program),
         }
     }
@@ -113,14 +115,23 @@ mod tests {
     use crate::generate::programs::{program_of_seed, program_of_shape};
     use crate::generate::random::Random;
     use crate::generate::shapes::Shape;
+    use crate::generate::tables::{complete_file, has_rows};
     use crate::model::refusals::{BAD_LINE, FOREIGN_SHEET, OUTPUT_SHORT, SHEET_LENGTH, STEPS_FULL};
+
+    /// A first file: half of them have rows.
+    fn first_file(seed: u64, random: &mut Random, program: &Program) -> Vec<u8> {
+        match seed % 2 {
+            0 => write(program),
+            _ => complete_file(random, program),
+        }
+    }
 
     #[test]
     fn the_book_foretells_what_the_repairs_leave() {
-        let mut met = Met::default();
+        let (mut met, mut with_rows) = (Met::default(), Met::default());
         for seed in 0..150 {
             let random = &mut Random::new(seed);
-            let home = match seed % 15 {
+            let program = match seed % 15 {
                 0 => program_of_shape(random, Shape::Crowded),
                 1 => program_of_shape(random, Shape::Mixed),
                 2..=4 => program_of_shape(random, Shape::Recursive),
@@ -128,16 +139,23 @@ mod tests {
                 8 => program_of_seed(seed),
                 _ => program_of_shape(random, Shape::Tiny),
             };
-            let (mut repairs, mut book) = (ByRepairs::new(&home), ByBook::new(&home));
+            let first = first_file(seed, random, &program);
+            let home = read(&first).expect("the first file is accepted");
+            let (mut repairs, mut book) = (ByRepairs::new(&first, &home), ByBook::new(&home));
             for number in 0..40 {
                 let call = call(random, &home, &book.book.program, &book.sheet);
+                let rows = has_rows(&repairs.file);
                 let (given, wanted) = (repairs.call(&call), book.call(&call));
                 assert_eq!(given.answer, wanted.answer, "seed {seed}, call {number}");
                 assert!(given == wanted, "seed {seed}, call {number}");
                 met.note(given.answer.refusal);
+                if rows {
+                    with_rows.note(given.answer.refusal);
+                }
             }
         }
-        println!("{met:?}");
+        println!("{met:?}, with rows {with_rows:?}");
+        with_rows.check([0], 70);
         met.check([0], 3000);
         met.check(OUTPUT_SHORT..=STEPS_FULL, 20);
         let others = (BAD_LINE..=SHEET_LENGTH).chain([FOREIGN_SHEET]);
