@@ -1,6 +1,7 @@
 //! Files whose analysis is worked out by hand. P1 to P4 and P7 are the scope paper's.
 
 use crate::cases::sample;
+use crate::cases::tables::{completed, full};
 
 /// A file that is accepted, the numbers of its standings and of its findings, and how many takings
 /// its fresh working needs.
@@ -34,6 +35,12 @@ pub fn entry_forbidden() -> Vec<u8> {
 }
 
 pub fn all() -> Vec<AnalysisCase> {
+    let mut cases = of_samples();
+    cases.extend(of_tables());
+    cases
+}
+
+fn of_samples() -> Vec<AnalysisCase> {
     let five = &sample::STANDINGS;
     let six = &[0, 65, 129, 130, 1024, 1089];
     let no_start = sample::rewritten(11, 11, &[]);
@@ -59,6 +66,26 @@ pub fn all() -> Vec<AnalysisCase> {
             &[],
             2,
         ),
+    ]
+}
+
+/// A program is analyzed alike whether its rule came in lines or in rows. In the largest file with
+/// rows main's entry leads to every place in every state, and nothing is called.
+fn of_tables() -> Vec<AnalysisCase> {
+    let five = &sample::STANDINGS;
+    let broken = &completed::BROKEN_STANDINGS;
+    let in_main: Vec<usize> = (0..1024).collect();
+    let all_forbidden: Vec<u32> = (0..1024).collect();
+    let (lines, rows) = (completed::in_lines(), completed::in_rows());
+    let (broken_lines, broken_rows) = (completed::broken_in_lines(), completed::broken_in_rows());
+    let largest = full::largest();
+    let found = &[66, 130];
+    vec![
+        case("the completed sample in lines", &lines, five, &[], 6),
+        case("the completed sample in rows", &rows, five, &[], 6),
+        case("broken, in lines", &broken_lines, broken, found, 8),
+        case("broken, in rows", &broken_rows, broken, found, 8),
+        case("the largest", &largest, &in_main, &all_forbidden, 1024),
     ]
 }
 

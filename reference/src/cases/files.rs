@@ -3,6 +3,7 @@
 //! Most of them are the sample file with one thing changed.
 
 use crate::cases::sample::{self, followed_by, inserted, removed, replaced, swapped};
+use crate::cases::tables;
 use crate::model::lines::line_of;
 use crate::model::write::end;
 
@@ -30,10 +31,11 @@ pub fn all() -> Vec<Case> {
     cases.extend(full_tables());
     cases.extend(lines_past_full_tables());
     cases.extend(several_faults());
+    cases.extend(tables::files());
     cases
 }
 
-fn case(name: impl Into<String>, file: impl Into<Vec<u8>>, refusal: u32, line: u32) -> Case {
+pub fn case(name: impl Into<String>, file: impl Into<Vec<u8>>, refusal: u32, line: u32) -> Case {
     Case {
         name: name.into(),
         file: file.into(),
@@ -221,7 +223,7 @@ pub fn with_routines(count: usize) -> Vec<u8> {
     text_of(&frames)
 }
 
-fn text_of(frames: &[Vec<u8>]) -> Vec<u8> {
+pub fn text_of(frames: &[Vec<u8>]) -> Vec<u8> {
     frames.iter().flat_map(|frame| line_of(frame)).collect()
 }
 

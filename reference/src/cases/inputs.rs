@@ -3,6 +3,7 @@
 use crate::cases::files::{full_steps, with_routines};
 use crate::cases::keepings::main_calls_itself;
 use crate::cases::sample::{self, followed_by, removed, replaced};
+use crate::cases::tables::{completed, full};
 use crate::model::write::write;
 
 /// An input, and what is printed for it.
@@ -31,6 +32,7 @@ pub fn all() -> Vec<InputCase> {
     cases.extend(edits_after_the_sample());
     cases.extend(routines_and_steps());
     cases.extend(states_and_labels());
+    cases.extend(files_with_rows());
     cases
 }
 
@@ -167,5 +169,31 @@ fn states_and_labels() -> Vec<InputCase> {
             edit("2B00002001\n"),
             [one, "210D\n"].concat(),
         ),
+    ]
+}
+
+/// Files with rows: what is printed depends on the program only, and a refused table has line 0.
+fn files_with_rows() -> Vec<InputCase> {
+    let edits = b"2B00000102\n2D00000102\n2D00000102\n";
+    let with_edits = |file: Vec<u8>| [&file[..], edits].concat();
+    let broken = "5800010002\n5800020002\n5A00070002\n";
+    let printed = [BLOCK, broken, BLOCK, "210E\n"].concat();
+    let table = |rows: &str| format!("50010202\n520002\n{rows}\n450004\n2B00000001\n");
+    let not_met = table("55010000000300\n55020000000100");
+    let twice = table("55010000000200\n55030000000300");
+    let not_met_first = table("55010000000200\n55010000000201");
+    let (in_lines, in_rows) = (completed::in_lines(), completed::in_rows());
+    let all_of_main = (0..1024).map(|number| {
+        let (place, root, state) = (number / 64, number / 8 % 8, number % 8);
+        format!("5800{place:02X}{root:02X}{state:02X}\n")
+    });
+    let all_of_main = all_of_main.collect::<String>() + "5A04000400\n";
+    vec![
+        case("completed, in lines", with_edits(in_lines), &printed[..]),
+        case("completed, in rows", with_edits(in_rows), &printed[..]),
+        case("a pair not met", not_met, "21130000\n"),
+        case("a pair met twice", twice, "21140000\n"),
+        case("a pair not met first", not_met_first, "21130000\n"),
+        case("more than is written", full::largest(), all_of_main),
     ]
 }

@@ -3,7 +3,8 @@
 //!
 //! - `sample` is the sample program F and its file with one thing changed, and `small` puts down
 //!   small programs as text.
-//! - `files` has files, and `edits` has edit lines, each with its refusal.
+//! - `files` has files, and `edits` has edit lines, each with its refusal; `tables` has the files with
+//!   rows, what they are written as, and repairs of one of them.
 //! - `analyses`, `keepings` and `repairs` have what these calls leave.
 //! - `inputs` has inputs of `bench`.
 
@@ -15,3 +16,4 @@ pub mod keepings;
 pub mod repairs;
 pub mod sample;
 pub mod small;
+pub mod tables;

@@ -54,6 +54,9 @@ mod tests {
         assert_eq!(answer, Answer::refused(10, 0));
         let answer = write_answer(&read(b""), &mut output);
         assert_eq!(answer, Answer::refused(8, 1));
+        let no_pair_met = read(b"50010101\n520002\n55000000000000\n450003\n");
+        let answer = write_answer(&no_pair_met, &mut output);
+        assert_eq!(answer, Answer::refused(19, 0));
         assert!(output.iter().all(|&byte| byte == 0xA5));
     }
 }

@@ -132,6 +132,21 @@ mod tests {
     }
 
     #[test]
+    fn a_file_with_rows_is_repaired_as_its_program() {
+        let reading = read(&cases::tables::completed::in_rows());
+        let program = reading.clone().expect("the file is accepted");
+        for case in cases::tables::completed::repairs() {
+            let mut held = Held::for_line(&program, case.line);
+            let answer = repair_answer(Repair::InsideOut, &reading, &mut held.lend());
+            let given = (answer.refusal, answer.line, answer.value.reopened);
+            assert_eq!(given, (case.refusal, 0, case.reopened), "{}", case.name);
+            assert_eq!(marked(&held.sheet), case.left, "{}", case.name);
+            let written = &held.output[..answer.value.written as usize];
+            assert_eq!(written, case.written, "{}", case.name);
+        }
+    }
+
+    #[test]
     fn reopening_stops_where_pairs_stay() {
         let (program, drops) = cases::repairs::reopenings();
         for (line, reopened) in drops {
@@ -162,9 +177,13 @@ mod tests {
         foreign[16_383] = 1;
         let good = "2B00000102\n";
         let (most, sheets) = (OUTPUT_SIZE, SHEET_SIZE);
+        let not_met = "50010101\n520002\n55010000000000\n450003\n";
+        let met_twice = "50010201\n520002\n55010000000100\n55010000000101\n450004\n";
         for (file, sheet, line, output, work, wanted) in [
             ("", &own[1..], "", 0, 0, (8, 1)),
             ("50\n", &own[1..], "", 0, 0, (3, 1)),
+            (not_met, &own[1..], "", 0, 0, (19, 0)),
+            (met_twice, &own[1..], "", 0, 0, (20, 0)),
             ("F", &own[1..], "", 0, 0, (9, 0)),
             ("F", &own[..], "", most - 1, 0, (10, 0)),
             ("F", &foreign[..], "", most, sheets - 1, (11, 0)),

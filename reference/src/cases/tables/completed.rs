@@ -1,0 +1,120 @@
+//! The sample with its rule completed, so that it can be put down in rows too, and repairs of it.
+
+use crate::cases::sample;
+
+/// The sample's steps.
+const STEPS: [&str; 3] = ["5300004102", "5300020101", "5301000001"];
+/// Its rule says nothing of state 2. Completed, it stays in state 2 on both actions: in lines, and in
+/// rows.
+const LINES: [&str; 6] = [
+    "54000001", "54000102", "54010001", "54010101", "54020002", "54020102",
+];
+const ROWS: [&str; 4] = [
+    "55010000000101",
+    "55010000000202",
+    "55020000000301",
+    "55040000000302",
+];
+
+/// The sample with these steps and this rule.
+fn sample_with(steps: &[&str], rule: &[&str]) -> Vec<u8> {
+    sample::rewritten(4, 10, &[steps, rule].concat())
+}
+
+pub fn in_lines() -> Vec<u8> {
+    sample_with(&STEPS, &LINES)
+}
+
+pub fn in_rows() -> Vec<u8> {
+    sample_with(&STEPS, &ROWS)
+}
+
+/// The completed sample's steps with the one that breaks the rule: from main's entry to place 2 by
+/// action 1.
+const BREAKING: [&str; 4] = ["5300000102", "5300004102", "5300020101", "5301000001"];
+
+pub fn broken_in_lines() -> Vec<u8> {
+    sample_with(&BREAKING, &LINES)
+}
+
+pub fn broken_in_rows() -> Vec<u8> {
+    sample_with(&BREAKING, &ROWS)
+}
+
+/// The standings of the completed sample with the step that breaks the rule. State 2 is now followed
+/// to main's exit, by the lines that the sample does not have.
+pub const BROKEN_STANDINGS: [usize; 7] = [0, 65, 66, 129, 130, 1024, 1089];
+
+/// An edit of the completed sample in rows: the refusal, 0 if none, the numbers marked after it, the
+/// routines that an inside-out repair reopens, bit f for routine f, and the file, in lines, that is
+/// written.
+pub struct RowsRepair {
+    pub name: &'static str,
+    pub line: &'static [u8],
+    pub refusal: u32,
+    pub left: Vec<usize>,
+    pub reopened: u32,
+    pub written: Vec<u8>,
+}
+
+pub fn repairs() -> Vec<RowsRepair> {
+    let accepted = |name, line, left: &[usize], reopened, steps: &[&str]| RowsRepair {
+        name,
+        line,
+        refusal: 0,
+        left: left.to_vec(),
+        reopened,
+        written: sample_with(steps, &LINES),
+    };
+    let refused = |name, line, refusal| RowsRepair {
+        name,
+        line,
+        refusal,
+        left: sample::STANDINGS.to_vec(),
+        reopened: 0,
+        written: Vec::new(),
+    };
+    let relabelled = ["5300004102", "5300020101", "5301000101"];
+    vec![
+        accepted(
+            "a step that breaks the rule",
+            b"2B00000102\n",
+            &BROKEN_STANDINGS,
+            0b01,
+            &BREAKING,
+        ),
+        accepted("a step", b"2D01000001\n", &[0, 1024], 0b11, &STEPS[..2]),
+        accepted("a call", b"2D00004102\n", &[0], 0b01, &STEPS[1..]),
+        accepted(
+            "another label",
+            b"3D0100000101\n",
+            &[0, 66, 130, 1024, 1090],
+            0b11,
+            &relabelled,
+        ),
+        refused("no line", b"", 12),
+        refused("a row as an edit", b"55010000000101\n", 12),
+        refused("action A", b"2B00000202\n", 13),
+        refused("an absent step", b"2D00000102\n", 14),
+        refused("a label by itself", b"3D0000410241\n", 15),
+    ]
+}
+
+#[cfg(test)]
+mod tests {
+    use super::*;
+    use crate::model::analysis::{analyze, Analysis};
+    use crate::model::file::read;
+
+    fn analysis(file: &[u8]) -> Analysis {
+        analyze(&read(file).expect("the file is accepted"))
+    }
+
+    #[test]
+    fn the_completed_sample_is_the_same_in_lines_and_in_rows() {
+        assert_eq!(read(&in_rows()), read(&in_lines()));
+        assert_eq!(analysis(&in_rows()), analysis(&in_lines()));
+        assert_eq!(analysis(&in_rows()), analysis(sample::FILE));
+        assert_eq!(analysis(&broken_in_rows()), analysis(&broken_in_lines()));
+    }
+}

@@ -1,0 +1,128 @@
+//! Tables of 8 states and 32 actions, and tables with as many rows as there may be.
+
+use crate::cases::files::{case, text_of, Case};
+use crate::model::write::end;
+
+pub fn all() -> Vec<Case> {
+    let mut cases = Vec::new();
+    cases.extend(full_tables());
+    cases.extend(rows_past_full_tables());
+    cases
+}
+
+/// A program of 16 routines with 8 states and 32 actions, so many steps, these rows, then all states
+/// as starts and forbidden ones.
+fn large(steps: usize, rows: &[Vec<u8>]) -> Vec<u8> {
+    let mut frames = vec![vec![0x50, 16, 8, 32]];
+    frames.extend((0..16).map(|routine| vec![0x52, routine, 16]));
+    let every_step = (0..32).flat_map(|label| (0..16).map(move |to| vec![0x53, 0, 0, label, to]));
+    frames.extend(every_step.take(steps));
+    frames.extend_from_slice(rows);
+    frames.extend((0..8).map(|state| vec![0x49, state]));
+    frames.extend((0..8).map(|state| vec![0x46, state]));
+    frames.push(end(frames.len()));
+    text_of(&frames)
+}
+
+/// The row of one pair.
+fn pair_row(state: u8, action: u8, to: u8) -> Vec<u8> {
+    let action_bits = (1_u32 << action).to_be_bytes();
+    [&[0x55, 1 << state], &action_bits[..], &[to]].concat()
+}
+
+/// A row for each pair of 8 states and 32 actions.
+fn every_pair() -> Vec<Vec<u8>> {
+    let next = |state: u8, action: u8| (state + action) % 8;
+    let row = |state, action| pair_row(state, action, next(state, action));
+    (0..8)
+        .flat_map(|state| (0..32).map(move |action| row(state, action)))
+        .collect()
+}
+
+/// So many rows: those without a bit in front, and at the end the one that meets every pair.
+fn padded(count: usize) -> Vec<Vec<u8>> {
+    let bare = (0..count - 1).map(|number| {
+        let [high, low] = (number as u16).to_be_bytes();
+        vec![0x55, 0, 0, 0, high, low, 7]
+    });
+    bare.chain([vec![0x55, 0xFF, 0xFF, 0xFF, 0xFF, 0xFF, 3]])
+        .collect()
+}
+
+/// The largest file with rows there is: 256 steps and 256 rows, and all else in full.
+pub fn largest() -> Vec<u8> {
+    large(256, &every_pair())
+}
+
+/// The largest file with rows, in lines.
+pub fn largest_in_lines() -> Vec<u8> {
+    let line = |state: u8, action: u8| vec![0x54, state, action, (state + action) % 8];
+    let rule = (0..8).flat_map(|state| (0..32).map(move |action| line(state, action)));
+    large(256, &rule.collect::<Vec<_>>())
+}
+
+fn full_tables() -> Vec<Case> {
+    let mut first_twice = every_pair();
+    first_twice.insert(1, pair_row(0, 0, 7));
+    let mut last_left_out = every_pair();
+    last_left_out.pop();
+    let all = vec![vec![0x55, 0xFF, 0xFF, 0xFF, 0xFF, 0xFF, 7]];
+    vec![
+        case("the largest file with rows", largest(), 0, 0),
+        case("Q 8 and A 32, one row", large(0, &all), 0, 0),
+        case("Q 8 and A 32, 256 rows", large(0, &every_pair()), 0, 0),
+        case("255 rows", large(0, &padded(255)), 0, 0),
+        case("256 rows", large(0, &padded(256)), 0, 0),
+        case("257 rows", large(0, &padded(257)), 6, 274),
+        case("257 rows after 256 steps", large(256, &padded(257)), 6, 530),
+        case("300 rows", large(0, &padded(300)), 6, 274),
+        case("255 rows, a pair not met", large(0, &last_left_out), 19, 0),
+        case("257 rows, a pair twice", large(0, &first_twice), 6, 274),
+        case(
+            "256 rows, a pair not met, one twice",
+            large(0, &first_twice[..256]),
+            20,
+            0,
+        ),
+    ]
+}
+
+/// What the 257th row may also have wrong.
+fn rows_past_full_tables() -> Vec<Case> {
+    let last = |row: &[u8]| large(0, &[every_pair(), vec![row.to_vec()]].concat());
+    vec![
+        case(
+            "257th row fits",
+            last(&[0x55, 0x80, 0x80, 0, 0, 1, 0]),
+            6,
+            274,
+        ),
+        case(
+            "257th row, next state 8",
+            last(&[0x55, 0x80, 0x80, 0, 0, 1, 8]),
+            5,
+            274,
+        ),
+        case("257th row repeats", last(&pair_row(7, 31, 6)), 4, 274),
+        case("257th row below", last(&pair_row(0, 0, 0)), 4, 274),
+        case("257th row too short", last(&[0x55, 0x80]), 3, 274),
+        case(
+            "a rule line after 256 rows",
+            last(&[0x54, 7, 31, 7]),
+            4,
+            274,
+        ),
+    ]
+}
+
+#[cfg(test)]
+mod tests {
+    use super::*;
+    use crate::model::write::OUTPUT_SIZE;
+
+    #[test]
+    fn the_largest_file_with_rows_is_longer_than_any_written() {
+        assert_eq!(largest().len(), 6864);
+        assert_eq!(largest_in_lines().len(), OUTPUT_SIZE);
+    }
+}
