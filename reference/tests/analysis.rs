@@ -7,19 +7,23 @@ mod desk;
 
 use desk::lent::{self, Lending, Lent};
 use reference::cases::{self, sample};
+use reference::generate::classes::{Class, MetClasses};
 use reference::generate::files::file_of_seed;
 use reference::generate::met::Met;
 use reference::generate::programs::{hub, program_of_seed, program_of_shape};
 use reference::generate::random::Random;
 use reference::generate::shapes::SHAPES;
 use reference::generate::sheets::{foreign, wrong_lengths, FOREIGN};
+use reference::generate::tables::{complete_file, file_with_rows_of_seed};
 use reference::model::analysis::{self, own_sheet, Analysis, Analyzed, NONE};
 use reference::model::calls::sheets::{analyze_answer, next_answer, Counts};
 use reference::model::calls::Answer;
-use reference::model::file;
-use reference::model::refusals::{BAD_LINE, FOREIGN_SHEET, SHEET_LENGTH, WORK_LENGTH};
+use reference::model::file::{self, Reading};
+use reference::model::refusals::{
+    BAD_LINE, FOREIGN_SHEET, PAIR_MET_TWICE, PAIR_NOT_MET, SHEET_LENGTH, WORK_LENGTH,
+};
 use reference::model::standing::{marked, SHEET_SIZE};
-use reference::model::write::write;
+use reference::model::write::{write, OUTPUT_SIZE};
 
 /// How often each refusal and each outcome has to be met, so that agreeing on it means something.
 const OFTEN: usize = 50;
@@ -29,6 +33,7 @@ const MANY_STANDINGS: u32 = 300;
 const LONG_LIST: usize = 8;
 const PROGRAM_SEEDS: u64 = 6_000;
 const FILE_SEEDS: u64 = 4_000;
+const ROW_SEEDS: u64 = 11_000;
 
 /// What the comparisons have met.
 #[derive(Debug, Default)]
@@ -49,21 +54,26 @@ struct Tally {
     lists: usize,
     /// Foreign sheets by how they were made.
     foreign: [usize; FOREIGN],
+    /// Files with rows.
+    classes: MetClasses,
 }
 
 /// One file with the reference's answer, and where all that varies comes from.
 struct Case {
     name: String,
     file: Vec<u8>,
+    reading: Reading,
     analyzed: Analyzed,
     random: Random,
 }
 
 impl Case {
     fn new(name: String, file: Vec<u8>, seed: u64) -> Case {
+        let reading = file::read(&file);
         Case {
             name,
-            analyzed: analysis::analyze_reading(&file::read(&file)),
+            analyzed: analysis::analyze_reading(&reading),
+            reading,
             file,
             random: Random::new(!seed),
         }
@@ -207,6 +217,7 @@ fn compare(case: &mut Case, tally: &mut Tally) {
         }
     }
     note(&answer, tally);
+    tally.classes.note(&case.file, &case.reading);
 }
 
 fn note(answer: &Answer<Counts>, tally: &mut Tally) {
@@ -227,7 +238,7 @@ fn compare_seeds(what: &str, seeds: u64, file: impl Fn(u64) -> Vec<u8>) -> Tally
         let name = format!("{what} {seed}");
         compare(&mut Case::new(name, file(seed), seed), &mut tally);
     }
-    println!("{what}s of seeds: {tally:?}");
+    println!("{what} of each seed: {tally:?}");
     tally
 }
 
@@ -258,13 +269,43 @@ fn damaged_files_agree() {
 }
 
 #[test]
+fn files_with_rows_agree() {
+    let tally = compare_seeds("file with rows", ROW_SEEDS, file_with_rows_of_seed);
+    let of_files = (0..=SHEET_LENGTH).chain([WORK_LENGTH, PAIR_NOT_MET, PAIR_MET_TWICE]);
+    tally.analyzed.check(of_files.clone(), OFTEN);
+    tally.asked.check(of_files.chain([FOREIGN_SHEET]), OFTEN);
+    tally.classes.check(20);
+    assert!(tally.classes.files >= 10_000, "{tally:?}");
+    assert!(tally.classes.times(Class::Accepted) >= 3_000, "{tally:?}");
+    let counts = [tally.findings, tally.no_finding, tally.lists];
+    assert!(counts.iter().all(|&times| times >= 500), "{tally:?}");
+}
+
+/// A program is analyzed alike whether its rule is in rows or in the lines that are written for it.
+#[test]
+fn rows_and_the_lines_written_for_them_are_analyzed_alike() {
+    for seed in 0..1_000 {
+        let random = &mut Random::new(seed);
+        let in_rows = complete_file(random, &program_of_seed(seed));
+        let mut in_lines = vec![0; OUTPUT_SIZE];
+        let answer = desk::write(&in_rows, &mut in_lines);
+        in_lines.truncate(answer.value as usize);
+        assert_eq!(worked(&in_rows), worked(&in_lines), "seed {seed}");
+    }
+}
+
+#[test]
 fn every_shape_agrees() {
     let mut tally = Tally::default();
     for shape in SHAPES {
         for seed in 0..8 {
-            let program = program_of_shape(&mut Random::new(seed), shape);
+            let random = &mut Random::new(seed);
+            let program = program_of_shape(random, shape);
             let name = format!("{shape:?}, seed {seed}");
             compare(&mut Case::new(name, write(&program), seed), &mut tally);
+            let name = format!("{shape:?} with rows, seed {seed}");
+            let file = complete_file(random, &program);
+            compare(&mut Case::new(name, file, seed), &mut tally);
         }
     }
     let mut hub = Case::new("hub".to_string(), write(&hub()), 0);

@@ -5,12 +5,17 @@
 //! in the project's folder `target/bin`.
 
 use reference::cases::{self, sample};
-use reference::generate::inputs::{file_with_edits, input_of_seed};
+use reference::generate::classes::{Class, MetClasses};
+use reference::generate::inputs::{
+    file_with_edits, input_of_seed, input_with_rows_of_seed, with_edits,
+};
 use reference::generate::met::Met;
 use reference::generate::random::Random;
-use reference::model::bench::{bench, MOST_INPUT};
+use reference::model::bench::{bench, file_and_edits, MOST_INPUT};
 use reference::model::file::read;
-use reference::model::refusals::{BAD_EDIT, BAD_LINE, FILE_END, INPUT_LONG, STEPS_FULL};
+use reference::model::refusals::{
+    BAD_EDIT, BAD_LINE, FILE_END, INPUT_LONG, PAIR_MET_TWICE, PAIR_NOT_MET, STEPS_FULL,
+};
 use std::env;
 use std::ffi::OsString;
 use std::io::{Read, Write};
@@ -21,6 +26,7 @@ use std::thread;
 /// The ways in which the program is called.
 const ARGUMENTS: [&[&str]; 3] = [&[], &["forward"], &["inside-out"]];
 const SEEDS: u64 = 1_200;
+const ROW_SEEDS: u64 = 500;
 /// How often each printed refusal has to be met, so that agreeing on it means something.
 const OFTEN: usize = 50;
 /// The same for each refusal of a file, which `tests/files.rs` goes through at length.
@@ -71,6 +77,8 @@ struct Tally {
     met: Met,
     blocks: usize,
     findings: usize,
+    /// Files with rows.
+    classes: MetClasses,
 }
 
 /// Holds the program against the reference on one input, in every way of calling it.
@@ -125,6 +133,35 @@ fn inputs_of_many_seeds_agree() {
 }
 
 #[test]
+fn inputs_with_rows_of_many_seeds_agree() {
+    let mut tally = Tally::default();
+    for seed in 0..ROW_SEEDS {
+        let input = input_with_rows_of_seed(seed);
+        if bench(&input).len() <= MOST_PRINTED {
+            let random = &mut Random::new(!seed);
+            compare(
+                &format!("seed {seed} with rows"),
+                &input,
+                random,
+                &mut tally,
+            );
+            let (file, _) = file_and_edits(&input);
+            tally.classes.note(&file, &read(&file));
+        }
+    }
+    println!("inputs with rows of seeds: {tally:?}");
+    tally.met.check(BAD_LINE..=FILE_END, 1);
+    tally.met.check(BAD_EDIT..=STEPS_FULL, 5);
+    tally.met.check([PAIR_NOT_MET, PAIR_MET_TWICE], 10);
+    assert!(tally.classes.files >= 450, "{tally:?}");
+    assert!(tally.classes.times(Class::Accepted) >= 250, "{tally:?}");
+    assert!(
+        tally.blocks >= 1_000 && tally.findings >= 1_000,
+        "{tally:?}"
+    );
+}
+
+#[test]
 fn named_inputs_agree() {
     let mut tally = Tally::default();
     for case in cases::inputs::all() {
@@ -151,6 +188,11 @@ fn large_inputs_agree() {
             compare(name, &input, random, &mut tally);
         }
     }
+    let with_rows = cases::tables::full::largest();
+    let home = read(&with_rows).expect("the largest file with rows is accepted");
+    let mut input = with_edits(random, with_rows, &home, 20);
+    input.truncate(MOST_INPUT);
+    compare("the largest file with rows", &input, random, &mut tally);
     println!("large inputs: {tally:?}");
     assert!(tally.blocks >= 2_000, "{tally:?}");
 }

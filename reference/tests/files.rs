@@ -7,13 +7,15 @@ mod desk;
 
 use desk::lent::{self, Lending, Lent, MARGIN};
 use reference::cases::{self, sample};
-use reference::generate::damage::one_byte_wrong;
+use reference::generate::classes::MetClasses;
+use reference::generate::damage::{lines_of, one_byte_wrong};
 use reference::generate::files::file_of_seed;
 use reference::generate::met::Met;
+use reference::generate::tables::{file_with_rows_of_seed, has_rows};
 use reference::model::calls::files::{read_answer, write_answer};
 use reference::model::calls::Answer;
 use reference::model::file::{self, Reading};
-use reference::model::refusals::{FILE_END, OUTPUT_SHORT};
+use reference::model::refusals::{FILE_END, OUTPUT_SHORT, PAIR_MET_TWICE, PAIR_NOT_MET};
 use reference::model::write::OUTPUT_SIZE;
 
 /// Lengths of outputs. Every file goes to one of the needed length, and to one of these.
@@ -21,6 +23,7 @@ const LENGTHS: [usize; 7] = [0, 5327, 5329, 1, 5328, 6000, 16384];
 /// How often each refusal has to be met, so that agreeing on it means something.
 const OFTEN: usize = 50;
 const SEEDS: u64 = 24_000;
+const ROW_SEEDS: u64 = 12_000;
 
 /// What the comparisons have met.
 #[derive(Debug, Default)]
@@ -29,6 +32,8 @@ struct Tally {
     met: Met,
     /// Deciding lines with two faults or more.
     lines_with_two_faults: usize,
+    /// Files with rows.
+    classes: MetClasses,
 }
 
 /// Holds the library against the reference on one file.
@@ -50,6 +55,7 @@ fn compare(name: &str, file: &[u8], tally: &mut Tally) {
         }
     }
     tally.files += 1;
+    tally.classes.note(file, &reading);
     let two_faults = matches!(reading, Err(refusal) if refusal.faults.len() > 1);
     tally.lines_with_two_faults += usize::from(two_faults);
 }
@@ -72,12 +78,18 @@ fn pattern(seed: usize, length: usize) -> Vec<u8> {
         .collect()
 }
 
-/// What holds of every answer, whatever the reference says: an accepted file comes back as its own
-/// length, a file's refusal has a line, and nothing else has.
+/// What holds of every answer, whatever the reference says: an accepted file without rows comes back
+/// as its own length, the refusal of a line has a line, and nothing else has.
 fn check_answer(name: &str, file: &[u8], answer: &Answer<u32>, length: usize) {
     let accepted = answer.refusal == 0;
-    let written = if accepted { file.len() } else { 0 };
-    assert_eq!(answer.value as usize, written, "{name}");
+    let written = answer.value as usize;
+    if !accepted {
+        assert_eq!(written, 0, "{name}");
+    } else if has_rows(file) {
+        assert!(0 < written && written <= OUTPUT_SIZE, "{name}");
+    } else {
+        assert_eq!(written, file.len(), "{name}");
+    }
     let has_line = (1..=FILE_END).contains(&answer.refusal);
     assert_eq!(answer.line > 0, has_line, "{name}");
     assert!(!accepted || length >= OUTPUT_SIZE, "{name}");
@@ -109,12 +121,52 @@ fn files_of_many_seeds_agree() {
     assert!(tally.lines_with_two_faults >= OFTEN, "{tally:?}");
 }
 
-/// An accepted file is written back as its own bytes, over whatever stood there.
-fn comes_back(name: &str, file: &[u8]) {
+#[test]
+fn files_with_rows_of_many_seeds_agree() {
+    let mut tally = Tally::default();
+    for seed in 0..ROW_SEEDS {
+        let name = format!("seed {seed} with rows");
+        let file = file_with_rows_of_seed(seed);
+        compare(&name, &file, &mut tally);
+        if desk::read(&file).refusal == 0 {
+            comes_back(&name, &file);
+        }
+    }
+    println!("files with rows of seeds: {tally:?}");
+    let refusals = [OUTPUT_SHORT, PAIR_NOT_MET, PAIR_MET_TWICE];
+    tally.met.check((0..=FILE_END).chain(refusals), OFTEN);
+    tally.classes.check(30);
+    assert!(tally.classes.files >= 10_000, "{tally:?}");
+}
+
+/// What the library writes for an accepted file, over whatever stood there.
+fn written(name: &str, file: &[u8]) -> Vec<u8> {
     let mut output = vec![0x0A; OUTPUT_SIZE];
     let answer = desk::write(file, &mut output);
-    assert_eq!(answer.value as usize, file.len(), "{name}");
-    assert_eq!(&output[..file.len()], file, "{name}");
+    assert_eq!((answer.refusal, answer.line), (0, 0), "{name}");
+    output.truncate(answer.value as usize);
+    output
+}
+
+/// An accepted file without rows is written back as its own bytes; one with rows as a file without,
+/// which then comes back as its own bytes.
+fn comes_back(name: &str, file: &[u8]) {
+    let back = written(name, file);
+    assert!(!has_rows(&back), "{name}");
+    if has_rows(file) {
+        assert_eq!(written(name, &back), back, "{name}");
+    } else {
+        assert_eq!(back, file, "{name}");
+    }
+}
+
+#[test]
+fn tables_are_written_as_the_lines_worked_out_by_hand() {
+    for case in cases::tables::written::all() {
+        let back = written(case.name, &case.file);
+        assert_eq!(back, case.written, "{}", case.name);
+        comes_back(case.name, &case.file);
+    }
 }
 
 #[test]
@@ -127,38 +179,61 @@ fn the_sample_with_any_one_byte_wrong_agrees() {
     println!("bytes of the sample: {tally:?}");
 }
 
-#[test]
-fn the_sample_with_any_number_changed_agrees() {
-    let mut tally = Tally::default();
-    for place in 0..sample::FILE.len() - 1 {
+/// A file with each two digits that stand side by side as every number there is.
+fn compare_numbers(file: &[u8], tally: &mut Tally) {
+    for place in 0..file.len() - 1 {
         for number in 0..=255u8 {
-            let mut changed = sample::FILE.to_vec();
+            let mut changed = file.to_vec();
             let digits = format!("{number:02X}");
             if !changed[place..place + 2].contains(&0x0A) {
                 changed[place..place + 2].copy_from_slice(digits.as_bytes());
-                compare("a number changed", &changed, &mut tally);
+                compare("a number changed", &changed, tally);
             }
         }
     }
+}
+
+#[test]
+fn the_sample_with_any_number_changed_agrees() {
+    let mut tally = Tally::default();
+    compare_numbers(sample::FILE, &mut tally);
     println!("numbers of the sample: {tally:?}");
+}
+
+#[test]
+fn the_sample_in_rows_with_any_number_changed_agrees() {
+    let mut tally = Tally::default();
+    compare_numbers(&cases::tables::completed::in_rows(), &mut tally);
+    println!("numbers of the sample in rows: {tally:?}");
+    tally.met.check([0, PAIR_NOT_MET, PAIR_MET_TWICE], 10);
+}
+
+/// A file with a line left out, and with each line beside each other, in its place and in front of it.
+fn compare_lines(file: &[u8], tally: &mut Tally) {
+    let lines = lines_of(file);
+    for one in 0..lines.len() {
+        let mut removed = lines.clone();
+        removed.remove(one);
+        compare("a line left out", &removed.concat(), tally);
+        for other in 0..lines.len() {
+            let mut swapped = lines.clone();
+            swapped.swap(one, other);
+            compare("two lines swapped", &swapped.concat(), tally);
+            let mut replaced = lines.clone();
+            replaced[one] = lines[other].clone();
+            compare("a line for another", &replaced.concat(), tally);
+            let mut inserted = lines.clone();
+            inserted.insert(one, lines[other].clone());
+            compare("a line put in", &inserted.concat(), tally);
+        }
+    }
 }
 
 #[test]
 fn the_sample_with_its_lines_rearranged_agrees() {
     let mut tally = Tally::default();
-    let text = String::from_utf8_lossy(sample::FILE);
-    let lines: Vec<&str> = text.lines().collect();
-    for one in 1..=lines.len() {
-        compare("a line left out", &sample::removed(one), &mut tally);
-        for other in 1..=lines.len() {
-            let swapped = sample::swapped(one, other);
-            compare("two lines swapped", &swapped, &mut tally);
-            let replaced = sample::replaced(one, lines[other - 1]);
-            compare("a line for another", &replaced, &mut tally);
-            let inserted = sample::inserted(one, lines[other - 1]);
-            compare("a line put in", &inserted, &mut tally);
-        }
-    }
+    compare_lines(sample::FILE, &mut tally);
+    compare_lines(&cases::tables::completed::in_rows(), &mut tally);
     println!("lines of the sample: {tally:?}");
 }
 
@@ -173,6 +248,17 @@ fn the_largest_file_fills_the_least_output() {
     let mut output = vec![0; OUTPUT_SIZE];
     assert_eq!(desk::write(&largest, &mut output).value, 5328);
     assert_eq!(output, largest);
+}
+
+#[test]
+fn the_largest_file_with_rows_fills_the_least_output_too() {
+    let largest = cases::tables::full::largest();
+    assert!(largest.len() > OUTPUT_SIZE);
+    let mut tally = Tally::default();
+    for _ in LENGTHS {
+        compare("the largest file with rows", &largest, &mut tally);
+    }
+    assert_eq!(written("the largest file with rows", &largest).len(), 5328);
 }
 
 #[test]

@@ -13,13 +13,16 @@ use reference::cases;
 use reference::generate::programs::program_of_shape;
 use reference::generate::random::Random;
 use reference::generate::shapes::Shape;
+use reference::generate::tables::complete_file;
 use reference::model::calls::repairs::Repair::{Forward, InsideOut};
 use reference::model::edit::Edit;
-use reference::model::refusals::FOREIGN_SHEET;
+use reference::model::refusals::{FOREIGN_SHEET, OUTPUT_SHORT, PAIR_MET_TWICE, PAIR_NOT_MET};
+use reference::model::write::write;
 
 /// How often each refusal has to be met, so that agreeing on it means something.
 const OFTEN: usize = 20;
 const SINGLE_SEEDS: u64 = 3_000;
+const ROW_SEEDS: u64 = 1_500;
 const CALLS_A_SEED: usize = 3;
 const DROP_SEEDS: u64 = 300;
 
@@ -27,7 +30,8 @@ const DROP_SEEDS: u64 = 300;
 fn single_repairs_of_many_seeds_agree() {
     let mut tally = Tally::default();
     for seed in 0..SINGLE_SEEDS {
-        trial::single_calls(!seed, CALLS_A_SEED, &[InsideOut], &mut tally);
+        let files = &trial::IN_LINES;
+        trial::single_calls(!seed, CALLS_A_SEED, &[InsideOut], files, &mut tally);
     }
     println!("single inside-out repairs: {tally:?}");
     tally.met.check(0..=FOREIGN_SHEET, OFTEN);
@@ -36,11 +40,27 @@ fn single_repairs_of_many_seeds_agree() {
 }
 
 #[test]
+fn single_repairs_of_files_with_rows_agree() {
+    let mut tally = Tally::default();
+    for seed in 0..ROW_SEEDS {
+        let files = &trial::IN_ROWS;
+        trial::single_calls(!seed, CALLS_A_SEED, &[InsideOut], files, &mut tally);
+    }
+    println!("single inside-out repairs of files with rows: {tally:?}");
+    let refusals = (0..=FOREIGN_SHEET).chain([PAIR_NOT_MET, PAIR_MET_TWICE]);
+    tally.rows.check(refusals, 5);
+    tally.rows.check([0], 1_500);
+    tally.check_reopened(100);
+}
+
+#[test]
 fn lists_of_both_repairs_agree_with_the_book() {
     let mut tally = Tally::default();
     let plan = Lists {
         first_seed: 1_000,
+        lists: 60,
         calls: 200,
+        first_file: |random, shape| write(&program_of_shape(random, shape)),
         shares: &[
             (5, Shape::Tiny),
             (5, Shape::Recursive),
@@ -59,6 +79,39 @@ fn lists_of_both_repairs_agree_with_the_book() {
     println!("lists of both repairs: {tally:?}");
     tally.check_accepted(6_000, 1_500);
     tally.check_reopened(300);
+}
+
+/// Many short lists: only until a call is accepted has its file rows.
+#[test]
+fn lists_that_begin_with_rows_agree_with_the_book() {
+    let mut tally = Tally::default();
+    let plan = Lists {
+        first_seed: 3_000,
+        lists: 700,
+        calls: 8,
+        first_file: |random, shape| {
+            let program = program_of_shape(random, shape);
+            complete_file(random, &program)
+        },
+        shares: &[
+            (6, Shape::Tiny),
+            (5, Shape::Recursive),
+            (6, Shape::Layered),
+            (1, Shape::Mixed),
+            (2, Shape::Crowded),
+        ],
+        repairs: &[&[Forward], &[InsideOut], &[InsideOut, Forward]],
+        large: &[InsideOut, Forward],
+    };
+    lists::compare_lists(&plan, &mut tally);
+    println!("lists that begin with rows: {tally:?}");
+    tally
+        .rows
+        .check((OUTPUT_SHORT..=FOREIGN_SHEET).chain([0]), 5);
+    tally.rows.check([0], 650);
+    tally.check_accepted(3_000, 800);
+    tally.check_edits(500);
+    tally.check_reopened(150);
 }
 
 /// Every step of a program dropped, each from the program as it was.
@@ -92,6 +145,11 @@ fn every_drop_of_small_programs_agrees() {
 #[test]
 fn repairs_worked_out_by_hand() {
     trial::worked_out(InsideOut);
+}
+
+#[test]
+fn repairs_of_a_file_with_rows_worked_out_by_hand() {
+    trial::worked_out_from_rows(InsideOut);
 }
 
 #[test]

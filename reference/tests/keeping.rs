@@ -8,17 +8,21 @@ mod desk;
 use desk::lent::{self, Lending, Lent};
 use reference::cases::keepings::{self, KeepingCase};
 use reference::cases::sample;
+use reference::generate::classes::{Class, MetClasses};
 use reference::generate::files::file_of_seed;
 use reference::generate::met::Met;
 use reference::generate::programs::{hub, program_by_shares, program_of_shape};
 use reference::generate::random::Random;
 use reference::generate::shapes::Shape;
 use reference::generate::sheets;
+use reference::generate::tables::file_with_rows_of_seed;
 use reference::model::analysis::own_sheet;
 use reference::model::calls::sheets::keep_answer;
 use reference::model::file::{read, Reading};
 use reference::model::program::Program;
-use reference::model::refusals::{BAD_LINE, SHEET_LENGTH, WORK_LENGTH};
+use reference::model::refusals::{
+    BAD_LINE, PAIR_MET_TWICE, PAIR_NOT_MET, SHEET_LENGTH, WORK_LENGTH,
+};
 use reference::model::standing::{marked, SHEET_SIZE};
 use reference::model::write::write;
 
@@ -26,6 +30,7 @@ use reference::model::write::write;
 const OFTEN: usize = 20;
 const SEEDS: u64 = 2_000;
 const FILE_SEEDS: u64 = 1_500;
+const ROW_SEEDS: u64 = 11_000;
 
 /// What the keepings have met.
 #[derive(Debug, Default)]
@@ -38,6 +43,8 @@ struct Tally {
     less_than_own: usize,
     /// Sheets that had other bytes than 0 and 1.
     other_bytes: usize,
+    /// Files with rows.
+    classes: MetClasses,
 }
 
 /// One keeping by the library and by the reference: the sheet that is left.
@@ -152,6 +159,50 @@ fn refused_keepings_agree() {
     println!("refused keepings: {tally:?}");
     let refusals = (BAD_LINE..=SHEET_LENGTH).chain([WORK_LENGTH]);
     tally.met.check(refusals, OFTEN);
+}
+
+/// The ways to make a sheet that go by the program's own. The others mark so much that they take long.
+const NEAR_OWN: [usize; 4] = [0, 4, 5, 6];
+
+/// A sheet for a file with rows: near the program's own, or any.
+fn sheet_for(random: &mut Random, reading: &Reading) -> Vec<u8> {
+    let program = match reading {
+        Ok(program) => program,
+        Err(_) => return random.content(SHEET_SIZE),
+    };
+    let near = random.pick(&NEAR_OWN);
+    let any = random.below(sheets::ANY);
+    let way = if random.percent(95) { near } else { any };
+    sheets::any(random, &own_sheet(program), way)
+}
+
+#[test]
+fn keepings_with_rows_agree() {
+    let mut tally = Tally::default();
+    for seed in 0..ROW_SEEDS {
+        let random = &mut Random::new(!seed);
+        let file = file_with_rows_of_seed(seed);
+        let reading = read(&file);
+        tally.classes.note(&file, &reading);
+        let sheet = sheet_for(random, &reading);
+        let (mut lent, mut work) = (Lent::new(random, &sheet), SHEET_SIZE);
+        if random.percent(10) {
+            let (sheet, wrong) = sheets::wrong_lengths(random);
+            (lent, work) = (Lent::of_length(random, sheet), wrong);
+        }
+        let work = Lent::of_length(random, work);
+        let name = format!("file with rows {seed}");
+        let kept = compare(&name, &file, &reading, [&lent, &work], &mut tally);
+        let (stayed, were) = (marked(kept.content()), marked(lent.content()));
+        tally.parted += usize::from(!stayed.is_empty() && stayed.len() < were.len());
+    }
+    println!("keepings with rows: {tally:?}");
+    let refusals = [WORK_LENGTH, PAIR_NOT_MET, PAIR_MET_TWICE];
+    tally.met.check((0..=SHEET_LENGTH).chain(refusals), OFTEN);
+    tally.classes.check(OFTEN);
+    assert!(tally.classes.files >= 10_000, "{tally:?}");
+    assert!(tally.classes.times(Class::Accepted) >= 3_000, "{tally:?}");
+    assert!(tally.parted >= 500, "{tally:?}");
 }
 
 #[test]

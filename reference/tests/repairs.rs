@@ -10,6 +10,7 @@ use desk::trial::{self, Tally};
 use reference::cases::sample;
 use reference::generate::damage::one_byte_wrong;
 use reference::generate::edits;
+use reference::generate::programs::program_of_shape;
 use reference::generate::random::Random;
 use reference::generate::shapes::Shape;
 use reference::model::analysis::own_sheet;
@@ -17,18 +18,23 @@ use reference::model::calls::repairs::Repair::Forward;
 use reference::model::file::read;
 use reference::model::kinds::DROP;
 use reference::model::lines::starts_with_kind;
-use reference::model::refusals::{BAD_EDIT, FOREIGN_SHEET, THERE_ALREADY};
+use reference::model::refusals::{
+    BAD_EDIT, FOREIGN_SHEET, PAIR_MET_TWICE, PAIR_NOT_MET, THERE_ALREADY,
+};
+use reference::model::write::write;
 
 /// How often each refusal has to be met, so that agreeing on it means something.
 const OFTEN: usize = 20;
 const SINGLE_SEEDS: u64 = 3_000;
+const ROW_SEEDS: u64 = 1_500;
 const CALLS_A_SEED: usize = 3;
 
 #[test]
 fn single_repairs_of_many_seeds_agree() {
     let mut tally = Tally::default();
     for seed in 0..SINGLE_SEEDS {
-        trial::single_calls(seed, CALLS_A_SEED, &[Forward], &mut tally);
+        let files = &trial::IN_LINES;
+        trial::single_calls(seed, CALLS_A_SEED, &[Forward], files, &mut tally);
     }
     println!("single forward repairs: {tally:?}");
     tally.met.check(0..=FOREIGN_SHEET, OFTEN);
@@ -37,11 +43,27 @@ fn single_repairs_of_many_seeds_agree() {
 }
 
 #[test]
+fn single_repairs_of_files_with_rows_agree() {
+    let mut tally = Tally::default();
+    for seed in 0..ROW_SEEDS {
+        let files = &trial::IN_ROWS;
+        trial::single_calls(seed, CALLS_A_SEED, &[Forward], files, &mut tally);
+    }
+    println!("single forward repairs of files with rows: {tally:?}");
+    let refusals = (0..=FOREIGN_SHEET).chain([PAIR_NOT_MET, PAIR_MET_TWICE]);
+    tally.rows.check(refusals, 5);
+    tally.rows.check([0], 1_500);
+    tally.check_edits(300);
+}
+
+#[test]
 fn lists_of_many_repairs_agree_with_the_book() {
     let mut tally = Tally::default();
     let plan = Lists {
         first_seed: 0,
+        lists: 60,
         calls: 250,
+        first_file: |random, shape| write(&program_of_shape(random, shape)),
         shares: &[
             (7, Shape::Tiny),
             (5, Shape::Recursive),
@@ -78,6 +100,11 @@ fn a_list_goes_on_from_the_first_file_while_all_is_refused() {
 #[test]
 fn repairs_worked_out_by_hand() {
     trial::worked_out(Forward);
+}
+
+#[test]
+fn repairs_of_a_file_with_rows_worked_out_by_hand() {
+    trial::worked_out_from_rows(Forward);
 }
 
 #[test]

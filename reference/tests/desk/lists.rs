@@ -3,70 +3,77 @@
 use super::lent::Lending;
 use super::trial::{compare, foreign_sheet, lending, Tally};
 use reference::generate::calls::call;
-use reference::generate::programs::program_of_shape;
 use reference::generate::random::Random;
 use reference::generate::shapes::{shape_in_turn, Shape, Shares};
 use reference::model::analysis::{analyze, own_sheet};
 use reference::model::calls::repairs::Repair;
+use reference::model::file::read;
 use reference::model::lists::{ByBook, Seen};
 use reference::model::program::Program;
 use reference::model::refusals::{FOREIGN_SHEET, OUTPUT_SHORT};
 use reference::model::standing::marked;
-use reference::model::write::write;
 
 /// How lists of calls are made. Each is by one of the rows of repairs, in turn, with shapes by their
 /// shares, also in turn.
 pub struct Lists<'a> {
     pub first_seed: u64,
+    pub lists: u64,
     pub calls: usize,
+    /// The file with which a list begins, of a program of this shape.
+    pub first_file: fn(&mut Random, Shape) -> Vec<u8>,
     pub shares: &'a Shares,
     pub repairs: &'a [&'a [Repair]],
     /// For a list of one large program.
     pub large: &'a [Repair],
 }
 
-const LISTS: u64 = 60;
 /// How often each refusal has to be met, so that agreeing on it means something.
 const OFTEN: usize = 20;
 
-/// A full program with thousands of standings.
-fn large_home() -> Program {
-    let mut full = (0..).map(|seed| program_of_shape(&mut Random::new(seed), Shape::Full));
-    let large = full.find(|program| analyze(program).standings() >= 5_000);
+/// A file of a full program with thousands of standings.
+fn large_file(plan: &Lists) -> Vec<u8> {
+    let mut full = (0..).map(|seed| (plan.first_file)(&mut Random::new(seed), Shape::Full));
+    let large = full.find(|file| analyze(&accepted(file)).standings() >= 5_000);
     large.expect("some are large")
+}
+
+fn accepted(file: &[u8]) -> Program {
+    read(file).expect("the first file is accepted")
 }
 
 /// Many lists of calls, by the library and by the book.
 pub fn compare_lists(plan: &Lists, tally: &mut Tally) {
-    for number in 0..LISTS {
+    for number in 0..plan.lists {
         let random = &mut Random::new(plan.first_seed + number);
         let shape = shape_in_turn(number as usize, plan.shares);
-        let home = program_of_shape(random, shape);
+        let first = (plan.first_file)(random, shape);
         let repairs = plan.repairs[number as usize % plan.repairs.len()];
         let name = format!("list {number}");
-        list(&name, &home, plan.calls, repairs, random, tally);
+        list(&name, &first, plan.calls, repairs, random, tally);
     }
-    let random = &mut Random::new(LISTS);
-    list("large", &large_home(), 15, plan.large, random, tally);
+    let random = &mut Random::new(plan.lists);
+    list("large", &large_file(plan), 15, plan.large, random, tally);
     let refusals = (OUTPUT_SHORT..=FOREIGN_SHEET).chain([0]);
     tally.met.check(refusals, OFTEN);
     assert!(tally.largest_sheet >= 3_000, "{tally:?}");
 }
 
-/// A list of so many calls. At times a call that is no part of it comes in between.
+/// A list of so many calls that begins with this file. At times a call that is no part of it comes in
+/// between.
 fn list(
     name: &str,
-    home: &Program,
+    first: &[u8],
     count: usize,
     repairs: &[Repair],
     random: &mut Random,
     tally: &mut Tally,
 ) {
+    let home = &accepted(first);
     let mut list = List {
         home,
         repairs,
         book: ByBook::new(home),
-        file: write(home),
+        file: first.to_vec(),
         sheet: own_sheet(home),
     };
     for number in 0..count {
@@ -105,6 +112,7 @@ impl List<'_> {
         expect(&mut wanted, &seen);
         given.check_bytes(&wanted, name);
         tally.note(repair, &answer, self.sheet != seen.sheet);
+        tally.note_rows(&self.file, &answer);
         if answer.refusal == 0 {
             tally.note_edit(&now, &call.line);
             self.file = given.output.content()[..answer.value.written as usize].to_vec();

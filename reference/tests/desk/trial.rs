@@ -11,6 +11,7 @@ use reference::generate::programs::program_by_shares;
 use reference::generate::random::Random;
 use reference::generate::shapes::Shape;
 use reference::generate::sheets;
+use reference::generate::tables::{complete_file, file_with_rows_of_seed, has_rows};
 use reference::model::analysis::own_sheet;
 use reference::model::calls::repairs::{repair_answer, Held, Repair, Repaired};
 use reference::model::calls::Answer;
@@ -27,6 +28,8 @@ pub struct Tally {
     pub calls: usize,
     pub lists: usize,
     pub met: Met,
+    /// The same of the calls whose file has rows.
+    pub rows: Met,
     /// Accepted calls by what they did, and those of them that changed the sheet.
     pub adds: usize,
     pub drops: usize,
@@ -46,6 +49,13 @@ impl Tally {
         if repair == Repair::InsideOut && answer.refusal == 0 {
             let routines = answer.value.reopened.count_ones().min(2);
             self.reopened[routines as usize] += 1;
+        }
+    }
+
+    /// Notes the answer to a call whose file has rows.
+    pub fn note_rows(&mut self, file: &[u8], answer: &Answer<Repaired>) {
+        if has_rows(file) {
+            self.rows.note(answer.refusal);
         }
     }
 
@@ -124,6 +134,7 @@ pub fn compare(
     );
     let changed = lending.sheet.content() != left.sheet.content();
     tally.note(repair, &answer, changed);
+    tally.note_rows(&lending.file, &answer);
     if let (Ok(program), 0) = (reading, answer.refusal) {
         tally.note_edit(program, &lending.line);
     }
@@ -162,16 +173,36 @@ pub fn home(random: &mut Random) -> Program {
     program_by_shares(random, &shares)
 }
 
+/// Where the files of single calls come from: one that is accepted, and any other of a seed.
+pub struct Files {
+    home: fn(&mut Random) -> Vec<u8>,
+    other: fn(u64) -> Vec<u8>,
+}
+
+/// Files whose rule is in lines, and files with rows.
+pub const IN_LINES: Files = Files {
+    home: |random| write(&home(random)),
+    other: file_of_seed,
+};
+pub const IN_ROWS: Files = Files {
+    home: |random| {
+        let program = home(random);
+        complete_file(random, &program)
+    },
+    other: file_with_rows_of_seed,
+};
+
 /// So many single calls about one program: the file may be damaged, and the sheet foreign or of
 /// another length.
-pub fn single_calls(seed: u64, count: usize, repairs: &[Repair], tally: &mut Tally) {
+pub fn single_calls(seed: u64, count: usize, repairs: &[Repair], files: &Files, tally: &mut Tally) {
     let random = &mut Random::new(seed);
-    let program = home(random);
-    let (file, own) = (write(&program), own_sheet(&program));
+    let file = (files.home)(random);
+    let program = read(&file).expect("the file is accepted");
+    let own = own_sheet(&program);
     for number in 0..count {
         let name = format!("seed {seed}, call {number}");
         let repair = random.pick(repairs);
-        let (file, reading) = some_file(random, &file, &program);
+        let (file, reading) = some_file(random, files, &file, &program);
         let sheet = some_sheet(random, &program, &own);
         let call = call(random, &program, &program, &own);
         let lending = lending(random, &file, &sheet, &call);
@@ -180,10 +211,15 @@ pub fn single_calls(seed: u64, count: usize, repairs: &[Repair], tally: &mut Tal
 }
 
 /// The file, or at times a damaged one or quite another, with its reading.
-fn some_file(random: &mut Random, file: &[u8], program: &Program) -> (Vec<u8>, Reading) {
+fn some_file(
+    random: &mut Random,
+    files: &Files,
+    file: &[u8],
+    program: &Program,
+) -> (Vec<u8>, Reading) {
     let other = match random.below(100) {
         0..=7 => damage(random, file),
-        8..=19 => file_of_seed(random.number()),
+        8..=19 => (files.other)(random.number()),
         _ => return (file.to_vec(), Ok(program.clone())),
     };
     let reading = read(&other);
@@ -230,6 +266,25 @@ pub fn worked_out(repair: Repair) {
         let after = edited_by_line(&case.program, case.line);
         let wanted = after.map_or(Vec::new(), |after| write(&after));
         assert_eq!(file, wanted, "{}", case.name);
+    }
+}
+
+/// The repairs of a file with rows that are worked out by hand: what is written is in lines.
+pub fn worked_out_from_rows(repair: Repair) {
+    let file = cases::tables::completed::in_rows();
+    let program = read(&file).expect("the file is accepted");
+    for case in cases::tables::completed::repairs() {
+        let mut held = Held::for_line(&program, case.line);
+        let answer = super::repair(repair, &file, &mut held.lend());
+        let reopened = match repair {
+            Repair::Forward => 0,
+            Repair::InsideOut => case.reopened,
+        };
+        let given = (answer.refusal, answer.line, answer.value.reopened);
+        assert_eq!(given, (case.refusal, 0, reopened), "{}", case.name);
+        assert_eq!(marked(&held.sheet), case.left, "{}", case.name);
+        let written = &held.output[..answer.value.written as usize];
+        assert_eq!(written, case.written, "{}", case.name);
     }
 }
 
