@@ -13,6 +13,20 @@
  * rejecting one (paper: forbidden). docs/GLOSSARY.md has all terms; "paper"
  * is the scope paper.
  *
+ * Rows. A file has its transitions one by one, frames 54, or as a table of
+ * rows, frames 55; or it has none. A row is
+ *
+ *     55 s a a a a q
+ *
+ * s has a bit for each state that the row is for, bit i for state i; the four
+ * numbers a have a bit for each action, the first of them actions 31 to 24 and
+ * the last actions 7 to 0; q is the next state. A row meets a state-action
+ * pair if it has the bit of its state and the bit of its action. In an
+ * accepted file with rows every state-action pair, of a state and an action of
+ * the program, is met by exactly one row, and the program has exactly one
+ * transition for it, to that row's next state. What is written always has the
+ * transitions one by one. examples/README.md has a table with its rows.
+ *
  * Buffers. A buffer is a pointer and a length in bytes. The pointer has to be
  * valid for that many bytes during the call; with length 0 it is not looked
  * at and may be NULL. No two buffers of a call may overlap, and the numbers
@@ -22,7 +36,9 @@
  *
  * Answers. Each function returns the number of the refusal it met, or
  * PALTHRENNI_OK. Every pointer to a number has to be valid, and every number
- * is set on every call, to 0 where there is nothing to say.
+ * is set on every call, to 0 where there is nothing to say. The number that is
+ * returned says whether the file was accepted, and the line does not: 19 and
+ * 20 are refusals of the file, with line 0.
  *
  * Threads. Nothing is kept between calls and no memory is allocated: two
  * threads may call at once, each with buffers and numbers of its own.
@@ -41,9 +57,9 @@ extern "C" {
 #define PALTHRENNI_OK 0
 
 /*
- * Refusals of a file, 1 to 8. They come with the line, counted from 1. The
- * first faulty line decides, and in it the lowest number; but whatever
- * follows the end frame is 8.
+ * Refusals of a file by one of its lines, 1 to 8. They come with the line,
+ * counted from 1. The first faulty line decides, and in it the lowest number;
+ * but whatever follows the end frame is 8.
  */
 
 /* A line is empty, has an odd count of digits, holds a byte other than the
@@ -54,17 +70,32 @@ extern "C" {
 /* The kind has another count of numbers. */
 #define PALTHRENNI_WRONG_COUNT 3
 /* The first frame is not 50, there is a second 50, the kinds or the numbers
- * within a kind do not ascend, or a routine frame is left out or repeated. */
+ * within a kind do not ascend, there are both transitions and rows, or a
+ * routine frame is left out or repeated. */
 #define PALTHRENNI_ORDER 4
-/* A number is outside its range, or an edge leaves the exit. */
+/* A number, or a bit of a row, is outside its range, or an edge leaves the
+ * exit. */
 #define PALTHRENNI_RANGE 5
-/* The 257th edge, or the 257th transition. */
+/* The 257th edge, the 257th transition or the 257th row. */
 #define PALTHRENNI_TABLE_FULL 6
 /* The end frame does not say how many frames came before it. */
 #define PALTHRENNI_END_COUNT 7
 /* The input ends without an end frame (the line is then the one after the
  * last), or a line follows the end frame (the line is that one). */
 #define PALTHRENNI_FILE_END 8
+
+/*
+ * Refusals of a file by its table as a whole, 19 and 20. They come with line
+ * 0, since no one line is at fault, in every function that reads a file, and
+ * before 9. Only a file with rows can meet them, and only where no line of it
+ * is faulty. The first faulty state-action pair decides, by state, then by
+ * action; which one it is, is not told.
+ */
+
+/* A state-action pair is met by no row. */
+#define PALTHRENNI_PAIR_NOT_MET 19
+/* A state-action pair is met by two rows or more. */
+#define PALTHRENNI_PAIR_MET_TWICE 20
 
 /* Refusals of buffers, of an edit and of marks (paper: the sheet). They come
  * with line 0. */
@@ -90,7 +121,9 @@ extern "C" {
  * palthrenni_analyze would leave there. */
 #define PALTHRENNI_FOREIGN_MARKS 17
 
-/* The longest file, and so the least length of an output. */
+/* The most bytes that are ever written, and so the least length of an output.
+ * An accepted file without rows is never longer. One with rows may be, up to
+ * 6864 bytes. */
 #define PALTHRENNI_OUTPUT_SIZE 5328
 /* The length of the marks, and of the working buffer. */
 #define PALTHRENNI_MARKS_SIZE 16384
@@ -122,13 +155,15 @@ extern "C" {
  *   file, file_len  the file's bytes, of any length
  *   line            set to the line of a refusal 1 to 8, else to 0
  *
- * Returns 1 to 8, or PALTHRENNI_OK.
+ * Returns 1 to 8; then 19 or 20; else PALTHRENNI_OK.
  */
 uint32_t palthrenni_read(const uint8_t *file, size_t file_len, uint32_t *line);
 
 /*
  * Reads a program file and writes its program back. The bytes written are
- * those of the file.
+ * those of the file if it has no row. A file with rows is written with its
+ * transitions one by one in the place of its rows: other bytes, fewer or more,
+ * that are a file of the same program and are written back as themselves.
  *
  *   file, file_len      the file's bytes, of any length
  *   output, output_len  where the program is written: PALTHRENNI_OUTPUT_SIZE
@@ -137,10 +172,10 @@ uint32_t palthrenni_read(const uint8_t *file, size_t file_len, uint32_t *line);
  *   written             set to how many bytes were written, or to 0 if the
  *                       call was refused
  *
- * Returns 1 to 8; then 10, if the file is accepted and the output is too
- * short; else PALTHRENNI_OK. On PALTHRENNI_OK the program's bytes are at the
- * start of the output and the rest of the output is unchanged. On a refusal
- * all of the output is unchanged.
+ * Returns 1 to 8; then 19 or 20; then 10, if the file is accepted and the
+ * output is too short; else PALTHRENNI_OK. On PALTHRENNI_OK the program's
+ * bytes are at the start of the output and the rest of the output is
+ * unchanged. On a refusal all of the output is unchanged.
  */
 uint32_t palthrenni_write(const uint8_t *file, size_t file_len,
                           uint8_t *output, size_t output_len,
@@ -164,10 +199,11 @@ uint32_t palthrenni_write(const uint8_t *file, size_t file_len,
  *                     took a configuration, always the lowest that was
  *                     pending (paper: waiting)
  *
- * Returns 1 to 8; then 9 or 11, the lower first, if the file is accepted and
- * a buffer has another length; else PALTHRENNI_OK. On PALTHRENNI_OK the marks
- * are set, each to 0 or 1, and the working buffer is all zero. On a refusal
- * both buffers are unchanged and the three counts are 0.
+ * Returns 1 to 8; then 19 or 20; then 9 or 11, the lower first, if the file is
+ * accepted and a buffer has another length; else PALTHRENNI_OK. On
+ * PALTHRENNI_OK the marks are set, each to 0 or 1, and the working buffer is
+ * all zero. On a refusal both buffers are unchanged and the three counts are
+ * 0.
  */
 uint32_t palthrenni_analyze(const uint8_t *file, size_t file_len,
                             uint8_t *marks, size_t marks_len,
@@ -198,10 +234,10 @@ uint32_t palthrenni_analyze(const uint8_t *file, size_t file_len,
  *   found             set to the number of the violation, to PALTHRENNI_NONE
  *                     if there is none, or to 0 if the call was refused
  *
- * Returns 1 to 8; then 9 or 11, the lower first, if the file is accepted and
- * a buffer has another length; then 17, if the marks are not the program's
- * own; else PALTHRENNI_OK. On 1 to 11 the working buffer is unchanged, on 17
- * and on PALTHRENNI_OK it is all zero.
+ * Returns 1 to 8; then 19 or 20; then 9 or 11, the lower first, if the file is
+ * accepted and a buffer has another length; then 17, if the marks are not the
+ * program's own; else PALTHRENNI_OK. On 17 and on PALTHRENNI_OK the working
+ * buffer is all zero, on every other number it is unchanged.
  */
 uint32_t palthrenni_next_violation(const uint8_t *file, size_t file_len,
                                    const uint8_t *marks, size_t marks_len,
@@ -226,10 +262,10 @@ uint32_t palthrenni_next_violation(const uint8_t *file, size_t file_len,
  *                     hold anything before
  *   line              set to the line of a refusal 1 to 8, else to 0
  *
- * Returns 1 to 8; then 9 or 11, the lower first, if the file is accepted and
- * a buffer has another length; else PALTHRENNI_OK. On PALTHRENNI_OK each mark
- * that stays is 1, every other byte of the marks is 0, and the working buffer
- * is all zero. On a refusal both buffers are unchanged.
+ * Returns 1 to 8; then 19 or 20; then 9 or 11, the lower first, if the file is
+ * accepted and a buffer has another length; else PALTHRENNI_OK. On
+ * PALTHRENNI_OK each mark that stays is 1, every other byte of the marks is 0,
+ * and the working buffer is all zero. On a refusal both buffers are unchanged.
  */
 uint32_t palthrenni_prune(const uint8_t *file, size_t file_len,
                           uint8_t *marks, size_t marks_len,
@@ -237,7 +273,8 @@ uint32_t palthrenni_prune(const uint8_t *file, size_t file_len,
 
 /*
  * Reads a program file and one edit, changes the marks to those of the edited
- * program, and writes that program. An edit is one line of hexadecimal,
+ * program, and writes that program, its transitions one by one even where the
+ * file has rows. An edit is one line of hexadecimal,
  *
  *     2B f n a m      adds an edge of routine f from node n to m by label a
  *     2D f n a m      drops that edge
@@ -248,8 +285,9 @@ uint32_t palthrenni_prune(const uint8_t *file, size_t file_len,
  * For a chain of repairs keep two buffers for files, one lent as the file and
  * the other as the output, and swap them after each accepted call: the next
  * call's file is what this one wrote, the first `written` bytes of its
- * output. After a refusal lend the same file again. The marks go on as each
- * call leaves them.
+ * output. Each has PALTHRENNI_OUTPUT_SIZE bytes or more; the one that holds
+ * the first file needs more where a file with rows is longer. After a refusal
+ * lend the same file again. The marks go on as each call leaves them.
  *
  * Each call costs at least one full analysis, to see whether the marks are
  * the program's own (17); only a refusal before 17 costs less.
@@ -266,12 +304,13 @@ uint32_t palthrenni_prune(const uint8_t *file, size_t file_len,
  *   written             set to how many bytes were written, or to 0 if the
  *                       call was refused
  *
- * Returns 1 to 8 for the file; then, if it is accepted, the lowest of 9 to 17
- * that is met; else PALTHRENNI_OK. On PALTHRENNI_OK the marks are those that
- * palthrenni_analyze would set for the new file, the new file is at the start
- * of the output and the rest of the output is unchanged, and the working
- * buffer is all zero. On a refusal the marks and the output are unchanged;
- * the working buffer is unchanged on 1 to 16 and all zero on 17.
+ * Returns 1 to 8 for the file; then 19 or 20; then, if it is accepted, the
+ * lowest of 9 to 17 that is met; else PALTHRENNI_OK. On PALTHRENNI_OK the
+ * marks are those that palthrenni_analyze would set for the new file, the new
+ * file is at the start of the output and the rest of the output is unchanged,
+ * and the working buffer is all zero. On a refusal the marks and the output
+ * are unchanged; the working buffer is all zero on 17 and unchanged on every
+ * other number.
  */
 uint32_t palthrenni_repair_forward(const uint8_t *file, size_t file_len,
                                    uint8_t *marks, size_t marks_len,
