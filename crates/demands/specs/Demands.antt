@@ -56,7 +56,7 @@ pub record Acceptance (b : Lent) (a : Back) : Type 0 where
 
 -- the program of an accepted file with rows: its transitions are those of the table
 pub record Tabulated (p : Program) (rs : List TableRow) : Type 0 where
-  -- each state below the count of states meets each action below theirs in exactly one row
+  -- each pair of a state and an action of the program is met by exactly one row
   pub met-once : (q a : ℕ) → q < p .automaton .states → a < p .automaton .actions
       → timesMet (record { state = q; action = a }) rs ≡ 1
   -- from q to s on a there is a transition (paper: a rule line) exactly when the row that meets q and a says s
