@@ -19,6 +19,7 @@ use Rattle.edit.specs.Edits.{oldEdge, newEdge}
 use Rattle.edit.specs.Editing.{sameEdge, hasEdge, without, inserted, withEdges, editRefusal, editedProgram}
 use Rattle.edit.specs.declared.Edit.{Edit}
 use Rattle.edit.specs.declared.Edit.the-variants.{Add, Drop, Replace}
+use Rattle.edit.proofs.EdgesRemaining.{without-remaining, length-remaining, all-remaining, ascending-remaining}
 
 -- ---- the same edge
 
@@ -105,13 +106,7 @@ length-inserted e (x ∷ xs) = go (ltb (edgeKey e) (edgeKey x)) (length-inserted
     go false h = ap suc h
 
 pub length-without : (e : Edge) (es : List Edge) → length (without e es) ≤ length es
-unfolding without
-length-without e [] = omega arith
-length-without e (x ∷ xs) = go (sameEdge e x) (length-without e xs)
-  where
-    go : (b : Bool) → length (without e xs) ≤ length xs → length (cond b (without e xs) (x ∷ without e xs)) ≤ suc (length xs)
-    go true h = omega arith
-    go false h = omega arith
+length-without e es = rw (without-remaining e es) (length-remaining (sameEdge e) es)
 
 -- an edge that is there makes it shorter
 pub length-dropped : (e : Edge) (es : List Edge) → hasEdge e es ≡ true → length (without e es) < length es
@@ -135,29 +130,12 @@ all-inserted t e (x ∷ xs) h a = go (ltb (edgeKey e) (edgeKey x)) (all-inserted
     go false r = (a .0, r)
 
 pub all-without : (t : Edge → Bool) (e : Edge) (es : List Edge) → All t es → All t (without e es)
-unfolding All without
-all-without t e [] a = tt
-all-without t e (x ∷ xs) a = go (sameEdge e x) (all-without t e xs (a .1))
-  where
-    go : (b : Bool) → All t (without e xs) → All t (cond b (without e xs) (x ∷ without e xs))
-    go true r = r
-    go false r = (a .0, r)
+all-without t e es a = rw (without-remaining e es) (all-remaining (sameEdge e) t es a)
 
 -- ---- the order
 
-lower : (lo k : ℕ) (ks : List ℕ) → lo < k → Ascending k ks → Ascending lo ks
-unfolding Ascending
-lower lo k [] h s = tt
-lower lo k (j ∷ ks) h s = (omega (arith, s .0), s .1)
-
 pub ascending-without : (lo : ℕ) (e : Edge) (es : List Edge) → Ascending lo (map edgeKey es) → Ascending lo (map edgeKey (without e es))
-unfolding Ascending without
-ascending-without lo e [] s = tt
-ascending-without lo e (x ∷ xs) s = go (sameEdge e x) (ascending-without (edgeKey x) e xs (s .1))
-  where
-    go : (b : Bool) → Ascending (edgeKey x) (map edgeKey (without e xs)) → Ascending lo (map edgeKey (cond b (without e xs) (x ∷ without e xs)))
-    go true r = lower lo (edgeKey x) (map edgeKey (without e xs)) (s .0) r
-    go false r = (s .0, r)
+ascending-without lo e es s = rw (without-remaining e es) (ascending-remaining (sameEdge e) lo es s)
 
 above : (k j : ℕ) → j ≤ k → eqb k j ≡ false → j < k
 above k j h e = omega (arith, eqb-false k j e)
@@ -191,7 +169,7 @@ module _ (p : Program) (w : WellFormed p) where
       other true k z = absurd (let s = same-key e x (edge-bytes p w e f) (edge-bytes p w x (a .0)) (eqb-true _ _ k) in let z : _≡_ {A = ℕ} 0 1 = cc in omega arith)
       other false k z = refl
 
-  with-edges : (es : List Edge) → All (edgeFits p) es → Ascending 0 (map edgeKey es) → length es ≤ maxEdges → WellFormed (withEdges p es)
+  pub with-edges : (es : List Edge) → All (edgeFits p) es → Ascending 0 (map edgeKey es) → length es ≤ maxEdges → WellFormed (withEdges p es)
   with-edges es a s n =
       record {
         counts-fit = w .counts-fit;
@@ -209,7 +187,7 @@ module _ (p : Program) (w : WellFormed p) where
         rejecting-ascend = w .rejecting-ascend;
       }
 
-  with-inserted : (e : Edge) (es : List Edge) → edgeFits p e ≡ true → hasEdge e es ≡ false → All (edgeFits p) es → Ascending 0 (map edgeKey es) → length es < maxEdges
+  pub with-inserted : (e : Edge) (es : List Edge) → edgeFits p e ≡ true → hasEdge e es ≡ false → All (edgeFits p) es → Ascending 0 (map edgeKey es) → length es < maxEdges
       → WellFormed (withEdges p (inserted e es))
   with-inserted e es f h a s n =
       with-edges (inserted e es)

@@ -2,15 +2,17 @@
 use mathlib.Core.Path.{_≡_, refl, ap, sym, _∙_}
 use mathlib.Core.Bool.{Bool, true, false, cond}
 use mathlib.Core.List.{List, [], _∷_, map}
-use Prim.Native.Nat.{ℕ}
+use Prim.Native.Nat.{ℕ, _+_}
 use native.Mathlib.Omega.{arith}
 use lib.Dec.{ltb, eqb}
 use borrow.Author.Tests.{ltb-true, ltb-false, eqb-true, eqb-false, lt-ltb, le-ltb, eq-eqb, ne-eqb}
-use Rattle.tables.specs.Keys.{member, insertedKey, withoutKey}
+use Rattle.tables.specs.Keys.{member, insertedKey, between, withoutBetween, withoutKey}
+use Rattle.tables.proofs.TableChanged.{between-next, without-next}
 use Rattle.program.specs.Program.{Edge}
 use Rattle.program.specs.Frames.{packed, edgeKey}
 use Rattle.program.specs.Decoded.{edgeOf}
 use Rattle.edit.specs.Editing.{sameEdge, hasEdge, without, inserted}
+use Rattle.edit.proofs.EdgesRemaining.{remaining, without-remaining}
 use Rattle.edit.proofs.EditsWellFormed.{same-self, same-equal}
 
 -- ---- two keys
@@ -33,7 +35,7 @@ same-word a b = go (eqb a b) refl
     go true e = rw (eqb-true a b e) (same-self (edgeOf b))
     go false e = apart (sameEdge (edgeOf a) (edgeOf b)) refl (eqb-false a b e)
 
-below-word : (a b : ℕ) → ltb (edgeKey (edgeOf a)) (edgeKey (edgeOf b)) ≡ ltb a b
+pub below-word : (a b : ℕ) → ltb (edgeKey (edgeOf a)) (edgeKey (edgeOf b)) ≡ ltb a b
 below-word a b = go (ltb a b) refl
   where
     go : (t : Bool) → ltb a b ≡ t → ltb (edgeKey (edgeOf a)) (edgeKey (edgeOf b)) ≡ t
@@ -66,13 +68,20 @@ module _ (key : ℕ) where
       go true h = refl
       go false h = rw h
 
-  pub edges-without : (ks : List ℕ) → map edgeOf (withoutKey key ks) ≡ without (edgeOf key) (map edgeOf ks)
-  unfolding withoutKey without
-  edges-without [] = refl
-  edges-without (k ∷ ks) = rw (same-word key k) (go (eqb key k) (edges-without ks))
-    where
-      go : (b : Bool) → map edgeOf (withoutKey key ks) ≡ without (edgeOf key) (map edgeOf ks)
-          → map edgeOf (cond b (withoutKey key ks) (k ∷ withoutKey key ks))
-          ≡ cond b (without (edgeOf key) (map edgeOf ks)) (edgeOf k ∷ without (edgeOf key) (map edgeOf ks))
-      go true h = h
-      go false h = rw h
+-- where the keys between two numbers are those of the edges that meet a test
+pub edges-between : (low high : ℕ) (t : Edge → Bool) → ((k : ℕ) → between low high k ≡ t (edgeOf k))
+    → (ks : List ℕ) → map edgeOf (withoutBetween low high ks) ≡ remaining t (map edgeOf ks)
+unfolding withoutBetween remaining
+edges-between low high t same [] = refl
+edges-between low high t same (k ∷ ks) = rw (← (same k)) (go (between low high k) (edges-between low high t same ks))
+  where
+    go : (b : Bool) → map edgeOf (withoutBetween low high ks) ≡ remaining t (map edgeOf ks)
+        → map edgeOf (cond b (withoutBetween low high ks) (k ∷ withoutBetween low high ks))
+        ≡ cond b (remaining t (map edgeOf ks)) (edgeOf k ∷ remaining t (map edgeOf ks))
+    go true h = h
+    go false h = rw h
+
+pub edges-without : (key : ℕ) (ks : List ℕ) → map edgeOf (withoutKey key ks) ≡ without (edgeOf key) (map edgeOf ks)
+edges-without key ks =
+    rw (← (without-next key ks), without-remaining (edgeOf key) (map edgeOf ks))
+    (edges-between key (key + 1) (sameEdge (edgeOf key)) (λ k. between-next key k ∙ sym (same-word key k)) ks)

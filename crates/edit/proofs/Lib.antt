@@ -1,4 +1,6 @@
+pub mod EdgesRemaining
 pub mod EditsWellFormed
 pub mod KeysOfEdges
 pub mod EditRefusals
+pub mod EditRefusalNumbers
 pub mod Theorems

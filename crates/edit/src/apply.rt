@@ -29,7 +29,8 @@ pub fn relabelled(s: Step, l: Label) -> Step
     }
 }
 
-fn with_edges(p: DecodedProgram, edges: Edges) -> DecodedProgram
+// The program with these edges for its own.
+pub fn with_edges(p: DecodedProgram, edges: Edges) -> DecodedProgram
     ensures { λ r. ⌜ programOf r ≡ withEdges (programOf p) (map edgeOf (edgeKeysOf edges)) ⌝ }
 {
     let nodes = p.nodes;

@@ -106,7 +106,8 @@ fn is_row_in_range(h: Limits, l: Line) -> bool
     row_fits(row_in(l), h.states, h.actions)
 }
 
-fn in_range(h: Limits, k: u8, l: Line) -> bool
+// Whether the numbers of a frame of kind k are in range, by what bounds them.
+pub fn in_range(h: Limits, k: u8, l: Line) -> bool
     ensures { λ y. ⌜ y ≡ ranged (limitsOf h) k l ⌝ }
 {
     let a = number(l, 1);

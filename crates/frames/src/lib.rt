@@ -2,6 +2,7 @@
 pub mod judge;
 
 use program::Nodes;
+use program::edges::edge_key;
 use program::frames::pack;
 use rows::row_key;
 use text::Line;
@@ -10,7 +11,8 @@ ghost use Prim.Native.Nat.{_<_};
 ghost use Rattle.text.specs.Lines.{maxNumbers};
 ghost use Rattle.rows.specs.Decoded.{rowOf};
 ghost use Rattle.program.specs.Frames.{kindOrder, size, num, kind, word, rest, keyOf};
-ghost use Rattle.program.specs.Reading.{rowIn};
+ghost use Rattle.program.specs.Reading.{edgeIn, rowIn};
+ghost use Rattle.program.specs.Decoded.{edgeOf};
 
 // How much was read before a line: frames, routine frames, edges, transitions and rows.
 pub struct Counts {
@@ -113,6 +115,13 @@ pub fn key_of(k: u8, l: Line) -> u64
     let c = number(l, 7);
     let front = (k as u64) * 0x100000000 + (w as u64);
     ((front * 256 + (a as u64)) * 256 + (b as u64)) * 256 + (c as u64)
+}
+
+// The key of the edge that a line says.
+pub fn edge_in(l: Line) -> u32
+    ensures { λ r. ⌜ edgeOf r ≡ edgeIn l ⌝ }
+{
+    edge_key(number(l, 1), number(l, 2), number(l, 3), number(l, 4))
 }
 
 // The key of the row that a line says.

@@ -12,7 +12,7 @@ use Rattle.program.specs.Writing.{nodesFrames, framesOf, text, written}
 use Rattle.program.specs.Reading.{accepted, refused, judgeAs, judge, afterAs, after, readFrom, readFile}
 use Rattle.rows.specs.Rows.{pairsFrom, timesMet, tableRefusal, nextState}
 
-abbrev sample : Program
+abbrev pub sample : Program
 sample =
     record {
       routines = 2;

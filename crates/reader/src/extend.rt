@@ -5,13 +5,13 @@ use automaton::States;
 use automaton::transitions::Transitions;
 use automaton::transitions::transition_key;
 use base::choose;
+use frames::edge_in;
 use frames::key_of;
 use frames::kind_of;
 use frames::number;
 use program::DecodedProgram;
 use program::Nodes;
 use program::edges::Edges;
-use program::edges::edge_key;
 use tables::with_byte;
 use tables::with_key;
 use text::Line;
@@ -25,8 +25,8 @@ ghost use Rattle.automaton.specs.Sizes.{maxStates, maxTransitions};
 ghost use Rattle.automaton.specs.Decoded.{statesOf, transitionKeysOf, transitionOf, automatonOf};
 ghost use Rattle.program.specs.Sizes.{maxRoutines, maxEdges};
 ghost use Rattle.program.specs.Frames.{kind};
-ghost use Rattle.program.specs.Reading.{edgeIn, transitionIn, rowIn, more, automatonAfter, programAfter, after};
-ghost use Rattle.program.specs.Decoded.{nodesOf, edgeKeysOf, edgeOf, programOf};
+ghost use Rattle.program.specs.Reading.{transitionIn, rowIn, more, automatonAfter, programAfter, after};
+ghost use Rattle.program.specs.Decoded.{nodesOf, edgeKeysOf, programOf};
 ghost use Rattle.program.specs.RoomParts.{RoomInAutomaton, Room};
 ghost use Rattle.rows.specs.Rows.{TableRow};
 ghost use Rattle.reader.specs.Parts.{progressOf};
@@ -86,12 +86,6 @@ fn add_edge(t: Edges, yes: bool, key: u32) -> Edges
     let mut keys = t.keys;
     let count = add_key(&mut keys, t.count, yes, key);
     Edges { count, keys }
-}
-
-fn edge_in(l: Line) -> u32
-    ensures { λ r. ⌜ edgeOf r ≡ edgeIn l ⌝ }
-{
-    edge_key(number(l, 1), number(l, 2), number(l, 3), number(l, 4))
 }
 
 fn transition_in(l: Line) -> u32

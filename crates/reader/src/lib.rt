@@ -37,7 +37,8 @@ ghost use Rattle.rows.specs.Rows.{TableRow};
 ghost use Rattle.rows.specs.Decoded.{rowsOf};
 ghost use Rattle.program.specs.Frames.{kind};
 ghost use Rattle.program.specs.RoomParts.{RoomForRow};
-ghost use Rattle.program.specs.Reading.{start, rowIn, more, judge, accepted, refused, withTransitions, finished, readFile};
+ghost use Rattle.program.specs.Reading.{start, rowIn, more, judge, accepted, refused, withTransitions};
+ghost use Rattle.program.specs.Reading.{finished, readFile};
 ghost use Rattle.program.specs.Decoded.{programOf};
 ghost use Rattle.reader.specs.Parts.{progressOf};
 ghost use Rattle.reader.specs.Outcome.{outcomeOf};
@@ -132,8 +133,8 @@ fn fault_of(s: Reader, rows: usize, l: Line) -> u8
     fault_by(s.last, counts, limits_of(p), l)
 }
 
-// The rows after a line without a fault, which finds room: hence the `requires`. They stand beside what else is known, so
-// that a line that is no row does not move them.
+// The rows after a line without a fault, which finds room: hence the `requires`. They stand beside what else is known,
+// so that a line that is no row does not move them.
 fn rows_after(t: Rows, l: Line) -> Rows
     requires { ⌜ RoomForRow (rowsOf t) (kind l) ⌝ }
     ensures { λ r. ⌜ rowsOf r ≡ more (eqb (kind l) 5) (rowIn l) (rowsOf t) ⌝ }

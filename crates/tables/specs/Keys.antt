@@ -1,9 +1,9 @@
 -- Lists of numbers, as tables of keys hold them.
 use Prim.Native.Nat.{ℕ, _≤_, _<_}
 use mathlib.Core.Path.{_≡_}
-use mathlib.Core.Bool.{Bool, false, cond, _||_}
+use mathlib.Core.Bool.{Bool, false, cond, _&&_, _||_}
 use mathlib.Core.List.{List, [], _∷_}
-use lib.Dec.{ltb, eqb}
+use lib.Dec.{ltb, leb, eqb}
 use lib.ListN.{length, take, getD}
 
 unfoldable pub member : ℕ → List ℕ → Bool
@@ -19,6 +19,16 @@ Ascending low (k ∷ ks) = (low < k) × Ascending k ks
 unfoldable pub insertedKey : ℕ → List ℕ → List ℕ
 insertedKey key [] = key ∷ []
 insertedKey key (k ∷ ks) = cond (ltb key k) (key ∷ k ∷ ks) (k ∷ insertedKey key ks)
+
+-- not below one number, and below the other
+abbrev pub between : ℕ → ℕ → ℕ → Bool
+between low high k = leb low k && ltb k high
+
+-- without the keys between two numbers
+unfoldable pub withoutBetween : ℕ → ℕ → List ℕ → List ℕ
+withoutBetween low high [] = []
+withoutBetween low high (k ∷ ks) =
+    cond (between low high k) (withoutBetween low high ks) (k ∷ withoutBetween low high ks)
 
 -- without this key
 unfoldable pub withoutKey : ℕ → List ℕ → List ℕ

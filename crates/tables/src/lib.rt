@@ -1,9 +1,9 @@
 // Tables of keys: the first `count` entries of a slice are in use, and a count above its length means all of them.
 ghost use mathlib.Core.Path.{_≡_};
 ghost use mathlib.Core.List.{[], _∷_, _++_};
-ghost use Prim.Native.Nat.{min, _<_};
+ghost use Prim.Native.Nat.{min, _+_, _≤_, _<_};
 ghost use lib.ListN.{length, take};
-ghost use Rattle.tables.specs.Keys.{member, insertedKey, withoutKey, Holds, FirstFrom};
+ghost use Rattle.tables.specs.Keys.{member, insertedKey, between, withoutBetween, withoutKey, Holds, FirstFrom};
 
 // How many entries of a list are in use: a count above its size means all of them.
 pub fn in_use(count: usize, size: usize) -> usize
@@ -80,20 +80,47 @@ pub fn insert_key(keys: &mut [u32], count: usize, key: u32) -> usize
     with_key(keys, count, moved)
 }
 
-// The table without a key.
-pub fn remove_key(keys: &mut [u32], count: usize, key: u32) -> usize
-    ensures { λ r. ⌜ Holds (now (keys .exit)) r (withoutKey key (take count (now (keys .entry)))) ⌝ }
+// The table with more keys at its end.
+pub fn with_keys(keys: &mut [u32], count: usize, more: &[u32]) -> usize
+    requires { ⌜ count + length (now more) ≤ length (now keys) ⌝ }
+    ensures { λ r. ⌜ Holds (now (keys .exit)) r (take count (now (keys .entry)) ++ now (more .entry)) ⌝ }
+{
+    let mut i: usize = 0;
+    while i < more.len() {
+        keys[count + i] = more[i];
+        i = i + 1;
+    }
+    count + i
+}
+
+// Whether a key is between two numbers: not below the first, and below the second.
+fn is_between(low: u64, high: u64, key: u32) -> bool
+    ensures { λ y. ⌜ y ≡ between low high key ⌝ }
+{
+    (low <= key as u64) & ((key as u64) < high)
+}
+
+// The table without the keys between two numbers.
+pub fn remove_between(keys: &mut [u32], count: usize, low: u64, high: u64) -> usize
+    ensures { λ r. ⌜ Holds (now (keys .exit)) r (withoutBetween low high (take count (now (keys .entry)))) ⌝ }
 {
     let used = in_use(count, keys.len());
     let mut kept: usize = 0;
     let mut i: usize = 0;
     while i < used {
         let k = keys[i];
-        if k != key {
+        if !is_between(low, high, k) {
             keys[kept] = k;
             kept = kept + 1;
         }
         i = i + 1;
     }
     kept
+}
+
+// The table without a key.
+pub fn remove_key(keys: &mut [u32], count: usize, key: u32) -> usize
+    ensures { λ r. ⌜ Holds (now (keys .exit)) r (withoutKey key (take count (now (keys .entry)))) ⌝ }
+{
+    remove_between(keys, count, key as u64, key as u64 + 1)
 }

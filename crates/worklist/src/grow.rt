@@ -1,30 +1,31 @@
-// After edges were added to a program, what follows by them is marked.
+// After edges were added to a program, what follows by them is marked. What was marked before is closed under the edges
+// that were there, so that only the configurations at the nodes that the new edges lead from can lead to something new.
+// Their numbers follow one another, and only they are taken at the start; from any other marks what follows elsewhere
+// would be missed: hence each `requires`.
 use crate::part::follow_part;
 use automaton::next::next_states;
 use program::DecodedProgram;
 use program::sizes::MAX_EDGES;
 use reach::configuration::number_of;
+use reach::configuration::wide;
 use reach::spans::NODE_SPAN;
+use reach::spans::ROUTINE_SPAN;
 use tables::in_use;
 ghost use mathlib.Core.Path.{_≡_};
-ghost use Prim.Native.Nat.{_+_, _<_};
+ghost use Prim.Native.Nat.{_+_, _*_, _≤_, _<_};
 ghost use lib.ListN.{length};
 ghost use Rattle.program.specs.Sizes.{maxRoutines, maxNodes, marksSize};
 ghost use Rattle.program.specs.WellFormed.{WellFormed};
 ghost use Rattle.program.specs.Decoded.{programOf};
-ghost use Rattle.reach.specs.Sizes.{nodeSpan};
+ghost use Rattle.reach.specs.Sizes.{nodeSpan, routineSpan};
 ghost use Rattle.reach.specs.Configurations.{number, none-set};
 ghost use Rattle.reach.specs.Reachable.{Derivable, Any};
 ghost use Rattle.reach.specs.Marks.{Marked, Shows, ClosedBut};
 
-// What follows from the marks by the edges of a program is marked, once edges were added that lead from node n of
-// routine f. What was marked before is closed under the edges that were there, so that only the configurations at that
-// node, whose numbers follow one another, can lead to something new; from any other marks what follows elsewhere would
-// be missed: hence the `requires`.
-pub fn follow_added(p: DecodedProgram, f: u8, n: u8, marks: &mut [u8], pending: &mut [u8])
-    requires { ⌜ WellFormed (programOf p) × (f < maxRoutines) × (n < maxNodes)
-        × (length (now pending) ≡ marksSize) ⌝ }
-    requires { ⌜ ClosedBut (programOf p) (number f n 0 0) (number f n 0 0 + nodeSpan) (now marks) ⌝ }
+// What follows by all edges of a program, once some were added at the numbers from low up to high.
+fn follow_between(p: DecodedProgram, low: usize, high: usize, marks: &mut [u8], pending: &mut [u8])
+    requires { ⌜ WellFormed (programOf p) × (high ≤ marksSize) × (length (now pending) ≡ marksSize) ⌝ }
+    requires { ⌜ ClosedBut (programOf p) low high (now marks) ⌝ }
     ensures { λ _. ⌜ Shows (Derivable (programOf p) (Marked (now (marks .entry))) Any) (now (marks .exit))
         × (now (pending .exit) ≡ none-set) ⌝ }
 {
@@ -34,6 +35,28 @@ pub fn follow_added(p: DecodedProgram, f: u8, n: u8, marks: &mut [u8], pending: 
     let table = next_states(rule);
     let next = table.flags;
     let count = in_use(edges.count, MAX_EDGES);
+    follow_part(&keys[..count], &next, marks, pending, low, high);
+}
+
+// Once edges were added that lead from node n of routine f.
+pub fn follow_added(p: DecodedProgram, f: u8, n: u8, marks: &mut [u8], pending: &mut [u8])
+    requires { ⌜ WellFormed (programOf p) × (f < maxRoutines) × (n < maxNodes)
+        × (length (now pending) ≡ marksSize) ⌝ }
+    requires { ⌜ ClosedBut (programOf p) (number f n 0 0) (number f n 0 0 + nodeSpan) (now marks) ⌝ }
+    ensures { λ _. ⌜ Shows (Derivable (programOf p) (Marked (now (marks .entry))) Any) (now (marks .exit))
+        × (now (pending .exit) ≡ none-set) ⌝ }
+{
     let low = number_of(f, n, 0, 0);
-    follow_part(&keys[..count], &next, marks, pending, low, low + NODE_SPAN);
+    follow_between(p, low, low + NODE_SPAN, marks, pending);
+}
+
+// Once edges were added anywhere in routine f.
+pub fn follow_routine(p: DecodedProgram, f: u8, marks: &mut [u8], pending: &mut [u8])
+    requires { ⌜ WellFormed (programOf p) × (f < maxRoutines) × (length (now pending) ≡ marksSize) ⌝ }
+    requires { ⌜ ClosedBut (programOf p) (f * routineSpan) (f * routineSpan + routineSpan) (now marks) ⌝ }
+    ensures { λ _. ⌜ Shows (Derivable (programOf p) (Marked (now (marks .entry))) Any) (now (marks .exit))
+        × (now (pending .exit) ≡ none-set) ⌝ }
+{
+    let low = wide(f) * ROUTINE_SPAN;
+    follow_between(p, low, low + ROUTINE_SPAN, marks, pending);
 }

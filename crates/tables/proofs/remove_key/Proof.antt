@@ -1,33 +1,11 @@
--- `tables::remove_key` meets its contract. The loop's invariant: what is kept and what is to come are the whole.
-use mathlib.Core.Logic.{⊎-elim}
-use Prim.Native.Nat.{_-_}
-use native.Mathlib.Omega.{arith}
+-- `tables::remove_key` meets its contract.
 use borrow.Author.Needs.{needs}
-use Rattle.tables.proofs.TableChanged.{Keeping, keep-start, keep-not, keep-one, keep-end}
+use Rattle.tables.proofs.TableChanged.{without-next}
 use Rattle.tables.proofs.remove_key.Statement.{statement}
 use Rattle.tables.proofs.remove_key.Tie as tie
 
-abbrev Inv-loop : tie.InvT-loop
-Inv-loop keys₀ count key used kept₀ i₀ keys kept i = Keeping key count keys₀ keys used kept i
-
-abbrev μ-loop : tie.MeasureT-loop
-μ-loop keys₀ count key used kept₀ i₀ keys kept i = used - i
-
-loop-holds : tie.Need-loop-holds Inv-loop μ-loop
-loop-holds c = keep-start _ _ _ (c .in-use .ensures)
-
-loop-again : tie.Need-loop-again Inv-loop μ-loop
-loop-again c =
-    let p = c .before .before .before in
-    ⊎-elim (λ w. rw (w .1, w .2) (keep-one (p .loop .inv) (omega arith) (omega arith) (w .0 .taken)))
-    (λ w. rw (w .1, w .2) (keep-not (p .loop .inv) (omega arith) (omega arith) (w .0 .left))) (c .if1 .came)
-
-returns : tie.Need-returns Inv-loop μ-loop
-returns c = keep-end (c .before .loop .inv) (omega arith)
+returns : tie.Need-returns
+returns c = rw (without-next _ _) at (c .before .before .remove-between .ensures)
 
 pub remove-key-spec : {M : Type 1} → statement M
-remove-key-spec =
-    tie.close
-    (tie.spec Inv-loop μ-loop (λ c κs. search needs) loop-holds (λ c. search needs) (λ c. search needs)
-    (λ c. search needs) (λ c. search needs) (λ c. search needs) (λ c. search needs) (λ c. search needs) loop-again
-    (λ c. search needs) returns)
+remove-key-spec = tie.close (tie.spec (λ c. search needs) (λ c κs. search needs) (λ c. search needs) returns)

@@ -1,6 +1,6 @@
 use borrow.Author.Needs.{needs}
-use Rattle.reader.proofs.extend.edge_in.Statement.{statement}
-use Rattle.reader.proofs.extend.edge_in.Tie as tie
+use Rattle.frames.proofs.edge_in.Statement.{statement}
+use Rattle.frames.proofs.edge_in.Tie as tie
 
 pub edge-in-spec : {M : Type 1} → statement M
 edge-in-spec =
