@@ -1,0 +1,6 @@
+pub mod Changes
+pub mod Changing
+pub mod ExchangeText
+pub mod Wanted
+pub mod Decoded
+pub mod Parts

@@ -1,0 +1,44 @@
+-- The change that a call is handed: an edit line, or the text of an exchange.
+use Prim.Native.Nat.{ℕ, _+_, _≤_, _<_}
+use mathlib.Core.Path.{_≡_}
+use mathlib.Core.Bool.{true}
+use mathlib.Core.List.{List, map}
+use lib.Dec.{eqb}
+use lib.ListN.{length}
+use Rattle.tables.specs.Keys.{Ascending}
+use Rattle.program.specs.Sizes.{maxEdges}
+use Rattle.program.specs.Program.{Program, nodesFit, edgeFits}
+use Rattle.program.specs.Frames.{edgeKey}
+use Rattle.program.specs.WellFormed.{All}
+use Rattle.edit.specs.Editing.{wantedEdit, Applies}
+use Rattle.edit.specs.declared.EditRead.{EditRead}
+use Rattle.edit.specs.declared.EditRead.the-variants as edit
+use Rattle.exchange.specs.Changes.{Exchange, Change, step, whole, ChangeRead, Read, Refused}
+use Rattle.exchange.specs.Changing.{others, withNodes}
+use Rattle.exchange.specs.ExchangeText.{wantedExchange}
+use Rattle.exchange.specs.declared.Form.{Form}
+use Rattle.exchange.specs.declared.Form.the-variants.{EditLine, ExchangeText}
+
+abbrev pub ofEdit : EditRead → ChangeRead
+ofEdit (edit.Read e) = Read (step e)
+ofEdit (edit.Refused n) = Refused n
+
+-- the change that a buffer says for a program, or the first refusal that it meets: 12 to 16 for an edit line; 12, 13,
+-- 21 and 16 for an exchange
+abbrev pub wantedChange : Form → Program → List ℕ → ChangeRead
+wantedChange EditLine p s = ofEdit (wantedEdit p s)
+wantedChange ExchangeText p s = wantedExchange p s
+
+-- an exchange that is not refused
+pub record Fits (x : Exchange) (p : Program) : Type 0 where
+  pub routine-fits : x .routine < p .routines
+  pub nodes-fit : nodesFit (x .nodes) ≡ true
+  pub edges-fit : All (edgeFits (withNodes p (x .routine) (x .nodes))) (x .edges)
+  pub edges-own : All (λ e. eqb (e .routine) (x .routine)) (x .edges)
+  pub edges-ascend : Ascending 0 (map edgeKey (x .edges))
+  pub edges-limited : length (others (x .routine) (p .edges)) + length (x .edges) ≤ maxEdges
+
+-- a change that is not refused
+abbrev pub ChangeApplies : Change → Program → Type 0
+ChangeApplies (step e) p = Applies e p
+ChangeApplies (whole x) p = Fits x p
