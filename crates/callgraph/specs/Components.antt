@@ -1,5 +1,5 @@
 -- Components (paper: groups) of the call graph, and the routines that the inside-out repair reanalyzes (paper:
--- reanalyzes).
+-- reopens).
 use Prim.Native.Nat.{ℕ, _<_, _/_, _%_, _^_}
 use mathlib.Core.Path.{_≡_}
 use mathlib.Core.Logic.{_⊎_, _↔_, _≢_}
@@ -37,7 +37,7 @@ Together p f g = (f ≡ g) ⊎ (Leads p f g × Leads p g f)
 abbrev pub OldRoot : Program → ℕ → ℕ → Type 0
 OldRoot p f r = Reachable p f 0 r r
 
--- the edited program worked anew from all old roots
+-- the changed program worked anew from all old roots
 abbrev pub Anew : Program → Program → Set
 Anew p p′ = Derivable p′ (Roots (OldRoot p)) Any
 
@@ -56,7 +56,7 @@ pub record CallsChanged (p p′ : Program) (f g : ℕ) : Type 0 where
   pub outside : ¬ (Together p′ f called)
   pub changed : Changed p p′ called
 
--- a routine is reanalyzed if its component, in the edited program, holds the edited routine or calls one outside it
+-- a routine is reanalyzed if its component, in the changed program, holds the changed routine or calls one outside it
 -- whose summaries have changed
 pub record Reanalyzed (p p′ : Program) (edited f : ℕ) : Type 0 where
   pub member : ℕ

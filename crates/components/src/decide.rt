@@ -89,8 +89,8 @@ fn calls_differ(p: DecodedProgram, members: &[u8], before: &[u8], marks: &[u8]) 
     some_differ(&keys, count, members, before, marks)
 }
 
-// The component holds the edited routine, or calls one outside it whose summaries have changed. The reader accepts only
-// well-formed programs: hence the `requires`.
+// The component holds the changed routine, or calls one outside it whose summaries have changed. The reader accepts
+// only well-formed programs: hence the `requires`.
 pub fn is_reanalyzed(
     p: DecodedProgram,
     members: &[u8],

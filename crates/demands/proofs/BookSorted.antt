@@ -1,25 +1,34 @@
--- The book and the edited program: sorting after an edit of the book's set is the edit of the sorted edges.
+-- The book and the changed program: sorting after a change of the book's set is the change of the sorted edges.
 use mathlib.Core.Path.{_≡_, refl, sym, ap, _∙_}
 use mathlib.Core.Bool.{Bool, true, false, cond}
-use mathlib.Core.List.{List, [], _∷_, map}
+use mathlib.Core.List.{List, [], _∷_, _++_, map}
 use Prim.Native.Nat.{ℕ, suc}
 use native.Mathlib.Omega.{arith}
 use lib.Dec.{ltb, leb}
 use lib.ListN.{length}
 use borrow.Author.Tests.{ltb-true, ltb-false, leb-true, lt-ltb, le-leb}
 use Rattle.program.specs.Program.{Edge, Program}
-use Rattle.program.specs.Frames.{edgeKey}
+use Rattle.program.specs.Frames.{num, edgeKey}
 use Rattle.program.specs.WellFormed.{All, WellFormed}
 use Rattle.tables.specs.Keys.{Ascending}
 use Rattle.edit.specs.Edits.{oldEdge, newEdge}
 use Rattle.edit.specs.EditLines.{editFrom, readEdit}
 use Rattle.edit.specs.Editing.{sameEdge, hasEdge, without, inserted, withEdges, editRefusal, editedEdges, editedProgram, wantedBy, wantedEdit}
-use Rattle.demands.specs.Book.{bookEdges, sorted, bookProgram}
+use Rattle.exchange.proofs.OtherRoutines.{own, others-remaining}
+use Rattle.exchange.specs.Changes.{Change, step, whole}
+use Rattle.exchange.specs.Changing.{others, insertedAll, withNodes, exchangedProgram, changedProgram}
+use Rattle.exchange.specs.ExchangeText.{textLines, ofRoutine, any, outside, outOfRange, exchangeIn, exchangeFrom, wantedExchange}
+use Rattle.exchange.specs.Wanted.{ofEdit, wantedChange}
+use Rattle.exchange.specs.declared.Form.{Form}
+use Rattle.exchange.specs.declared.Form.the-variants.{EditLine, ExchangeText}
+use Rattle.text.specs.declared.Line.{Line}
+use Rattle.demands.specs.Book.{bookEdges, bookChanged, sorted, bookProgram}
 use Rattle.edit.specs.declared.Edit.{Edit}
 use Rattle.edit.specs.declared.Edit.the-variants.{Add, Drop, Replace}
 use Rattle.edit.specs.declared.EditRead.{EditRead}
 use Rattle.edit.specs.declared.EditRead.the-variants.{Read, Refused}
-use Rattle.edit.proofs.EditsWellFormed.{has-inserted, length-inserted, all-inserted, all-without}
+use Rattle.edit.proofs.EdgesRemaining.{remaining, without-remaining, all-remaining}
+use Rattle.edit.proofs.EditsWellFormed.{has-inserted, length-inserted, all-inserted}
 
 -- ---- sorting changes nothing but the order
 
@@ -100,47 +109,60 @@ unfolding All inserted
 inserted-first e [] a = refl
 inserted-first e (x ∷ xs) a = rw (a .0)
 
--- an edge that is put in, and one that is taken out: the same, or another
-without-same : (e d : Edge) (es : List Edge) → sameEdge e d ≡ true → without e (inserted d es) ≡ without e es
-unfolding without inserted
-without-same e d [] h = rw h
-without-same e d (x ∷ xs) h = go (ltb (edgeKey d) (edgeKey x)) (without-same e d xs h)
-  where
-    go : (b : Bool) → without e (inserted d xs) ≡ without e xs
-        → without e (cond b (d ∷ x ∷ xs) (x ∷ inserted d xs)) ≡ cond (sameEdge e x) (without e xs) (x ∷ without e xs)
-    go true r = rw h
-    go false r = rw r
+module _ (t : Edge → Bool) where
+  -- an edge that is put in goes, or stays where it was put
+  remaining-same : (d : Edge) (es : List Edge) → t d ≡ true → remaining t (inserted d es) ≡ remaining t es
+  unfolding remaining inserted
+  remaining-same d [] h = rw h
+  remaining-same d (x ∷ xs) h = go (ltb (edgeKey d) (edgeKey x)) (remaining-same d xs h)
+    where
+      go : (b : Bool) → remaining t (inserted d xs) ≡ remaining t xs
+          → remaining t (cond b (d ∷ x ∷ xs) (x ∷ inserted d xs)) ≡ cond (t x) (remaining t xs) (x ∷ remaining t xs)
+      go true r = rw h
+      go false r = rw r
 
-without-other : (e d : Edge) (es : List Edge) → sameEdge e d ≡ false → Sorted es → without e (inserted d es) ≡ inserted d (without e es)
-unfolding All Sorted without inserted
-without-other e d [] h s = rw h
-without-other e d (x ∷ xs) h s = go (ltb (edgeKey d) (edgeKey x)) refl (without-other e d xs h (s .1))
-  where
-    later : (b : Bool) → ltb (edgeKey d) (edgeKey x) ≡ false → without e (inserted d xs) ≡ inserted d (without e xs)
-        → cond b (without e (inserted d xs)) (x ∷ without e (inserted d xs)) ≡ inserted d (cond b (without e xs) (x ∷ without e xs))
-    later true i r = r
-    later false i r = rw (i, r)
+  remaining-other : (d : Edge) (es : List Edge) → t d ≡ false → Sorted es → remaining t (inserted d es) ≡ inserted d (remaining t es)
+  unfolding All Sorted remaining inserted
+  remaining-other d [] h s = rw h
+  remaining-other d (x ∷ xs) h s = go (ltb (edgeKey d) (edgeKey x)) refl (remaining-other d xs h (s .1))
+    where
+      later : (b : Bool) → ltb (edgeKey d) (edgeKey x) ≡ false → remaining t (inserted d xs) ≡ inserted d (remaining t xs)
+          → cond b (remaining t (inserted d xs)) (x ∷ remaining t (inserted d xs)) ≡ inserted d (cond b (remaining t xs) (x ∷ remaining t xs))
+      later true i r = r
+      later false i r = rw (i, r)
 
-    go : (b : Bool) → ltb (edgeKey d) (edgeKey x) ≡ b → without e (inserted d xs) ≡ inserted d (without e xs)
-        → without e (cond b (d ∷ x ∷ xs) (x ∷ inserted d xs)) ≡ inserted d (cond (sameEdge e x) (without e xs) (x ∷ without e xs))
-    go true i r =
-        let above : Edge → Bool = λ y. ltb (edgeKey d) (edgeKey y) in
-        let z = ltb-true (edgeKey d) (edgeKey x) i in
-        let more : (y : Edge) → notBelow x y ≡ true → above y ≡ true =
-        λ y k. lt-ltb (edgeKey d) (edgeKey y) (omega (arith, leb-true (edgeKey x) (edgeKey y) k)) in
-        let all : All above (x ∷ xs) = (i, all-if (notBelow x) above more xs (s .0)) in
-        rw h (sym (inserted-first d (without e (x ∷ xs)) (all-without above e (x ∷ xs) all)))
-    go false i r = later (sameEdge e x) i r
+      go : (b : Bool) → ltb (edgeKey d) (edgeKey x) ≡ b → remaining t (inserted d xs) ≡ inserted d (remaining t xs)
+          → remaining t (cond b (d ∷ x ∷ xs) (x ∷ inserted d xs)) ≡ inserted d (cond (t x) (remaining t xs) (x ∷ remaining t xs))
+      go true i r =
+          let above : Edge → Bool = λ y. ltb (edgeKey d) (edgeKey y) in
+          let z = ltb-true (edgeKey d) (edgeKey x) i in
+          let more : (y : Edge) → notBelow x y ≡ true → above y ≡ true =
+          λ y k. lt-ltb (edgeKey d) (edgeKey y) (omega (arith, leb-true (edgeKey x) (edgeKey y) k)) in
+          let all : All above (x ∷ xs) = (i, all-if (notBelow x) above more xs (s .0)) in
+          rw h (sym (inserted-first d (remaining t (x ∷ xs)) (all-remaining t above (x ∷ xs) all)))
+      go false i r = later (t x) i r
+
+  sorted-remaining : (es : List Edge) → sorted (remaining t es) ≡ remaining t (sorted es)
+  unfolding remaining sorted
+  sorted-remaining [] = refl
+  sorted-remaining (d ∷ ds) = go (t d) refl (sorted-remaining ds)
+    where
+      go : (b : Bool) → t d ≡ b → sorted (remaining t ds) ≡ remaining t (sorted ds)
+          → sorted (cond b (remaining t ds) (d ∷ remaining t ds)) ≡ remaining t (inserted d (sorted ds))
+      go true h r = r ∙ sym (remaining-same d (sorted ds) h)
+      go false h r = ap (inserted d) r ∙ sym (remaining-other d (sorted ds) h (sorted-sorted ds))
 
 sorted-without : (e : Edge) (es : List Edge) → sorted (without e es) ≡ without e (sorted es)
-unfolding without sorted
-sorted-without e [] = refl
-sorted-without e (d ∷ ds) = go (sameEdge e d) refl (sorted-without e ds)
-  where
-    go : (b : Bool) → sameEdge e d ≡ b → sorted (without e ds) ≡ without e (sorted ds)
-        → sorted (cond b (without e ds) (d ∷ without e ds)) ≡ without e (inserted d (sorted ds))
-    go true h r = r ∙ sym (without-same e d (sorted ds) h)
-    go false h r = ap (inserted d) r ∙ sym (without-other e d (sorted ds) h (sorted-sorted ds))
+sorted-without e es = ap sorted (without-remaining e es) ∙ sorted-remaining (sameEdge e) es ∙ sym (without-remaining e (sorted es))
+
+sorted-others : (f : ℕ) (es : List Edge) → sorted (others f es) ≡ others f (sorted es)
+sorted-others f es = ap sorted (others-remaining f es) ∙ sorted-remaining (own f) es ∙ sym (others-remaining f (sorted es))
+
+-- the new edges of an exchange
+sorted-append : (ds es : List Edge) → sorted (ds ++ es) ≡ insertedAll ds (sorted es)
+unfolding sorted insertedAll
+sorted-append [] es = refl
+sorted-append (d ∷ ds) es = ap (inserted d) (sorted-append ds es)
 
 -- the edges of a book after an edit
 sorted-book : (e : Edit) (es : List Edge) → sorted (bookEdges e es) ≡ editedEdges e (sorted es)
@@ -149,14 +171,42 @@ sorted-book (Add s) es = refl
 sorted-book (Drop s) es = sorted-without (oldEdge (Drop s)) es
 sorted-book (Replace s l) es = ap (inserted (newEdge (Replace s l))) (sorted-without (oldEdge (Replace s l)) es)
 
+-- ---- the text of an exchange, read by the book
+
+length-others : (f : ℕ) (es : List Edge) → length (others f (sorted es)) ≡ length (others f es)
+length-others f es = ap length (sym (sorted-others f es)) ∙ length-sorted (others f es)
+
+-- the ranges do not depend on the edges
+bounds-sorted : (b : Program) (es : List Edge) (ls : List Line) → outOfRange (withEdges b es) ls ≡ outOfRange b ls
+bounds-sorted b es [] = refl
+bounds-sorted b es (l ∷ ls) = go (ofRoutine l)
+  where
+    go : (t : Bool) → any (outside (cond t (withNodes (withEdges b es) (num l 1) (num l 2)) (withEdges b es))) (l ∷ ls)
+        ≡ any (outside (cond t (withNodes b (num l 1) (num l 2)) b)) (l ∷ ls)
+    go true = refl
+    go false = refl
+
+text-sorted : (b : Program) (text : List ℕ) → wantedExchange (bookProgram b) text ≡ wantedExchange b text
+unfolding wantedExchange exchangeFrom
+text-sorted b text =
+    let ls : List Line = textLines text in
+    rw (bounds-sorted b (sorted (b .edges)) ls, length-others (exchangeIn ls .routine) (b .edges))
+
 -- ---- what is proved of the book
 
--- the book's set of edges, in whatever order, meets the refusals that its program meets
-pub wanted-sorted : (b : Program) (line : List ℕ) → wantedEdit (bookProgram b) line ≡ wantedEdit b line
+edit-sorted : (b : Program) (line : List ℕ) → wantedEdit (bookProgram b) line ≡ wantedEdit b line
 unfolding wantedEdit
-wanted-sorted b line = rw (read-sorted b (sorted (b .edges)) line) (judged-sorted (readEdit b line) (b .edges))
+edit-sorted b line = rw (read-sorted b (sorted (b .edges)) line) (judged-sorted (readEdit b line) (b .edges))
 
--- the program of the book after an edit is the book's program, edited
-pub booked : (b : Program) (e : Edit) → bookProgram (withEdges b (bookEdges e (b .edges))) ≡ editedProgram e (bookProgram b)
-unfolding editedProgram
-booked b e = ap (withEdges b) (sorted-book e (b .edges))
+-- the book's set of edges, in whatever order, meets the refusals that its program meets
+pub wanted-sorted : (k : Form) (b : Program) (text : List ℕ) → wantedChange k (bookProgram b) text ≡ wantedChange k b text
+wanted-sorted EditLine b text = ap ofEdit (edit-sorted b text)
+wanted-sorted ExchangeText b text = text-sorted b text
+
+-- the program of the book after a change is the book's program, changed
+pub booked : (b : Program) (c : Change) → bookProgram (bookChanged c b) ≡ changedProgram c (bookProgram b)
+unfolding editedProgram exchangedProgram
+booked b (step e) = ap (withEdges b) (sorted-book e (b .edges))
+booked b (whole x) =
+    ap (withEdges (withNodes b (x .routine) (x .nodes)))
+    (sorted-append (x .edges) (others (x .routine) (b .edges)) ∙ ap (insertedAll (x .edges)) (sorted-others (x .routine) (b .edges)))

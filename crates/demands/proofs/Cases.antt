@@ -16,16 +16,22 @@ use Rattle.reach.specs.Marks.{violationsFrom}
 use Rattle.analysis.specs.Answers.{same, analyzeAnswer, marksAfter, workAfter}
 use Rattle.edit.specs.EditLines.{editFrom, readEdit}
 use Rattle.edit.specs.Editing.{hasEdge, without, inserted, editedProgram, wantedEdit}
+use Rattle.exchange.specs.Changing.{others, insertedAll, exchangedProgram}
+use Rattle.exchange.specs.ExchangeText.{any, anyAstray, exchangeFrom, wantedExchange}
+use Rattle.exchange.specs.Wanted.{wantedChange}
 use Rattle.repair.specs.Repairs.{repaired, InsideOutNumber}
-use Rattle.program.specs.Sample.{lineBytes}
-use Rattle.desk.specs.Entries.{analyze, repair-inside-out, Back, analyzeBack, repairBack, programIn, Gives}
-use Rattle.demands.specs.Cases.{Fresh, Edited, Case, Said, lentFresh, Analyzed, lentEdit, Repaired, RepairedBoth, Holds, P1, P2, P3, P4, P5, P6, P7, P8, P9, P10, table}
+use Rattle.program.specs.Sample.{bytes}
+use Rattle.desk.specs.Entries.{analyze, Back, analyzeBack, repairBack, programIn, repairedIn, Gives}
+use Rattle.demands.specs.Lists.{entry}
+use Rattle.demands.specs.Lists as repair
+use Rattle.demands.specs.Cases.{Fresh, Changed, Case, Said, lentFresh, Analyzed, lentChange, Repaired, RepairedBoth, Holds, P1, P2, P3, P4, P5, P6, P7, P8, P9, P10, E1, E2, E3, E4, table}
+use Rattle.demands.proofs.EntriesGive.{forward-gives, inside-out-gives}
 use Rattle.demands.proofs.OneAnswer.{one-number}
-use Rattle.demands.proofs.CasesReanalyzed.{p5-reanalyzed, p6-reanalyzed}
+use Rattle.demands.proofs.CasesReanalyzed.{p5-reanalyzed, p6-reanalyzed, e1-reanalyzed}
 
 -- what the rows compute with: to unfold one of these two is to unfold all that it names
 editing : Unit {0}
-unfolding lines numbers judgeAs judge afterAs after readFrom readFile editFrom readEdit hasEdge without inserted editedProgram wantedEdit firstMet checked repaired same analyzeAnswer marksAfter workAfter written framesOf nodesFrames text hex
+unfolding lines numbers judgeAs judge afterAs after readFrom readFile editFrom readEdit hasEdge without inserted editedProgram wantedEdit others insertedAll exchangedProgram any anyAstray exchangeFrom wantedExchange firstMet checked repaired same analyzeAnswer marksAfter workAfter written framesOf nodesFrames text hex
 editing = tt
 
 analyzing : Unit {0}
@@ -40,28 +46,28 @@ freshBack c =
     analyzeBack b (analyzeAnswer (b .file) (b .marks) (b .work)) (marksAfter (b .file) (b .marks) (b .work)) (workAfter (b .file) (b .marks) (b .work))
 
 -- whatever routines are answered
-abbrev editedBack : Edited → ℕ → Back
-editedBack c routines = let b = lentEdit c in repairBack (repaired (b .file) (b .marks) (b .edit) (b .output) (b .work)) routines
+abbrev changedBack : Changed → ℕ → Back
+changedBack c routines = repairBack (repairedIn (c .form) (lentChange c)) routines
 
 by-analysis : (c : Fresh) → Analyzed c (freshBack c) → (a : Back) → Gives analyze (lentFresh c) a → Analyzed c a
 by-analysis c h a g = subst (Analyzed c) (sym g) h
 
--- the number that the inside-out repair answers, for an edit line that says this
-abbrev Routines : Edited → Back → Type 0
-Routines c a = InsideOutNumber (eqb (c .refused) 0) (wantedEdit (programIn (lentEdit c)) (lineBytes (c .line))) (programIn (lentEdit c)) (a .values .reanalyzed)
+-- the number that the inside-out repair answers, for a change that is wanted so
+abbrev Routines : Changed → Back → Type 0
+Routines c a = InsideOutNumber (eqb (c .refused) 0) (wantedChange (c .form) (programIn (lentChange c)) (bytes (c .text))) (programIn (lentChange c)) (a .values .reanalyzed)
 
-by-repairs : (c : Edited) → ((k : ℕ) → Repaired c (editedBack c k)) → ((a : Back) → Routines c a → Said (λ n. a .values .reanalyzed ≡ n) (c .reanalyzed)) → RepairedBoth c
+by-repairs : (c : Changed) → ((k : ℕ) → Repaired c (changedBack c k)) → ((a : Back) → Routines c a → Said (λ n. a .values .reanalyzed ≡ n) (c .reanalyzed)) → RepairedBoth c
 by-repairs c h r =
     record {
-      forward = λ a g. subst (Repaired c) (sym g) (h 0);
+      forward = λ a g. subst (Repaired c) (sym (forward-gives (c .form) (lentChange c) a g)) (h 0);
       inside-out = λ a g. given a g;
       reanalyzed = λ a g.
-          r a (subst (λ (n : ℕ). InsideOutNumber (eqb n 0) (wantedEdit (programIn (lentEdit c)) (lineBytes (c .line))) (programIn (lentEdit c)) (a .values .reanalyzed))
-          (given a g .refused) (g .1));
+          r a (subst (λ (n : ℕ). InsideOutNumber (eqb n 0) (wantedChange (c .form) (programIn (lentChange c)) (bytes (c .text))) (programIn (lentChange c)) (a .values .reanalyzed))
+          (given a g .refused) (inside-out-gives (c .form) (lentChange c) a g .1));
     }
   where
-    given : (a : Back) → Gives repair-inside-out (lentEdit c) a → Repaired c a
-    given a g = subst (Repaired c) (sym (g .0)) (h (a .values .reanalyzed))
+    given : (a : Back) → Gives (entry (c .form) repair.inside-out) (lentChange c) a → Repaired c a
+    given a g = subst (Repaired c) (sym (inside-out-gives (c .form) (lentChange c) a g .0)) (h (a .values .reanalyzed))
 
 -- ---- the rows
 
@@ -81,7 +87,7 @@ p4 : Analyzed P4 (freshBack P4)
 unfolding editing analyzing
 p4 = record { accepted = refl; marks = refl; violating = (refl, refl); iterations = refl }
 
-p5 : (k : ℕ) → Repaired P5 (editedBack P5 k)
+p5 : (k : ℕ) → Repaired P5 (changedBack P5 k)
 unfolding editing analyzing
 p5 k = record { refused = refl; marks = refl; size = refl; output = refl }
 
@@ -89,7 +95,7 @@ p5-routines : (a : Back) → Routines P5 a → a .values .reanalyzed ≡ 3
 unfolding editing
 p5-routines a x = one-number x p5-reanalyzed
 
-p6 : (k : ℕ) → Repaired P6 (editedBack P6 k)
+p6 : (k : ℕ) → Repaired P6 (changedBack P6 k)
 unfolding editing analyzing
 p6 k = record { refused = refl; marks = refl; size = refl; output = refl }
 
@@ -101,17 +107,37 @@ p7 : Analyzed P7 (freshBack P7)
 unfolding editing analyzing
 p7 = record { accepted = refl; marks = refl; violating = (refl, refl); iterations = refl }
 
-p8 : (k : ℕ) → Repaired P8 (editedBack P8 k)
+p8 : (k : ℕ) → Repaired P8 (changedBack P8 k)
 unfolding editing analyzing
 p8 k = record { refused = refl; marks = refl; size = refl; output = refl }
 
-p9 : (k : ℕ) → Repaired P9 (editedBack P9 k)
+p9 : (k : ℕ) → Repaired P9 (changedBack P9 k)
 unfolding editing analyzing
 p9 k = record { refused = refl; marks = refl; size = refl; output = refl }
 
-p10 : (k : ℕ) → Repaired P10 (editedBack P10 k)
+p10 : (k : ℕ) → Repaired P10 (changedBack P10 k)
 unfolding editing analyzing
 p10 k = record { refused = refl; marks = refl; size = refl; output = refl }
+
+e1 : (k : ℕ) → Repaired E1 (changedBack E1 k)
+unfolding editing analyzing
+e1 k = record { refused = refl; marks = refl; size = refl; output = refl }
+
+e1-routines : (a : Back) → Routines E1 a → a .values .reanalyzed ≡ 3
+unfolding editing
+e1-routines a x = one-number x e1-reanalyzed
+
+e2 : (k : ℕ) → Repaired E2 (changedBack E2 k)
+unfolding editing analyzing
+e2 k = record { refused = refl; marks = refl; size = refl; output = refl }
+
+e3 : (k : ℕ) → Repaired E3 (changedBack E3 k)
+unfolding editing analyzing
+e3 k = record { refused = refl; marks = refl; size = refl; output = refl }
+
+e4 : (k : ℕ) → Repaired E4 (changedBack E4 k)
+unfolding editing analyzing
+e4 k = record { refused = refl; marks = refl; size = refl; output = refl }
 
 -- ---- every row of the table holds
 
@@ -125,4 +151,5 @@ every-row c =
     at (by-analysis P1 p1) (at (by-analysis P2 p2) (at (by-analysis P3 p3) (at (by-analysis P4 p4)
     (at (by-repairs P5 p5 p5-routines) (at (by-repairs P6 p6 p6-routines) (at (by-analysis P7 p7)
     (at (by-repairs P8 p8 (λ a x. tt)) (at (by-repairs P9 p9 (λ a x. tt)) (at (by-repairs P10 p10 (λ a x. tt))
-    (λ m. absurd (List·Memᴰ·not-nil m)))))))))))
+    (at (by-repairs E1 e1 e1-routines) (at (by-repairs E2 e2 (λ a x. tt)) (at (by-repairs E3 e3 (λ a x. tt)) (at (by-repairs E4 e4 (λ a x. tt))
+    (λ m. absurd (List·Memᴰ·not-nil m)))))))))))))))

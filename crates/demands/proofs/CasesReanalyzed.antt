@@ -1,4 +1,5 @@
--- P5 and P6: the routines that two drops from the paper's program F have reanalyzed (paper: reopened).
+-- P5, P6 and E1: the routines that two drops from the paper's program F and an exchange of its routine 1 have reanalyzed (paper:
+-- reopened).
 use Prim.Native.Nat.{ℕ, zero, suc, _/_, _%_, _^_, _≤_, _<_}
 use mathlib.Core.Path.{_≡_, refl, ap}
 use mathlib.Core.Logic.{_⊎_, inl, inr, _↔_}
@@ -14,10 +15,12 @@ use Rattle.program.specs.Reading.{judgeAs, judge, afterAs, after, readFrom, rea
 use Rattle.program.specs.Sample.{bytes, F}
 use Rattle.reach.specs.Runs.{Step, HasStep}
 use Rattle.reach.specs.Reachable.{seeded, by-action, by-call, by-return, initial, root, Reachable}
-use Rattle.callgraph.specs.Components.{CallEdge, Leads, directly, through, Together, Anew, Changed, CallsChanged, Reanalyzed, Bits}
-use Rattle.edit.specs.Editing.{without, editedProgram}
+use Rattle.callgraph.specs.Components.{CallEdge, Leads, directly, through, Together, Anew, Changed, CallsChanged, Reanalyzed, Gained, Bits}
+use Rattle.edit.specs.Editing.{inserted, without, editedProgram}
 use Rattle.edit.specs.declared.Label.the-variants as label
 use Rattle.edit.specs.declared.Edit.the-variants.{Drop}
+use Rattle.exchange.specs.Changes.{step, whole as whole-routine}
+use Rattle.exchange.specs.Changing.{others, insertedAll, emptied, exchangedProgram}
 use Rattle.update.specs.Reanalyzed.{ReanalyzedBy}
 
 -- ---- the programs
@@ -185,6 +188,34 @@ two-bits = record { small = omega arith; bit = go }
     go (suc zero) h = (λ e. called-reanalyzed, λ o. refl)
     go (suc (suc f)) h = (λ e. absurd (no-bit 3 2 (suc (suc f)) (omega arith) (omega arith) e), λ o. absurd (omega (arith, no-other o)))
 
+-- ---- E1: routine 1 exchanged for itself
+
+-- the only routine that F calls is 1
+whole-calls : {f n g m : ℕ} → HasStep whole f n (Call g) m → g ≡ 1
+whole-calls (List·Memᴰ·head e) = let l = ap (λ (s : Step). s .label) e in cc
+whole-calls (List·Memᴰ·tail (List·Memᴰ·head e)) = absurd (no-action (ap (λ (s : Step). s .label) e))
+whole-calls (List·Memᴰ·tail (List·Memᴰ·tail (List·Memᴰ·head e))) = absurd (no-action (ap (λ (s : Step). s .label) e))
+
+-- so only 0 and 1 have configurations
+two-routines : {f n r q : ℕ} → Reachable whole f n r q → f < 2
+two-routines (seeded (initial m) t) = omega arith
+two-routines (by-action d s m t) = two-routines d
+two-routines (by-call d s m t) = omega (arith, whole-calls s)
+two-routines (by-return d s m b k t) = two-routines d
+
+-- without the only step of routine 1 and then with it again
+exchange-bits : Bits (λ f. Reanalyzed whole callOnly 1 f ⊎ Gained callOnly whole f) 3
+exchange-bits = record { small = omega arith; bit = λ f h. (λ e. inl (two-bits .bit f h .0 e), λ o. two-bits .bit f h .1 (only o)) }
+  where
+    only : {f : ℕ} → Reanalyzed whole callOnly 1 f ⊎ Gained callOnly whole f → Reanalyzed whole callOnly 1 f
+    only (inl o) = o
+    only (inr g) = of-two _ (two-routines (g .now-there))
+      where
+        of-two : (f : ℕ) → f < 2 → Reanalyzed whole callOnly 1 f
+        of-two zero h = main-reanalyzed
+        of-two (suc zero) h = called-reanalyzed
+        of-two (suc (suc f)) h = absurd (omega arith)
+
 -- bit 0
 one-bit : Bits (Reanalyzed whole uncalled 0) 1
 one-bit = record { small = omega arith; bit = go }
@@ -195,17 +226,22 @@ one-bit = record { small = omega arith; bit = go }
 
 -- ---- for the program that is read from the bytes of F
 
--- to unfold this is to unfold all that reading and dropping compute with
+-- to unfold this is to unfold all that reading, dropping and exchanging compute with
 dropping : Unit {0}
-unfolding lines numbers judgeAs judge afterAs after readFrom readFile without editedProgram
+unfolding lines numbers judgeAs judge afterAs after readFrom readFile inserted without editedProgram others insertedAll emptied exchangedProgram
 dropping = tt
 
 -- P5: dropping 01 00 00 01 reanalyzes routines 0 and 1
-pub p5-reanalyzed : Bits (ReanalyzedBy (Drop (record { routine = 1; source = 0; label = label.Action 0; target = 1 })) (readFile (bytes F) .program)) 3
+pub p5-reanalyzed : Bits (ReanalyzedBy (step (Drop (record { routine = 1; source = 0; label = label.Action 0; target = 1 }))) (readFile (bytes F) .program)) 3
 unfolding dropping
 p5-reanalyzed = two-bits
 
 -- P6: dropping 00 00 41 02 reanalyzes routine 0 only
-pub p6-reanalyzed : Bits (ReanalyzedBy (Drop (record { routine = 0; source = 0; label = label.Call 1; target = 2 })) (readFile (bytes F) .program)) 1
+pub p6-reanalyzed : Bits (ReanalyzedBy (step (Drop (record { routine = 0; source = 0; label = label.Call 1; target = 2 }))) (readFile (bytes F) .program)) 1
 unfolding dropping
 p6-reanalyzed = one-bit
+
+-- E1: routine 1 exchanged for itself reanalyzes routines 0 and 1
+pub e1-reanalyzed : Bits (ReanalyzedBy (whole-routine (record { routine = 1; nodes = 2; edges = called ∷ [] })) (readFile (bytes F) .program)) 3
+unfolding dropping
+e1-reanalyzed = exchange-bits

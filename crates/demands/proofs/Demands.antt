@@ -1,4 +1,4 @@
--- What is proved of the whole, for people: the three demands and the ten cases. Each proof cites.
+-- What is proved of the whole, for people: the three demands and the cases. Each proof cites.
 use mathlib.Core.Path.{_≡_}
 use mathlib.Core.Logic.{_↔_, _≢_}
 use mathlib.Core.List.{List, [], _∷_, flatten, List·Memᴰ}
@@ -13,6 +13,7 @@ use Rattle.edit.specs.Editing.{wantedEdit}
 use Rattle.edit.specs.declared.Step.{Step}
 use Rattle.edit.specs.declared.Edit.the-variants.{Drop}
 use Rattle.edit.specs.declared.EditRead.the-variants.{Read}
+use Rattle.exchange.specs.declared.Form.{Form}
 use Rattle.repair.specs.Desk.{started}
 use Rattle.callgraph.specs.Components.{Member}
 use Rattle.components.specs.Passes.{Passed}
@@ -21,13 +22,14 @@ use Rattle.transcript.specs.Transcript.{TurnGives, begun, Turns}
 use Rattle.transcript.specs.declared.Turn.{Turn}
 use Rattle.transcript.proofs.TurnsHold.{turns-print}
 use Rattle.desk.specs.Entries.{Entry, read, write, analyze, next-violation, prune, repair-forward, Lent, Back, programIn, Gives}
-use Rattle.demands.specs.Lists.{Call, wrote, Gave}
+use Rattle.demands.specs.Lists.{Repair, Call, entry, wrote, Gave}
 use Rattle.demands.specs.Inputs.{SameInputs}
-use Rattle.demands.specs.Demands.{Demand1, Acceptance, withWritten, WrittenFile, Tabulated, Demand2, Safe, Next, Procedure, Demand3, keepingOf}
+use Rattle.demands.specs.Demands.{Demand1, Acceptance, withWritten, WrittenFile, ChangedFile, Tabulated, Demand2, Safe, Next, Procedure, Demand3, keepingOf}
 use Rattle.demands.specs.Cases.{Case, Holds, table}
 use Rattle.demands.proofs.RefusalsReturned.{gives-demanded}
 use Rattle.demands.proofs.OneAnswer.{given-once}
 use Rattle.demands.proofs.FilesAccepted.{file-acceptance, comes-back, written-accepted, tabulated}
+use Rattle.demands.proofs.ChangesAccepted.{changed-files}
 use Rattle.demands.proofs.BenchTooLong.{too-long}
 use Rattle.demands.proofs.AnalysisAnswers.{analyzed-exact, count-safe, next-given, procedure-ends}
 use Rattle.demands.proofs.PruneKeeps.{pruned, drop-kept}
@@ -56,6 +58,10 @@ same-bytes = comes-back
 -- what is written of an accepted file, with rows or without, is accepted, has no row and is read as the same program
 pub written-file : (b : Lent) (a c : Back) → Gives write b a → a .refusal ≡ 0 → Gives read (withWritten b a) c → WrittenFile b a c
 written-file = written-accepted
+
+-- what an accepted repair writes, by an edit line or by an exchange, is the file of the changed program, which is well-formed
+pub changed-file : (k : Form) (r : Repair) (b : Lent) (a : Back) → Gives (entry k r) b a → a .refusal ≡ 0 → ChangedFile k b a
+changed-file = changed-files
 
 -- the transitions of an accepted file with rows are those of its table
 pub table-of-rows : (b : Lent) (a : Back) → Gives read b a → a .refusal ≡ 0 → rowsIn (b .file) ≢ [] → Tabulated (programIn b) (rowsIn (b .file))
@@ -91,7 +97,7 @@ procedure = procedure-ends
 
 -- ---- demand 3
 
--- for every accepted file, every list of calls and what they gave back
+-- for every accepted file, every list of calls, edit lines and exchanges mixed, and what they gave back
 pub demand-3 : (file : List ℕ) → readFile file .verdict ≡ Accepted → (cs : List Call) (gs : List Back) → Gave cs gs (started file) → Demand3 file cs gs
 demand-3 = list-demanded
 
@@ -100,7 +106,7 @@ pub prune-keeps : (b : Lent) (a : Back) → Gives prune b a → a .refusal ≡ 0
 prune-keeps = pruned
 
 -- what the keeping gives for the edited file and the old marks is what a forward drop leaves
-pub forward-drop : (b : Lent) (a k : Back) (s : Step) → Gives repair-forward b a → a .refusal ≡ 0 → wantedEdit (programIn b) (b .edit) ≡ Read (Drop s)
+pub forward-drop : (b : Lent) (a k : Back) (s : Step) → Gives repair-forward b a → a .refusal ≡ 0 → wantedEdit (programIn b) (b .text) ≡ Read (Drop s)
     → Gives prune (keepingOf b a) k → (k .refusal ≡ 0) × (k .marks ≡ a .marks)
 forward-drop = drop-kept
 
@@ -111,6 +117,6 @@ pub pass-depends : {members : List ℕ} {p p′ : Program} {old old′ marks mar
     → Marked after f n r q ↔ Marked after′ f n r q
 pass-depends = depends
 
--- ---- the cases P1 to P10, rows of one table
+-- ---- the cases P1 to P10, and E1 to E4 for exchanges, rows of one table
 pub cases : (c : Case) → List·Memᴰ c table → Holds c
 cases = every-row

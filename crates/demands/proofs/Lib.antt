@@ -1,12 +1,14 @@
 pub mod FileRefusalsTold
-pub mod EditRefusalsTold
+pub mod ChangeRefusalsTold
 pub mod RefusalsReturned
 pub mod OneAnswer
 pub mod FilesAccepted
 pub mod AnalysisAnswers
-pub mod PruneKeeps
 pub mod BenchTooLong
 pub mod PassDepends
+pub mod EntriesGive
+pub mod ChangesAccepted
+pub mod PruneKeeps
 pub mod BookSorted
 pub mod LocalChange
 pub mod ListsNeverDrift

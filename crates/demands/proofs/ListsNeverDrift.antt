@@ -20,18 +20,19 @@ use Rattle.reach.specs.Marks.{freshMarks}
 use Rattle.reach.proofs.ShapeKept.{marks-length}
 use Rattle.analysis.specs.Answers.{same}
 use Rattle.analysis.proofs.AnswersByChecks.{same-self, own-accepted}
-use Rattle.edit.specs.Editing.{withEdges, editedProgram, wantedEdit, Applies}
-use Rattle.edit.specs.declared.Edit.{Edit}
-use Rattle.edit.specs.declared.EditRead.{EditRead}
-use Rattle.edit.specs.declared.EditRead.the-variants as read
-use Rattle.edit.proofs.Theorems.{wanted-applies, applied-well-formed, edited-read}
+use Rattle.exchange.specs.Changes.{Change, ChangeRead}
+use Rattle.exchange.specs.Changes as change
+use Rattle.exchange.specs.Changing.{changedProgram}
+use Rattle.exchange.specs.Wanted.{wantedChange, ChangeApplies}
+use Rattle.exchange.specs.declared.Form.{Form}
+use Rattle.exchange.proofs.Theorems.{wanted-change-applies, changed-well-formed, changed-read, change-number}
 use Rattle.repair.specs.Repairs.{untouched, repairedTo, wantedBy, repairedBy, repaired, InsideOutNumber}
 use Rattle.repair.specs.Desk.{Desk, started}
-use Rattle.repair.proofs.EditRefusalNumbers.{wanted-number}
-use Rattle.desk.specs.Entries.{Back, repairBack, Gives}
-use Rattle.demands.specs.Book.{bookEdges, bookRefusal, bookEdited, unlessRefused, bookAfter, bookProgram, editReadRefusal}
-use Rattle.demands.specs.Lists.{Repair, forward, inside-out, Call, entry, lentTo, after, Gave, Seen, seen, foreseen, bookCall, bookRefuses, bookPlayed, RoutinesBy, BookRoutines, editOf, LeavesOthers, BookLeaves}
+use Rattle.desk.specs.Entries.{Lent, Back, repairBack, repairedIn, Gives}
+use Rattle.demands.specs.Book.{bookChanged, bookRefusal, bookRead, unlessRefused, bookAfter, bookProgram, readRefusal}
+use Rattle.demands.specs.Lists.{Repair, forward, inside-out, Call, entry, lentTo, after, Gave, Seen, seen, foreseen, bookCall, bookRefuses, bookWanted, bookPlayed, RoutinesBy, BookRoutines, acceptedChange, LeavesOthers, BookLeaves}
 use Rattle.demands.specs.Demands.{Demand3}
+use Rattle.demands.proofs.EntriesGive.{forward-gives, inside-out-gives}
 use Rattle.demands.proofs.BookSorted.{book-well-formed, wanted-sorted, booked}
 use Rattle.demands.proofs.LocalChange.{local-change}
 
@@ -71,32 +72,33 @@ module _ (d : Desk) (b : Program) (g : Agrees d b) (k : ℕ) where
         again = record { file = rw h (g .file); marks = g .marks; well-formed = g .well-formed };
       }
 
-  -- an accepted call leaves the edited program's marks and file
-  goes : (e : Edit) (output : List ℕ) → Applies e p → Step d (repairBack (repairedTo (editedProgram e p) output) k) 0 (withEdges b (bookEdges e (b .edges)))
-  goes e output h =
-      let q = editedProgram e p in
-      let x : bookProgram (withEdges b (bookEdges e (b .edges))) ≡ q = booked b e in
+  -- an accepted call leaves the changed program's marks and file
+  goes : (c : Change) (output : List ℕ) → ChangeApplies c p → Step d (repairBack (repairedTo (changedProgram c p) output) k) 0 (bookChanged c b)
+  goes c output h =
+      let q = changedProgram c p in
+      let x : bookProgram (bookChanged c b) ≡ q = booked b c in
       let w = take-append-seam (written q) (drop (length (written q)) output) in
       record {
         same-seen = rw (x, w);
-        again = record { file = rw (x, w) (edited-read e p (g .well-formed) h); marks = rw x; well-formed = rw x (applied-well-formed e p (g .well-formed) h) };
+        again = record { file = rw (x, w) (changed-read c p (g .well-formed) h); marks = rw x; well-formed = rw x (changed-well-formed c p (g .well-formed) h) };
       }
 
-  wanted : (w : EditRead) (line output work : List ℕ) → wantedEdit p line ≡ w
-      → Step d (repairBack (wantedBy w p (d .marks) output work) k) (editReadRefusal w) (bookEdited w b)
-  wanted (read.Read e) line output work h =
-      let t : same (d .marks) (freshMarks p) ≡ true =
-      subst (λ (l : List ℕ). same l (freshMarks (bookProgram b)) ≡ true) (sym (g .marks)) (same-self (freshMarks (bookProgram b))) in
-      rw (← own-accepted p (d .marks) t) (goes e output (wanted-applies p line e h))
-  wanted (read.Refused n) line output work h = stays n 0 output work (ne-eqb n 0 (λ z. absurd (omega (arith, wanted-number p line n h))))
+  module _ (form : Form) (text : List ℕ) where
+    wanted : (w : ChangeRead) (output work : List ℕ) → wantedChange form p text ≡ w
+        → Step d (repairBack (wantedBy w p (d .marks) output work) k) (readRefusal w) (bookRead w b)
+    wanted (change.Read c) output work h =
+        let t : same (d .marks) (freshMarks p) ≡ true =
+        subst (λ (l : List ℕ). same l (freshMarks (bookProgram b)) ≡ true) (sym (g .marks)) (same-self (freshMarks (bookProgram b))) in
+        rw (← own-accepted p (d .marks) t) (goes c output (wanted-change-applies form p text c h))
+    wanted (change.Refused n) output work h = stays n 0 output work (ne-eqb n 0 (λ z. absurd (omega (arith, change-number form p text n h .0))))
 
-  zero-when : (w : EditRead) (line : List ℕ) → wantedEdit p line ≡ w → unlessRefused (editReadRefusal w) (bookEdited w b) b ≡ bookEdited w b
-  zero-when (read.Read e) line h = refl
-  zero-when (read.Refused n) line h = rw (ne-eqb n 0 (λ z. absurd (omega (arith, wanted-number p line n h))))
+    zero-when : (w : ChangeRead) → wantedChange form p text ≡ w → unlessRefused (readRefusal w) (bookRead w b) b ≡ bookRead w b
+    zero-when (change.Read c) h = refl
+    zero-when (change.Refused n) h = rw (ne-eqb n 0 (λ z. absurd (omega (arith, change-number form p text n h .0))))
 
-  one-call : (c : Call) → Step d (repairBack (repaired (d .file) (d .marks) (c .line) (c .output) (c .work)) k) (bookRefuses b c) (bookCall b c)
+  one-call : (c : Call) → Step d (repairBack (repairedIn (c .form) (lentTo d c)) k) (bookRefuses b c) (bookCall b c)
   unfolding repaired checked bookRefusal bookAfter
-  one-call c = rw (g .file, m) (go lengths (eqb lengths 0) refl (wantedEdit b (c .line)) (wanted-sorted b (c .line)))
+  one-call c = rw (g .file, m) (go lengths (eqb lengths 0) refl (bookWanted b c) (wanted-sorted (c .form) b (c .text)))
     where
       m : length (d .marks) ≡ 16384
       m = ap length (g .marks) ∙ marks-length (bookProgram b)
@@ -105,41 +107,42 @@ module _ (d : Desk) (b : Program) (g : Agrees d b) (k : ℕ) where
       lengths : ℕ
       lengths = firstMet (bufferRows NotAsked (Of (length (c .output))) (Of (length (c .work))))
 
-      go : (n : ℕ) (t : Bool) → eqb n 0 ≡ t → (w : EditRead) → wantedEdit p (c .line) ≡ w
-          → Step d (repairBack (repairedBy (cond t verdict.Accepted (verdict.Refused n 0)) p (d .marks) (c .line) (c .output) (c .work)) k)
-          (cond t (editReadRefusal w) n)
-          (unlessRefused (cond t (editReadRefusal w) n) (bookEdited w b) b)
-      go n true e w h = rw (h, zero-when w (c .line) h) (wanted w (c .line) (c .output) (c .work) h)
+      go : (n : ℕ) (t : Bool) → eqb n 0 ≡ t → (w : ChangeRead) → wantedChange (c .form) p (c .text) ≡ w
+          → Step d (repairBack (repairedBy (c .form) (cond t verdict.Accepted (verdict.Refused n 0)) p (d .marks) (c .text) (c .output) (c .work)) k)
+          (cond t (readRefusal w) n)
+          (unlessRefused (cond t (readRefusal w) n) (bookRead w b) b)
+      go n true e w h = rw (h, zero-when (c .form) (c .text) w h) (wanted (c .form) (c .text) w (c .output) (c .work) h)
       go n false e w h = rw e (stays n 0 (c .output) (c .work) e)
 
 -- ---- one call, by what its function promises
 
 -- both repairs give back what `repaired` says, but for the reanalyzed routines
-given : (r : Repair) (d : Desk) (c : Call) (a : Back) → Gives (entry r) (lentTo d c) a
-    → a ≡ repairBack (repaired (d .file) (d .marks) (c .line) (c .output) (c .work)) (a .values .reanalyzed)
-given forward d c a x = x ∙ ap (repairBack (repaired (d .file) (d .marks) (c .line) (c .output) (c .work))) (sym (ap (λ (y : Back). y .values .reanalyzed) x))
-given inside-out d c a x = x .0
+given : (k : Form) (r : Repair) (b : Lent) (a : Back) → Gives (entry k r) b a → a ≡ repairBack (repairedIn k b) (a .values .reanalyzed)
+given k forward b a x =
+    let y = forward-gives k b a x in
+    y ∙ ap (repairBack (repairedIn k b)) (sym (ap (λ (z : Back). z .values .reanalyzed) y))
+given k inside-out b a x = inside-out-gives k b a x .0
 
-module _ (d : Desk) (b : Program) (g : Agrees d b) (c : Call) (a : Back) (x : Gives (entry (c .repair)) (lentTo d c) a) where
+module _ (d : Desk) (b : Program) (g : Agrees d b) (c : Call) (a : Back) (x : Gives (entry (c .form) (c .repair)) (lentTo d c) a) where
   step : Step d a (bookRefuses b c) (bookCall b c)
   step =
-      subst (λ (y : Back). Step d y (bookRefuses b c) (bookCall b c)) (sym (given (c .repair) d c a x)) (one-call d b g (a .values .reanalyzed) c)
+      subst (λ (y : Back). Step d y (bookRefuses b c) (bookCall b c)) (sym (given (c .form) (c .repair) (lentTo d c) a x)) (one-call d b g (a .values .reanalyzed) c)
 
   -- the routines by the file's program are those by the model's
-  by-model : InsideOutNumber (eqb (a .refusal) 0) (wantedEdit (readFile (d .file) .program) (c .line)) (readFile (d .file) .program) (a .values .reanalyzed)
-      → InsideOutNumber (eqb (bookRefuses b c) 0) (wantedEdit b (c .line)) (bookProgram b) (a .values .reanalyzed)
+  by-model : InsideOutNumber (eqb (a .refusal) 0) (wantedChange (c .form) (readFile (d .file) .program) (c .text)) (readFile (d .file) .program) (a .values .reanalyzed)
+      → InsideOutNumber (eqb (bookRefuses b c) 0) (bookWanted b c) (bookProgram b) (a .values .reanalyzed)
   by-model y =
       let n = a .values .reanalyzed in
-      let z = subst (λ (t : ℕ). InsideOutNumber (eqb t 0) (wantedEdit (readFile (d .file) .program) (c .line)) (readFile (d .file) .program) n) (ap (λ (s : Seen). s .refused) (step .same-seen)) y in
-      let w = subst (λ (o : Outcome). InsideOutNumber (eqb (bookRefuses b c) 0) (wantedEdit (o .program) (c .line)) (o .program) n) (g .file) z in
-      subst (λ (e : EditRead). InsideOutNumber (eqb (bookRefuses b c) 0) e (bookProgram b) n) (wanted-sorted b (c .line)) w
+      let z = subst (λ (t : ℕ). InsideOutNumber (eqb t 0) (wantedChange (c .form) (readFile (d .file) .program) (c .text)) (readFile (d .file) .program) n) (ap (λ (s : Seen). s .refused) (step .same-seen)) y in
+      let w = subst (λ (o : Outcome). InsideOutNumber (eqb (bookRefuses b c) 0) (wantedChange (c .form) (o .program) (c .text)) (o .program) n) (g .file) z in
+      subst (λ (e : ChangeRead). InsideOutNumber (eqb (bookRefuses b c) 0) e (bookProgram b) n) (wanted-sorted (c .form) b (c .text)) w
 
-  routines : RoutinesBy (c .repair) (bookRefuses b c) b (c .line) (a .values .reanalyzed)
+  routines : RoutinesBy (c .repair) (bookRefuses b c) (bookWanted b c) b (a .values .reanalyzed)
   routines = go (c .repair) x
     where
-      go : (r : Repair) → Gives (entry r) (lentTo d c) a → RoutinesBy r (bookRefuses b c) b (c .line) (a .values .reanalyzed)
-      go forward y = ap (λ (z : Back). z .values .reanalyzed) y
-      go inside-out y = by-model (y .1)
+      go : (r : Repair) → Gives (entry (c .form) r) (lentTo d c) a → RoutinesBy r (bookRefuses b c) (bookWanted b c) b (a .values .reanalyzed)
+      go forward y = ap (λ (z : Back). z .values .reanalyzed) (forward-gives (c .form) (lentTo d c) a y)
+      go inside-out y = by-model (inside-out-gives (c .form) (lentTo d c) a y .1)
 
 -- ---- the whole list
 
@@ -160,18 +163,20 @@ routines-right (c ∷ cs) [] d b g x = x
 routines-right (c ∷ cs) (a ∷ gs) d b g x =
     (routines d b g c a (x .0), routines-right cs gs (after d a) (bookCall b c) (step d b g c a (x .0) .again) (x .1))
 
--- ---- what edits leave alone
+-- ---- what changes leave alone
 
-one-leaves : (b : Program) (c : Call) → LeavesOthers (editOf (bookRefuses b c) (wantedEdit b (c .line))) (bookProgram b) (bookProgram (bookCall b c))
+one-leaves : (b : Program) (c : Call) → LeavesOthers (acceptedChange (bookRefuses b c) (bookWanted b c)) (bookProgram b) (bookProgram (bookCall b c))
 unfolding bookAfter
-one-leaves b c = go (eqb (bookRefuses b c) 0) (wantedEdit b (c .line))
+one-leaves b c = go (eqb (bookRefuses b c) 0) (bookWanted b c) (wanted-sorted (c .form) b (c .text))
   where
-    go : (t : Bool) (w : EditRead) → LeavesOthers (cond t w (read.Refused (bookRefuses b c))) (bookProgram b) (bookProgram (cond t (bookEdited w b) b))
-    go false w = tt
-    go true (read.Refused n) = tt
-    go true (read.Read e) =
+    go : (t : Bool) (w : ChangeRead) → wantedChange (c .form) (bookProgram b) (c .text) ≡ w
+        → LeavesOthers (cond t w (change.Refused (bookRefuses b c))) (bookProgram b) (bookProgram (cond t (bookRead w b) b))
+    go false w h = tt
+    go true (change.Refused n) h = tt
+    go true (change.Read e) h =
         let k = booked b e in
-        subst (λ (q : Program). LeavesOthers (read.Read e) (bookProgram b) q) (sym k) (λ x g n r q ne. local-change e (bookProgram b) x ne)
+        let a = wanted-change-applies (c .form) (bookProgram b) (c .text) e h in
+        subst (λ (q : Program). LeavesOthers (change.Read e) (bookProgram b) q) (sym k) (λ x g n r q ne. local-change e (bookProgram b) a x ne)
 
 leaves-others : (cs : List Call) (b : Program) → BookLeaves cs b
 unfolding BookLeaves

@@ -14,11 +14,13 @@ use Rattle.reach.proofs.MarksShown.{one-list}
 use Rattle.analysis.specs.Answers.{checkedMarks, workAfter}
 use Rattle.prune.specs.Pruning.{Pruned}
 use Rattle.callgraph.specs.Components.{Bits}
-use Rattle.edit.specs.Editing.{wantedEdit}
-use Rattle.edit.specs.declared.EditRead.{EditRead}
-use Rattle.edit.specs.declared.EditRead.the-variants as read
-use Rattle.repair.specs.Repairs.{repaired, InsideOutNumber}
-use Rattle.desk.specs.Entries.{Entry, read as reads, write, analyze, next-violation, prune, repair-forward, repair-inside-out, Lent, Back, pruneBack, repairBack, programIn, Gives}
+use Rattle.exchange.specs.Changes.{ChangeRead}
+use Rattle.exchange.specs.Changes as change
+use Rattle.exchange.specs.Wanted.{wantedChange}
+use Rattle.exchange.specs.declared.Form.{Form}
+use Rattle.exchange.specs.declared.Form.the-variants.{EditLine, ExchangeText}
+use Rattle.repair.specs.Repairs.{InsideOutNumber}
+use Rattle.desk.specs.Entries.{Entry, read as reads, write, analyze, next-violation, prune, repair-forward, repair-inside-out, exchange-forward, exchange-inside-out, Lent, Back, pruneBack, repairBack, programIn, repairedIn, InsideOutGives, Gives}
 
 -- ---- a set of routines has one number
 
@@ -55,9 +57,9 @@ one-number {n = n} {m = m} x y =
     same-number 16 n m (x .small) (y .small)
     (λ f h. let a = x .bit f h in let b = y .bit f h in (λ e. b .1 (a .0 e), λ e. a .1 (b .0 e)))
 
-routines-once : (t : Bool) (w : EditRead) (p : Program) (n m : ℕ) → InsideOutNumber t w p n → InsideOutNumber t w p m → n ≡ m
-routines-once true (read.Read e) p n m x y = one-number x y
-routines-once true (read.Refused k) p n m x y = x ∙ sym y
+routines-once : (t : Bool) (w : ChangeRead) (p : Program) (n m : ℕ) → InsideOutNumber t w p n → InsideOutNumber t w p m → n ≡ m
+routines-once true (change.Read c) p n m x y = one-number x y
+routines-once true (change.Refused k) p n m x y = x ∙ sym y
 routines-once false w p n m x y = x ∙ sym y
 
 -- ---- marks that are pruned are fixed
@@ -65,6 +67,15 @@ routines-once false w p n m x y = x ∙ sym y
 marks-once : (v : Verdict) (p : Program) (old l k : List ℕ) → Pruned v p old l → Pruned v p old k → l ≡ k
 marks-once Accepted p old l k x y = one-list x y
 marks-once (Refused n line) p old l k x y = x ∙ sym y
+
+-- ---- an inside-out repair tells its routines once
+
+inside-out-once : (k : Form) (b : Lent) (a c : Back) → InsideOutGives k b a → InsideOutGives k b c → a ≡ c
+inside-out-once k b a c g h =
+    let w = wantedChange k (programIn b) (b .text) in
+    let same : a .refusal ≡ c .refusal = ap (λ (x : Back). x .refusal) (g .0) ∙ sym (ap (λ (x : Back). x .refusal) (h .0)) in
+    let n = subst (λ (k : ℕ). InsideOutNumber (eqb k 0) w (programIn b) (a .values .reanalyzed)) same (g .1) in
+    g .0 ∙ ap (repairBack (repairedIn k b)) (routines-once (eqb (c .refusal) 0) w (programIn b) (a .values .reanalyzed) (c .values .reanalyzed) n (h .1)) ∙ sym (h .0)
 
 -- ---- every function
 
@@ -78,9 +89,6 @@ given-once prune b a c g h =
     g .0 ∙ ap (λ (l : List ℕ). pruneBack b v l (workAfter (b .file) (b .marks) (b .work))) (marks-once v (programIn b) (b .marks) (a .marks) (c .marks) (g .1) (h .1))
     ∙ sym (h .0)
 given-once repair-forward b a c g h = g ∙ sym h
-given-once repair-inside-out b a c g h =
-    let r = repaired (b .file) (b .marks) (b .edit) (b .output) (b .work) in
-    let w = wantedEdit (programIn b) (b .edit) in
-    let same : a .refusal ≡ c .refusal = ap (λ (x : Back). x .refusal) (g .0) ∙ sym (ap (λ (x : Back). x .refusal) (h .0)) in
-    let n = subst (λ (k : ℕ). InsideOutNumber (eqb k 0) w (programIn b) (a .values .reanalyzed)) same (g .1) in
-    g .0 ∙ ap (repairBack r) (routines-once (eqb (c .refusal) 0) w (programIn b) (a .values .reanalyzed) (c .values .reanalyzed) n (h .1)) ∙ sym (h .0)
+given-once repair-inside-out b a c g h = inside-out-once EditLine b a c g h
+given-once exchange-forward b a c g h = g ∙ sym h
+given-once exchange-inside-out b a c g h = inside-out-once ExchangeText b a c g h

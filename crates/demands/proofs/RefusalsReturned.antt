@@ -23,16 +23,19 @@ use Rattle.reach.specs.Configurations.{none-set}
 use Rattle.reach.specs.Marks.{freshMarks, firstFrom, violations}
 use Rattle.analysis.specs.Answers.{checkedMarks, analyzeBy, analyzeAnswer, onSuccess, marksAfter, workAfter, same, foreignRow, foundOf, foundBy, nextBy, nextAnswer}
 use Rattle.prune.specs.Pruning.{Pruned}
-use Rattle.edit.specs.EditLines.{onlyLine}
-use Rattle.edit.specs.Editing.{editedProgram, wantedEdit}
-use Rattle.edit.specs.declared.EditRead.{EditRead}
-use Rattle.edit.specs.declared.EditRead.the-variants as read
-use Rattle.repair.specs.Repairs.{checkedRepair, ownedBy, wantedBy, repairedBy, repaired, InsideOutNumber}
-use Rattle.desk.specs.Entries.{Entry, read as reads, write, analyze, next-violation, prune, repair-forward, repair-inside-out, Lent, Back, hasWork, Values, noValues, repairing, readBack, writeBack, analyzeBack, nextBack, pruneBack, repairBack, programIn, Gives}
+use Rattle.exchange.specs.Changes.{ChangeRead}
+use Rattle.exchange.specs.Changes as change
+use Rattle.exchange.specs.Changing.{changedProgram}
+use Rattle.exchange.specs.Wanted.{wantedChange}
+use Rattle.exchange.specs.declared.Form.{Form}
+use Rattle.exchange.specs.declared.Form.the-variants.{EditLine, ExchangeText}
+use Rattle.exchange.proofs.Theorems.{change-number}
+use Rattle.repair.specs.Repairs.{checkedRepair, ownedBy, wantedBy, repairedBy, repaired}
+use Rattle.desk.specs.Entries.{Entry, read as reads, write, analyze, next-violation, prune, repair-forward, repair-inside-out, exchange-forward, exchange-inside-out, Lent, Back, hasWork, Values, noValues, repairing, readBack, writeBack, analyzeBack, nextBack, pruneBack, repairBack, programIn, repairedIn, RepairGives, InsideOutGives, Gives}
 use Rattle.demands.specs.Demands.{Demand1}
-use Rattle.demands.specs.Refusals.{editRows, repairRows, marksRows, rows, Returned, of-the-file, of-the-rest}
+use Rattle.demands.specs.Refusals.{changeRows, repairRows, marksRows, rows, Returned, of-the-file, of-the-rest}
 use Rattle.demands.proofs.FileRefusalsTold.{SaysFile, file-told, faulty-number, faulty-once}
-use Rattle.demands.proofs.EditRefusalsTold.{numberThen, edit-told, edit-numbers}
+use Rattle.demands.proofs.ChangeRefusalsTold.{numberThen, change-told}
 
 pub both-ways : false ≡ true → ⊥
 both-ways e = subst (λ t. cond t ⊥ Unit) e tt
@@ -208,48 +211,60 @@ next-good b = go (checkedMarks (b .file) (b .marks) (b .work)) (marks-judged nex
 
 -- ---- the repairs
 
--- whatever routines are answered, if none are on a refusal
-repair-good : (e : Entry) (b : Lent) (routines : ℕ) → rows e b ≡ repairRows b
-    → (writeRefusal (repaired (b .file) (b .marks) (b .edit) (b .output) (b .work) .answer) ≢ 0 → routines ≡ 0)
-    → Demand1 e b (repairBack (repaired (b .file) (b .marks) (b .edit) (b .output) (b .work)) routines)
-unfolding repaired firstMet
-repair-good e b routines h =
-    go (checkedRepair (b .file) (b .marks) (b .output) (b .work))
-    (checked-judged e b (Of (length (b .marks))) (Of (length (b .output))) (Of (length (b .work)))
-    (editRows (programIn b) (onlyLine (b .edit)) ++ foreignRow (programIn b) (b .marks) ∷ []) h)
-  where
-    no-routines : routines ≡ 0 → repairing 0 routines ≡ noValues
-    no-routines z = ap (repairing 0) z
+module _ (k : Form) (e : Entry) (b : Lent) (h : rows e b ≡ repairRows k b) where
+  -- what is left to check after the lengths
+  abbrev left : List Row
+  left = changeRows k (programIn b) (b .text) ++ foreignRow (programIn b) (b .marks) ∷ []
 
-    refuses : {n line : ℕ} → Early e b n line → (n ≢ 0 → routines ≡ 0)
-        → Demand1 e b (record { refusal = n; line = line; values = repairing 0 routines; marks = b .marks; output = b .output; work = b .work })
-    refuses {n} {line} x z =
-        subst (λ v. Demand1 e b (record { refusal = n; line = line; values = v; marks = b .marks; output = b .output; work = b .work }))
-        (sym (no-routines (z (x .some-number)))) (early x)
+  -- whatever routines are answered, if none are on a refusal
+  repair-good : (routines : ℕ) → (writeRefusal (repairedIn k b .answer) ≢ 0 → routines ≡ 0) → Demand1 e b (repairBack (repairedIn k b) routines)
+  unfolding repaired firstMet
+  repair-good routines =
+      go (checkedRepair (b .file) (b .marks) (b .output) (b .work))
+      (checked-judged e b (Of (length (b .marks))) (Of (length (b .output))) (Of (length (b .work))) left h)
+    where
+      no-routines : routines ≡ 0 → repairing 0 routines ≡ noValues
+      no-routines z = ap (repairing 0) z
 
-    edited : (p : Program) (t : Bool) → Returned e b (cond (not t) 17 0) 0
-        → (writeRefusal (ownedBy (verdictOf (cond (not t) 17 0)) p (b .marks) (b .output) .answer) ≢ 0 → routines ≡ 0)
-        → Demand1 e b (repairBack (ownedBy (verdictOf (cond (not t) 17 0)) p (b .marks) (b .output)) routines)
-    edited p true r z = late r (inl refl)
-    edited p false r z = late r (inr (refl, no-routines (z (not-equal refl)), refl, refl))
+      refuses : {n line : ℕ} → Early e b n line → (n ≢ 0 → routines ≡ 0)
+          → Demand1 e b (record { refusal = n; line = line; values = repairing 0 routines; marks = b .marks; output = b .output; work = b .work })
+      refuses {n} {line} x z =
+          subst (λ v. Demand1 e b (record { refusal = n; line = line; values = v; marks = b .marks; output = b .output; work = b .work }))
+          (sym (no-routines (z (x .some-number)))) (early x)
 
-    wanted : (w : EditRead) → wantedEdit (programIn b) (b .edit) ≡ w → Returned e b (numberThen w (firstMet (foreignRow (programIn b) (b .marks) ∷ []))) 0
-        → (writeRefusal (wantedBy w (programIn b) (b .marks) (b .output) (b .work) .answer) ≢ 0 → routines ≡ 0)
-        → Demand1 e b (repairBack (wantedBy w (programIn b) (b .marks) (b .output) (b .work)) routines)
-    wanted (read.Read d) k r z = edited (editedProgram d (programIn b)) (same (b .marks) (freshMarks (programIn b))) r z
-    wanted (read.Refused n) k r z = let x = edit-numbers (programIn b) (b .edit) n k in refuses (record { returned = r; some-number = x .0; before-17 = x .1 }) z
+      changed : (p : Program) (t : Bool) → Returned e b (cond (not t) 17 0) 0
+          → (writeRefusal (ownedBy (verdictOf (cond (not t) 17 0)) p (b .marks) (b .output) .answer) ≢ 0 → routines ≡ 0)
+          → Demand1 e b (repairBack (ownedBy (verdictOf (cond (not t) 17 0)) p (b .marks) (b .output)) routines)
+      changed p true r z = late r (inl refl)
+      changed p false r z = late r (inr (refl, no-routines (z (not-equal refl)), refl, refl))
 
-    go : (v : Verdict) → Judged e b (editRows (programIn b) (onlyLine (b .edit)) ++ foreignRow (programIn b) (b .marks) ∷ []) v
-        → (writeRefusal (repairedBy v (programIn b) (b .marks) (b .edit) (b .output) (b .work) .answer) ≢ 0 → routines ≡ 0)
-        → Demand1 e b (repairBack (repairedBy v (programIn b) (b .marks) (b .edit) (b .output) (b .work)) routines)
-    go Accepted r z =
-        wanted (wantedEdit (programIn b) (b .edit)) refl
-        (subst (λ n. Returned e b n 0) (edit-told (programIn b) (b .edit) (foreignRow (programIn b) (b .marks))) r) z
-    go (Refused n line) x z = refuses x z
+      wanted : (w : ChangeRead) → wantedChange k (programIn b) (b .text) ≡ w → Returned e b (numberThen w (firstMet (foreignRow (programIn b) (b .marks) ∷ []))) 0
+          → (writeRefusal (wantedBy w (programIn b) (b .marks) (b .output) (b .work) .answer) ≢ 0 → routines ≡ 0)
+          → Demand1 e b (repairBack (wantedBy w (programIn b) (b .marks) (b .output) (b .work)) routines)
+      wanted (change.Read c) i r z = changed (changedProgram c (programIn b)) (same (b .marks) (freshMarks (programIn b))) r z
+      wanted (change.Refused n) i r z =
+          let x = change-number k (programIn b) (b .text) n i in
+          refuses (record { returned = r; some-number = λ y. absurd (omega (arith, x .0)); before-17 = x .2 }) z
 
--- the inside-out repair answers no routine on a refusal
-no-number : (n : ℕ) (w : EditRead) (p : Program) (routines : ℕ) → InsideOutNumber (eqb n 0) w p routines → n ≢ 0 → routines ≡ 0
-no-number n w p routines x h = rw (ne-eqb n 0 h) at x
+      go : (v : Verdict) → Judged e b left v
+          → (writeRefusal (repairedBy k v (programIn b) (b .marks) (b .text) (b .output) (b .work) .answer) ≢ 0 → routines ≡ 0)
+          → Demand1 e b (repairBack (repairedBy k v (programIn b) (b .marks) (b .text) (b .output) (b .work)) routines)
+      go Accepted r z =
+          wanted (wantedChange k (programIn b) (b .text)) refl
+          (subst (λ n. Returned e b n 0) (change-told k (programIn b) (b .text) (foreignRow (programIn b) (b .marks))) r) z
+      go (Refused n line) x z = refuses x z
+
+  forward-good : (a : Back) → RepairGives k b a → Demand1 e b a
+  forward-good a g = subst (Demand1 e b) (sym g) (repair-good 0 (λ x. refl))
+
+  -- the inside-out repair answers no routine on a refusal
+  inside-out-good : (a : Back) → InsideOutGives k b a → Demand1 e b a
+  inside-out-good a g =
+      subst (Demand1 e b) (sym (g .0))
+      (repair-good (a .values .reanalyzed) (λ x. none (λ z. x (sym (ap (λ (y : Back). y .refusal) (g .0)) ∙ z))))
+    where
+      none : a .refusal ≢ 0 → a .values .reanalyzed ≡ 0
+      none x = rw (ne-eqb (a .refusal) 0 x) at (g .1)
 
 -- ---- every function
 
@@ -259,9 +274,7 @@ gives-demanded write b a g = subst (Demand1 write b) (sym g) (write-good b)
 gives-demanded analyze b a g = subst (Demand1 analyze b) (sym g) (analyze-good b)
 gives-demanded next-violation b a g = subst (Demand1 next-violation b) (sym g) (next-good b)
 gives-demanded prune b a g = subst (Demand1 prune b) (sym (g .0)) (prune-good b (a .marks) (g .1))
-gives-demanded repair-forward b a g = subst (Demand1 repair-forward b) (sym g) (repair-good repair-forward b 0 refl (λ h. refl))
-gives-demanded repair-inside-out b a g =
-    subst (Demand1 repair-inside-out b) (sym (g .0))
-    (repair-good repair-inside-out b (a .values .reanalyzed) refl
-    (λ h. no-number (a .refusal) (wantedEdit (programIn b) (b .edit)) (programIn b) (a .values .reanalyzed) (g .1)
-    (λ z. h (sym (ap (λ (x : Back). x .refusal) (g .0)) ∙ z))))
+gives-demanded repair-forward b a g = forward-good EditLine repair-forward b refl a g
+gives-demanded repair-inside-out b a g = inside-out-good EditLine repair-inside-out b refl a g
+gives-demanded exchange-forward b a g = forward-good ExchangeText exchange-forward b refl a g
+gives-demanded exchange-inside-out b a g = inside-out-good ExchangeText exchange-inside-out b refl a g

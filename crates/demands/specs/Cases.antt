@@ -1,15 +1,20 @@
--- The paper's cases P1 to P10, each from the bytes of its file, and of its edit line where it has one: one table.
+-- The paper's cases P1 to P10, and E1 to E4 for exchanges of a routine, each from the bytes of its file, and of its
+-- edit line or text where it has one: one table.
 use mathlib.Core.Path.{_≡_}
 use mathlib.Core.Option.{Option, none, some}
 use mathlib.Core.List.{List, [], _∷_, _++_}
 use Prim.Native.Nat.{ℕ}
 use Prim.Native.String.{String}
 use lib.ListN.{length, drop, set, replicate}
-use Rattle.program.specs.Sample.{bytes, lineBytes, header, edges, transitions, F}
+use Rattle.program.specs.Sample.{bytes, header, edges, transitions, F}
 use Rattle.program.specs.Sizes.{outputSize}
 use Rattle.reach.specs.Configurations.{none-set}
 use Rattle.reach.specs.Marks.{violations}
-use Rattle.desk.specs.Entries.{analyze, repair-forward, repair-inside-out, Lent, Back, programIn, Gives}
+use Rattle.exchange.specs.declared.Form.{Form}
+use Rattle.exchange.specs.declared.Form.the-variants.{EditLine, ExchangeText}
+use Rattle.desk.specs.Entries.{analyze, Lent, Back, programIn, Gives}
+use Rattle.demands.specs.Lists.{entry}
+use Rattle.demands.specs.Lists as repair
 
 -- ---- what a row says
 
@@ -21,13 +26,14 @@ pub record Fresh : Type 0 where
   pub violating : Option (List ℕ)
   pub iterations : Option ℕ
 
--- a file, by its lines, the configurations of its own marks, and an edit line; and what is expected: the refusal's
--- number, 0 for none, the configurations that are marked afterwards, the lines that are written, and the reanalyzed
--- routines, a bit each; none where the row says nothing of them
-pub record Edited : Type 0 where
+-- a file, by its lines, the configurations of its own marks, and an edit line or the lines of an exchange's text; and
+-- what is expected: the refusal's number, 0 for none, the configurations that are marked afterwards, the lines that are
+-- written, and the reanalyzed routines, a bit each; none where the row says nothing of them
+pub record Changed : Type 0 where
   pub file : List String
   pub before : List ℕ
-  pub line : String
+  pub form : Form
+  pub text : List String
   pub refused : ℕ
   pub after : List ℕ
   pub wrote : List String
@@ -35,7 +41,7 @@ pub record Edited : Type 0 where
 
 pub data Case : Type 0 where
   fresh : Fresh → Case
-  edited : Edited → Case
+  changed : Changed → Case
 
 -- ---- what it means
 
@@ -49,12 +55,12 @@ abbrev pub Said : {A : Type 0} → (A → Type 0) → Option A → Type 0
 Said P none = Unit {0}
 Said P (some x) = P x
 
--- what is lent: a file by its lines, marks, an edit line, an output and a working buffer of zeros
+-- what is lent: a file by its lines, marks, an edit line or a text, an output and a working buffer of zeros
 abbrev pub lentWith : List String → List ℕ → List ℕ → Lent
-lentWith file marks line = record {
+lentWith file marks text = record {
   file = bytes file;
   marks = marks;
-  edit = line;
+  text = text;
   output = replicate outputSize 0;
   work = none-set;
   from = 0;
@@ -71,27 +77,27 @@ pub record Analyzed (c : Fresh) (a : Back) : Type 0 where
       × (a .values .violations ≡ length is)) (c .violating)
   pub iterations : Said (λ n. a .values .iterations ≡ n) (c .iterations)
 
-abbrev pub lentEdit : Edited → Lent
-lentEdit c = lentWith (c .file) (marksAt (c .before)) (lineBytes (c .line))
+abbrev pub lentChange : Changed → Lent
+lentChange c = lentWith (c .file) (marksAt (c .before)) (bytes (c .text))
 
 -- what a repair gives back is as expected: the refusal and the marks; the lines that are written stand at the start of
 -- the output, whose other bytes stay
-pub record Repaired (c : Edited) (a : Back) : Type 0 where
+pub record Repaired (c : Changed) (a : Back) : Type 0 where
   pub refused : a .refusal ≡ c .refused
   pub marks : a .marks ≡ marksAt (c .after)
   pub size : a .values .written ≡ length (bytes (c .wrote))
-  pub output : a .output ≡ bytes (c .wrote) ++ drop (length (bytes (c .wrote))) (lentEdit c .output)
+  pub output : a .output ≡ bytes (c .wrote) ++ drop (length (bytes (c .wrote))) (lentChange c .output)
 
 -- both repairs, and of the inside-out one the reanalyzed routines too
-pub record RepairedBoth (c : Edited) : Type 0 where
-  pub forward : (a : Back) → Gives repair-forward (lentEdit c) a → Repaired c a
-  pub inside-out : (a : Back) → Gives repair-inside-out (lentEdit c) a → Repaired c a
-  pub reanalyzed : (a : Back) → Gives repair-inside-out (lentEdit c) a
+pub record RepairedBoth (c : Changed) : Type 0 where
+  pub forward : (a : Back) → Gives (entry (c .form) repair.forward) (lentChange c) a → Repaired c a
+  pub inside-out : (a : Back) → Gives (entry (c .form) repair.inside-out) (lentChange c) a → Repaired c a
+  pub reanalyzed : (a : Back) → Gives (entry (c .form) repair.inside-out) (lentChange c) a
       → Said (λ n. a .values .reanalyzed ≡ n) (c .reanalyzed)
 
 abbrev pub Holds : Case → Type 0
 Holds (fresh c) = (a : Back) → Gives analyze (lentFresh c) a → Analyzed c a
-Holds (edited c) = RepairedBoth c
+Holds (changed c) = RepairedBoth c
 
 -- ---- the rows
 
@@ -131,12 +137,13 @@ P4 =
     }
 
 -- P5: dropping 01 00 00 01 from F leaves 0 and 1024; reanalyzed are 0 and 1
-abbrev pub P5 : Edited
+abbrev pub P5 : Changed
 P5 =
     record {
       file = F;
       before = ofF;
-      line = "2D01000001";
+      form = EditLine;
+      text = "2D01000001" ∷ [];
       refused = 0;
       after = 0 ∷ 1024 ∷ [];
       wrote = with ("5300004102" ∷ "5300020101" ∷ []) ("4900" ∷ "4602" ∷ "45000B" ∷ []);
@@ -144,12 +151,13 @@ P5 =
     }
 
 -- P6: dropping 00 00 41 02 from F leaves 0; reanalyzed is 0 only
-abbrev pub P6 : Edited
+abbrev pub P6 : Changed
 P6 =
     record {
       file = F;
       before = ofF;
-      line = "2D00004102";
+      form = EditLine;
+      text = "2D00004102" ∷ [];
       refused = 0;
       after = 0 ∷ [];
       wrote = with ("5300020101" ∷ "5301000001" ∷ []) ("4900" ∷ "4602" ∷ "45000B" ∷ []);
@@ -166,12 +174,13 @@ P7 = record {
 }
 
 -- P8: adding 01 00 01 01 to what P6 leaves changes no mark
-abbrev pub P8 : Edited
+abbrev pub P8 : Changed
 P8 =
     record {
       file = P6 .wrote;
       before = P6 .after;
-      line = "2B01000101";
+      form = EditLine;
+      text = "2B01000101" ∷ [];
       refused = 0;
       after = P6 .after;
       wrote = with ("5300020101" ∷ "5301000001" ∷ "5301000101" ∷ []) ("4900" ∷ "4602" ∷ "45000C" ∷ []);
@@ -179,15 +188,93 @@ P8 =
     }
 
 -- P9: replacing a label by itself is 15
-abbrev pub P9 : Edited
-P9 = record { file = F; before = ofF; line = "3D0000410241"; refused = 15; after = ofF; wrote = []; reanalyzed = none }
+abbrev pub P9 : Changed
+P9 = record {
+  file = F;
+  before = ofF;
+  form = EditLine;
+  text = "3D0000410241" ∷ [];
+  refused = 15;
+  after = ofF;
+  wrote = [];
+  reanalyzed = none;
+}
 
 -- P10: the drop of an absent step is 14
-abbrev pub P10 : Edited
-P10 = record { file = F; before = ofF; line = "2D00000102"; refused = 14; after = ofF; wrote = []; reanalyzed = none }
+abbrev pub P10 : Changed
+P10 = record {
+  file = F;
+  before = ofF;
+  form = EditLine;
+  text = "2D00000102" ∷ [];
+  refused = 14;
+  after = ofF;
+  wrote = [];
+  reanalyzed = none;
+}
+
+-- ---- exchanges of a routine of F
+
+-- the lines of F with its routine 1 exchanged: so many nodes, and these edges
+abbrev withRoutine : String → List String → String → List String
+withRoutine nodes steps end =
+    "50020302" ∷ "520003" ∷ nodes ∷ "5300004102" ∷ "5300020101" ∷ steps ++ transitions ++ "4900" ∷ "4602" ∷ end ∷ []
+
+-- E1: routine 1 exchanged for itself changes no byte; reanalyzed are 0 and 1
+abbrev pub E1 : Changed
+E1 = record {
+  file = F;
+  before = ofF;
+  form = ExchangeText;
+  text = "520102" ∷ "5301000001" ∷ [];
+  refused = 0;
+  after = ofF;
+  wrote = F;
+  reanalyzed = some 3;
+}
+
+-- E2: routine 1 with a third node, its action done twice: the configuration at that node comes
+abbrev pub E2 : Changed
+E2 =
+    record {
+      file = F;
+      before = ofF;
+      form = ExchangeText;
+      text = "520103" ∷ "5301000002" ∷ "5301020001" ∷ [];
+      refused = 0;
+      after = 0 ∷ 65 ∷ 129 ∷ 1024 ∷ 1089 ∷ 1153 ∷ [];
+      wrote = withRoutine "520103" ("5301000002" ∷ "5301020001" ∷ []) "45000D";
+      reanalyzed = none;
+    }
+
+-- E3: routine 0 with two nodes has no node 2, though it had one before: 13
+abbrev pub E3 : Changed
+E3 = record {
+  file = F;
+  before = ofF;
+  form = ExchangeText;
+  text = "520002" ∷ "5300004102" ∷ [];
+  refused = 13;
+  after = ofF;
+  wrote = [];
+  reanalyzed = none;
+}
+
+-- E4: two routines in one text: 21
+abbrev pub E4 : Changed
+E4 = record {
+  file = F;
+  before = ofF;
+  form = ExchangeText;
+  text = "520003" ∷ "520102" ∷ [];
+  refused = 21;
+  after = ofF;
+  wrote = [];
+  reanalyzed = none;
+}
 
 -- ---- the table
 
 abbrev pub table : List Case
-table = fresh P1 ∷ fresh P2 ∷ fresh P3 ∷ fresh P4 ∷ edited P5 ∷ edited P6 ∷ fresh P7 ∷ edited P8 ∷ edited P9
-    ∷ edited P10 ∷ []
+table = fresh P1 ∷ fresh P2 ∷ fresh P3 ∷ fresh P4 ∷ changed P5 ∷ changed P6 ∷ fresh P7 ∷ changed P8
+    ∷ changed P9 ∷ changed P10 ∷ changed E1 ∷ changed E2 ∷ changed E3 ∷ changed E4 ∷ []

@@ -20,11 +20,16 @@ use Rattle.reach.specs.Takings.{takenIn, times}
 use Rattle.reach.specs.Marks.{violations}
 use Rattle.base.specs.Flags.{countSet}
 use Rattle.reach.specs.Violations.{Violation, Ascends}
+use Rattle.exchange.specs.Changes.{Change, Read}
+use Rattle.exchange.specs.Changing.{changedProgram}
+use Rattle.exchange.specs.Wanted.{wantedChange}
+use Rattle.exchange.specs.declared.Form.{Form}
 use Rattle.desk.specs.Entries.{Entry, Lent, Back, hasWork, noValues, programIn}
 use Rattle.demands.specs.Refusals.{Returned}
 use Rattle.demands.specs.Lists.{Call, wrote, seen, bookPlayed, BookRoutines, BookLeaves}
 
--- ---- demand 1: every file, edit line and lent buffer gets a result or one numbered refusal; a refusal changes nothing
+-- ---- demand 1: every file, edit line, text of an exchange and lent buffer gets a result or one numbered refusal; a
+-- refusal changes nothing
 
 -- of a call of a function: what was lent to it, and what it gives back
 pub record Demand1 (e : Entry) (b : Lent) (a : Back) : Type 0 where
@@ -73,7 +78,7 @@ abbrev pub withWritten : Lent → Back → Lent
 withWritten b a = record {
   file = wrote a;
   marks = b .marks;
-  edit = b .edit;
+  text = b .text;
   output = b .output;
   work = b .work;
   from = b .from;
@@ -86,6 +91,13 @@ pub record WrittenFile (b : Lent) (a c : Back) : Type 0 where
   pub no-row : rowsIn (wrote a) ≡ []
   pub same-program : programIn (withWritten b a) ≡ programIn b
   pub its-size : length (wrote a) ≤ outputSize
+
+-- what an accepted repair writes, by an edit line or the text of an exchange: the file of the changed program, which is
+-- well-formed
+pub record ChangedFile (k : Form) (b : Lent) (a : Back) : Type 0 where
+  pub change : Change
+  pub wanted : wantedChange k (programIn b) (b .text) ≡ Read change
+  pub file : FileOf (changedProgram change (programIn b)) (wrote a)
 
 -- ---- demand 2: the sheet marks a standing exactly when some run, each return going back to its own call, arrives
 -- there
@@ -126,10 +138,10 @@ pub record Procedure (p : Program) (a : Back) : Type 0 where
   pub iterations : a .values .iterations ≡ length (takenIn p)
   pub at-most : (i : ℕ) → times i (takenIn p) ≤ 129
 
--- ---- demand 3: for every list of forward and inside-out repair calls, refused ones among them, the sheet is byte for
--- byte the one worked afresh from the
--- program as a plain reference model has it, and the refusals are the model's; and an edit that keeps a routine's pairs
--- and calls leaves the other routines alone
+-- ---- demand 3: for every list of forward and inside-out repair calls, by edit lines and by exchanges of routines,
+-- refused ones among them, the sheet is byte for byte the one worked afresh from the program as a plain reference model
+-- has it, and the refusals are the model's; and a change that keeps a routine's pairs and calls leaves the other
+-- routines alone
 
 -- of a file that the list begins with, the calls, and what they gave back
 pub record Demand3 (file : List ℕ) (cs : List Call) (gs : List Back) : Type 0 where
@@ -137,14 +149,14 @@ pub record Demand3 (file : List ℕ) (cs : List Call) (gs : List Back) : Type 0 
   -- ones of the model's program; and an accepted call has that program, written, at the start of its output and the
   -- length in its answer
   pub seen : map seen gs ≡ bookPlayed cs (readFile file .program)
-  -- the routines that an inside-out call says it has reanalyzed are those that the rules give for this edit of the
+  -- the routines that an inside-out call says it has reanalyzed are those that the rules give for this change of the
   -- program that the model had before the call
   pub reanalyzed : BookRoutines cs gs (readFile file .program)
-  -- where an accepted edit leaves the edited routine with the same pairs, calling each other routine in the same
+  -- where an accepted change leaves the changed routine with the same pairs, calling each other routine in the same
   -- states, no configuration of any other routine differs
   pub others : BookLeaves cs (readFile file .program)
 
 -- the keeping's call that does what a forward drop did: for the file that the drop wrote, on the marks that were lent
 -- to it
 abbrev pub keepingOf : Lent → Back → Lent
-keepingOf b a = record { file = wrote a; marks = b .marks; edit = []; output = []; work = b .work; from = 0 }
+keepingOf b a = record { file = wrote a; marks = b .marks; text = []; output = []; work = b .work; from = 0 }

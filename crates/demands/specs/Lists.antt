@@ -1,5 +1,5 @@
--- Lists of repair calls: what each call is lent and gives back, one after the other, and what the reference model says
--- of the list.
+-- Lists of repair calls, by edit lines and by exchanges: what each call is lent and gives back, one after the other,
+-- and what the reference model says of the list.
 use Prim.Native.Nat.{ℕ}
 use mathlib.Core.Path.{_≡_}
 use mathlib.Core.Logic.{_↔_, _≢_}
@@ -12,13 +12,15 @@ use Rattle.program.specs.Writing.{written}
 use Rattle.reach.specs.Runs.{Occurs}
 use Rattle.reach.specs.Reachable.{Calls}
 use Rattle.reach.specs.Marks.{freshMarks}
-use Rattle.edit.specs.Edits.{oldEdge}
-use Rattle.edit.specs.Editing.{wantedEdit}
-use Rattle.edit.specs.declared.EditRead.{EditRead}
-use Rattle.edit.specs.declared.EditRead.the-variants.{Read, Refused}
+use Rattle.exchange.specs.Changes.{ChangeRead, Read, Refused}
+use Rattle.exchange.specs.Changing.{changedRoutine}
+use Rattle.exchange.specs.Wanted.{wantedChange}
+use Rattle.exchange.specs.declared.Form.{Form}
+use Rattle.exchange.specs.declared.Form.the-variants.{EditLine, ExchangeText}
 use Rattle.repair.specs.Desk.{Desk}
 use Rattle.repair.specs.Repairs.{InsideOutNumber}
-use Rattle.desk.specs.Entries.{Entry, repair-forward, repair-inside-out, Lent, Back, Gives}
+use Rattle.desk.specs.Entries.{Entry, repair-forward, repair-inside-out, exchange-forward, exchange-inside-out}
+use Rattle.desk.specs.Entries.{Lent, Back, Gives}
 use Rattle.demands.specs.Book.{bookRefusal, bookAfter, bookProgram}
 
 -- ---- the calls, and what came back
@@ -28,21 +30,25 @@ pub data Repair : Type 0 where
   forward : Repair
   inside-out : Repair
 
--- a call: the edit line, the output and the working buffer may be anything, of any length
+-- a call: which repair it is, whether it is handed an edit line or the text of an exchange, and that line or text, the
+-- output and the working buffer, which may be anything, of any length
 pub record Call : Type 0 where
+  pub form : Form
   pub repair : Repair
-  pub line : List ℕ
+  pub text : List ℕ
   pub output : List ℕ
   pub work : List ℕ
 
 -- the function that a call names
-abbrev pub entry : Repair → Entry
-entry forward = repair-forward
-entry inside-out = repair-inside-out
+abbrev pub entry : Form → Repair → Entry
+entry EditLine forward = repair-forward
+entry EditLine inside-out = repair-inside-out
+entry ExchangeText forward = exchange-forward
+entry ExchangeText inside-out = exchange-inside-out
 
 -- what is lent to a call
 abbrev pub lentTo : Desk → Call → Lent
-lentTo d c = record { file = d .file; marks = d .marks; edit = c .line; output = c .output; work = c .work; from = 0 }
+lentTo d c = record { file = d .file; marks = d .marks; text = c .text; output = c .output; work = c .work; from = 0 }
 
 -- what a call wrote: so many bytes at the start of its output
 abbrev pub wrote : Back → List ℕ
@@ -58,7 +64,7 @@ unfoldable pub Gave : List Call → List Back → Desk → Type 0
 Gave [] [] d = Unit
 Gave [] (a ∷ gs) d = ⊥
 Gave (c ∷ cs) [] d = ⊥
-Gave (c ∷ cs) (a ∷ gs) d = Gives (entry (c .repair)) (lentTo d c) a × Gave cs gs (after d a)
+Gave (c ∷ cs) (a ∷ gs) d = Gives (entry (c .form) (c .repair)) (lentTo d c) a × Gave cs gs (after d a)
 
 -- ---- what is seen, and what the reference model says is seen
 
@@ -72,12 +78,16 @@ pub record Seen : Type 0 where
 abbrev pub seen : Back → Seen
 seen a = record { refused = a .refusal; marks = a .marks; size = a .values .written; wrote = wrote a }
 
--- the model is fed the line and the lengths of output and working buffer
+-- the model is told which calls are exchanges, and is fed the text and the lengths of output and working buffer
 abbrev pub bookCall : Program → Call → Program
-bookCall b c = bookAfter b (c .line) (length (c .output)) (length (c .work))
+bookCall b c = bookAfter (c .form) b (c .text) (length (c .output)) (length (c .work))
 
 abbrev pub bookRefuses : Program → Call → ℕ
-bookRefuses b c = bookRefusal b (c .line) (length (c .output)) (length (c .work))
+bookRefuses b c = bookRefusal (c .form) b (c .text) (length (c .output)) (length (c .work))
+
+-- the change that a call says for the program that the model has, or its refusal
+abbrev pub bookWanted : Program → Call → ChangeRead
+bookWanted b c = wantedChange (c .form) b (c .text)
 
 abbrev pub writtenWhen : ℕ → Program → List ℕ
 writtenWhen n p = cond (eqb n 0) (written p) []
@@ -92,42 +102,40 @@ bookPlayed (c ∷ cs) b = foreseen (bookRefuses b c) (bookProgram (bookCall b c)
 
 -- ---- the reanalyzed routines (paper: reopened)
 
--- by the rules, for the edit that a line says for the program that the model has; 0 where the call is refused, and for
--- a forward one
-abbrev pub RoutinesBy : Repair → ℕ → Program → List ℕ → ℕ → Type 0
-RoutinesBy forward n b line routines = routines ≡ 0
-RoutinesBy inside-out n b line routines = InsideOutNumber (eqb n 0) (wantedEdit b line) (bookProgram b) routines
+-- by the rules, for this change of the program that the model has; 0 where the call is refused, and for a forward one
+abbrev pub RoutinesBy : Repair → ℕ → ChangeRead → Program → ℕ → Type 0
+RoutinesBy forward n w b routines = routines ≡ 0
+RoutinesBy inside-out n w b routines = InsideOutNumber (eqb n 0) w (bookProgram b) routines
 
 -- so for each call of a list, in the program that the model had before the call
 unfoldable pub BookRoutines : List Call → List Back → Program → Type 0
 BookRoutines [] [] b = Unit
 BookRoutines [] (a ∷ gs) b = ⊥
 BookRoutines (c ∷ cs) [] b = ⊥
-BookRoutines (c ∷ cs) (a ∷ gs) b = RoutinesBy (c .repair) (bookRefuses b c) b (c .line) (a .values .reanalyzed)
+BookRoutines (c ∷ cs) (a ∷ gs) b = RoutinesBy (c .repair) (bookRefuses b c) (bookWanted b c) b (a .values .reanalyzed)
     × BookRoutines cs gs (bookCall b c)
 
--- ---- what edits leave alone
+-- ---- what changes leave alone
 
--- the edit of a call that is not refused
-abbrev pub editOf : ℕ → EditRead → EditRead
-editOf n w = cond (eqb n 0) w (Refused n)
+-- the change of a call that is not refused
+abbrev pub acceptedChange : ℕ → ChangeRead → ChangeRead
+acceptedChange n w = cond (eqb n 0) w (Refused n)
 
 -- routine f has the same pairs in both programs, and calls each other routine in the same states
 pub record KeepsRoutine (f : ℕ) (p p′ : Program) : Type 0 where
   pub pairs : (r q : ℕ) → Occurs p f 1 r q ↔ Occurs p′ f 1 r q
   pub calls : (g s : ℕ) → g ≢ f → Calls p (Occurs p) f g s ↔ Calls p′ (Occurs p′) f g s
 
--- where this edit leaves the edited routine with the same pairs, calling each other routine in the same states, no
+-- where this change leaves the changed routine with the same pairs, calling each other routine in the same states, no
 -- configuration of another routine differs
-abbrev pub LeavesOthers : EditRead → Program → Program → Type 0
-LeavesOthers (Read e) p p′ =
-    KeepsRoutine (oldEdge e .routine) p p′ → (g n r q : ℕ) → g ≢ oldEdge e .routine → Occurs p g n r q
-    ↔ Occurs p′ g n r q
+abbrev pub LeavesOthers : ChangeRead → Program → Program → Type 0
+LeavesOthers (Read c) p p′ =
+    KeepsRoutine (changedRoutine c) p p′ → (g n r q : ℕ) → g ≢ changedRoutine c → Occurs p g n r q ↔ Occurs p′ g n r q
 LeavesOthers (Refused n) p p′ = Unit
 
--- so for each call of a list, in the model's program before the call and after it; a refused call is no edit
+-- so for each call of a list, in the model's program before the call and after it; a refused call is no change
 unfoldable pub BookLeaves : List Call → Program → Type 0
 BookLeaves [] b = Unit
 BookLeaves (c ∷ cs) b =
-    LeavesOthers (editOf (bookRefuses b c) (wantedEdit b (c .line))) (bookProgram b) (bookProgram (bookCall b c))
+    LeavesOthers (acceptedChange (bookRefuses b c) (bookWanted b c)) (bookProgram b) (bookProgram (bookCall b c))
     × BookLeaves cs (bookCall b c)

@@ -1,5 +1,6 @@
 -- The table of refusals (paper: "Refusals by place"): for each row its case, for each function its rows in their order.
--- The rows of the lengths (`bufferRows`) and of the marks (`foreignRow`) stand where the answers are defined.
+-- The rows of the lengths (`bufferRows`), of the text of an exchange (`exchangeRows`) and of the marks (`foreignRow`)
+-- stand where the answers are defined.
 use Prim.Native.Nat.{ℕ, _+_}
 use mathlib.Core.Path.{_≡_}
 use mathlib.Core.Logic.{_≢_}
@@ -21,7 +22,11 @@ use Rattle.edit.specs.EditLines.{onlyLine, badLine, outOfRange, editIn}
 use Rattle.edit.specs.Editing.{hasEdge}
 use Rattle.edit.specs.declared.Edit.{Edit}
 use Rattle.edit.specs.declared.Edit.the-variants.{Add, Drop, Replace}
+use Rattle.exchange.specs.ExchangeText.{textLines, exchangeRows}
+use Rattle.exchange.specs.declared.Form.{Form}
+use Rattle.exchange.specs.declared.Form.the-variants.{EditLine, ExchangeText}
 use Rattle.desk.specs.Entries.{Entry, read, write, analyze, next-violation, prune, repair-forward, repair-inside-out}
+use Rattle.desk.specs.Entries.{exchange-forward, exchange-inside-out}
 use Rattle.desk.specs.Entries.{Lent, programIn}
 
 -- ---- a file
@@ -42,7 +47,8 @@ lineRows s l =
     -- a number outside its range, or a step from the exit
     ∷ row 5 (not (ranged (s .program) (kind l) l))
     -- the 257th step, rule line or row
-    ∷ row 6 (full (length (s .program .edges)) (length (s .program .automaton .transitions)) (length (s .rows)) (kind l))
+    ∷ row 6 (full (length (s .program .edges)) (length (s .program .automaton .transitions)) (length (s .rows))
+    (kind l))
     -- the end count is wrong
     ∷ row 7 (miscounted (s .frames) (kind l) l)
     ∷ []
@@ -112,13 +118,17 @@ editRows p l =
     ∷ row 16 (adds (editIn l) && leb 256 (length (p .edges)))
     ∷ []
 
--- ---- what a function checks after the file: the lengths of its buffers (9 to 11), an edit line (12 to 16), the marks
--- (17)
+-- ---- what a function checks after the file: the lengths of its buffers (9 to 11), an edit line (12 to 16) or the text
+-- of an exchange (12, 13, 21, 16), the marks (17)
 
-abbrev pub repairRows : Lent → List Row
-repairRows b =
+abbrev pub changeRows : Form → Program → List ℕ → List Row
+changeRows EditLine p s = editRows p (onlyLine s)
+changeRows ExchangeText p s = exchangeRows p (textLines s)
+
+abbrev pub repairRows : Form → Lent → List Row
+repairRows k b =
     bufferRows (Of (length (b .marks))) (Of (length (b .output))) (Of (length (b .work)))
-    ++ (editRows (programIn b) (onlyLine (b .edit)) ++ foreignRow (programIn b) (b .marks) ∷ [])
+    ++ (changeRows k (programIn b) (b .text) ++ foreignRow (programIn b) (b .marks) ∷ [])
 
 -- of functions that are lent marks and a working buffer
 abbrev pub marksRows : Lent → List Row
@@ -130,8 +140,10 @@ rows write b = bufferRows NotAsked (Of (length (b .output))) NotAsked
 rows analyze b = marksRows b
 rows prune b = marksRows b
 rows next-violation b = marksRows b ++ foreignRow (programIn b) (b .marks) ∷ []
-rows repair-forward b = repairRows b
-rows repair-inside-out b = repairRows b
+rows repair-forward b = repairRows EditLine b
+rows repair-inside-out b = repairRows EditLine b
+rows exchange-forward b = repairRows ExchangeText b
+rows exchange-inside-out b = repairRows ExchangeText b
 
 -- ---- the number that is returned, and its line
 

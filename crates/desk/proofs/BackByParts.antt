@@ -1,8 +1,11 @@
 -- What a function gives back, part by part.
-use mathlib.Core.Path.{_≡_, refl}
+use mathlib.Core.Path.{_≡_, refl, ap}
 use mathlib.Core.List.{List}
 use Prim.Native.Nat.{ℕ}
-use Rattle.desk.specs.Entries.{Values, Back, counts, repairing}
+use Rattle.writer.specs.Answers.{refusal as writeRefusal, refusalLine as writeLine, writtenLength}
+use Rattle.writer.specs.declared.WriteAnswer.{WriteAnswer}
+use Rattle.repair.specs.Repairs.{After}
+use Rattle.desk.specs.Entries.{Values, Back, counts, repairing, repairBack}
 
 pub same-back : {r r′ l l′ : ℕ} {v v′ : Values} {m m′ o o′ w w′ : List ℕ} → r ≡ r′ → l ≡ l′ → v ≡ v′ → m ≡ m′ → o ≡ o′ → w ≡ w′
     → _≡_ {A = Back} (record { refusal = r; line = l; values = v; marks = m; output = o; work = w })
@@ -14,3 +17,12 @@ same-counts e f g = rw (e, f, g) refl
 
 pub same-size : {n n′ : ℕ} (routines : ℕ) → n ≡ n′ → repairing n routines ≡ repairing n′ routines
 same-size routines e = rw e refl
+
+-- what a repair gives back, by its answer and what it left in the buffers, and the numbers of that answer
+pub same-repair : (routines : ℕ) {a : WriteAnswer} {m o w : List ℕ} {after : After} {r l n : ℕ}
+    → _≡_ {A = After} (record { answer = a; marks = m; output = o; work = w }) after → (r ≡ writeRefusal a) × (l ≡ writeLine a) × (n ≡ writtenLength a)
+    → _≡_ {A = Back} (record { refusal = r; line = l; values = repairing n routines; marks = m; output = o; work = w }) (repairBack after routines)
+same-repair routines x k =
+    let e = ap (λ (a : After). a .answer) x in
+    let n = rw e at k in
+    same-back (n .0) (n .1) (same-size routines (n .2)) (ap (λ (a : After). a .marks) x) (ap (λ (a : After). a .output) x) (ap (λ (a : After). a .work) x)

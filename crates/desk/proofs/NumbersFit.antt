@@ -25,10 +25,11 @@ use Rattle.reach.specs.Violations.{Violation, First, nowhere, at}
 use Rattle.reach.proofs.ViolationsExact.{few-violations, next-violation}
 use Rattle.analysis.specs.Answers.{analyzeBy, analyzeAnswer, foundOf, foundBy, nextBy, nextAnswer}
 use Rattle.analysis.proofs.AnswersByChecks.{by-marks}
-use Rattle.edit.specs.Editing.{editedProgram, wantedEdit}
-use Rattle.edit.specs.declared.EditRead.{EditRead}
-use Rattle.edit.specs.declared.EditRead.the-variants as read
-use Rattle.edit.proofs.Theorems.{wanted-applies, applied-well-formed}
+use Rattle.exchange.specs.Changes.{ChangeRead, Read, Refused as Denied}
+use Rattle.exchange.specs.Changing.{changedProgram}
+use Rattle.exchange.specs.Wanted.{wantedChange}
+use Rattle.exchange.specs.declared.Form.{Form}
+use Rattle.exchange.proofs.Theorems.{wanted-change-applies, changed-well-formed}
 use Rattle.repair.specs.Repairs.{After, ownedBy, wantedBy, repairedBy, repaired}
 use Rattle.desk.specs.Parts.{VerdictFits, WriteFits, AnalyzeFits, NextFits}
 
@@ -93,19 +94,19 @@ module _ (file marks work : List ℕ) where
 
 -- ---- a repair
 
-module _ (file marks edit output work : List ℕ) where
+module _ (k : Form) (file marks text output work : List ℕ) where
   abbrev Fits : After → Type 0
   Fits a = WriteFits (a .answer)
 
-  wanted-fits : (w : EditRead) (p : Program) → WellFormed p → wantedEdit p edit ≡ w → Fits (wantedBy w p marks output work)
-  wanted-fits (read.Refused n) p f e = (omega arith, omega arith)
-  wanted-fits (read.Read d) p f e =
-      by-marks p marks (λ v. Fits (ownedBy v (editedProgram d p) marks output))
-      (λ t. written-fits (editedProgram d p) (applied-well-formed d p f (wanted-applies p edit d e))) (λ t. (omega arith, omega arith))
+  wanted-fits : (w : ChangeRead) (p : Program) → WellFormed p → wantedChange k p text ≡ w → Fits (wantedBy w p marks output work)
+  wanted-fits (Denied n) p f e = (omega arith, omega arith)
+  wanted-fits (Read c) p f e =
+      by-marks p marks (λ v. Fits (ownedBy v (changedProgram c p) marks output))
+      (λ t. written-fits (changedProgram c p) (changed-well-formed c p f (wanted-change-applies k p text c e))) (λ t. (omega arith, omega arith))
 
-  pub repair-fits : Fits (repaired file marks edit output work)
+  pub repair-fits : Fits (repaired k file marks text output work)
   unfolding repaired
   repair-fits =
       let p = readFile file .program in
-      by-checks file (Of (length marks)) (Of (length output)) (Of (length work)) (λ v. Fits (repairedBy v p marks edit output work))
-      (λ w. wanted-fits (wantedEdit p edit) p w refl) (λ n line h. (h, omega arith))
+      by-checks file (Of (length marks)) (Of (length output)) (Of (length work)) (λ v. Fits (repairedBy k v p marks text output work))
+      (λ w. wanted-fits (wantedChange k p text) p w refl) (λ n line h. (h, omega arith))

@@ -16,7 +16,9 @@ use Rattle.writer.specs.declared.WriteAnswer.{WriteAnswer}
 use Rattle.analysis.specs.declared.AnalyzeAnswer.{AnalyzeAnswer}
 use Rattle.analysis.specs.declared.NextAnswer.{NextAnswer}
 use Rattle.prune.specs.Pruning.{Pruned}
-use Rattle.edit.specs.Editing.{wantedEdit}
+use Rattle.exchange.specs.Wanted.{wantedChange}
+use Rattle.exchange.specs.declared.Form.{Form}
+use Rattle.exchange.specs.declared.Form.the-variants.{EditLine, ExchangeText}
 use Rattle.repair.specs.Repairs.{After, repaired, InsideOutNumber}
 
 pub data Entry : Type 0 where
@@ -27,12 +29,14 @@ pub data Entry : Type 0 where
   prune : Entry
   repair-forward : Entry
   repair-inside-out : Entry
+  exchange-forward : Entry
+  exchange-inside-out : Entry
 
--- what is lent: of these a function reads those that its head names
+-- what is lent: of these a function reads those that its head names; `text` is an edit line or the text of an exchange
 pub record Lent : Type 0 where
   pub file : List ℕ
   pub marks : List ℕ
-  pub edit : List ℕ
+  pub text : List ℕ
   pub output : List ℕ
   pub work : List ℕ
   pub from : ℕ
@@ -69,6 +73,8 @@ hasWork next-violation = true
 hasWork prune = true
 hasWork repair-forward = true
 hasWork repair-inside-out = true
+hasWork exchange-forward = true
+hasWork exchange-inside-out = true
 
 -- ---- the numbers that a function has
 
@@ -161,6 +167,37 @@ repairBack a routines =
 abbrev pub programIn : Lent → Program
 programIn b = readFile (b .file) .program
 
+-- either repair, by an edit line or by the text of an exchange
+abbrev pub repairedIn : Form → Lent → After
+repairedIn k b = repaired k (b .file) (b .marks) (b .text) (b .output) (b .work)
+
+-- what is lent to a repair, and what it gives back: its number, the line, the bytes written and the routines told, and
+-- the buffers
+abbrev pub lentRepair : List ℕ → List ℕ → List ℕ → List ℕ → List ℕ → Lent
+lentRepair file marks text output work =
+    record { file = file; marks = marks; text = text; output = output; work = work; from = 0 }
+
+abbrev pub backRepair : ℕ → ℕ → ℕ → ℕ → List ℕ → List ℕ → List ℕ → Back
+backRepair refusal line size routines marks output work = record {
+  refusal = refusal;
+  line = line;
+  values = repairing size routines;
+  marks = marks;
+  output = output;
+  work = work;
+}
+
+-- the forward one tells no routine
+abbrev pub RepairGives : Form → Lent → Back → Type 0
+RepairGives k b a = a ≡ repairBack (repairedIn k b) 0
+
+-- the inside-out one tells those that were reanalyzed
+abbrev pub InsideOutGives : Form → Lent → Back → Type 0
+InsideOutGives k b a =
+    (a ≡ repairBack (repairedIn k b) (a .values .reanalyzed))
+    × InsideOutNumber (eqb (a .refusal) 0) (wantedChange k (programIn b) (b .text)) (programIn b)
+    (a .values .reanalyzed)
+
 abbrev pub Gives : Entry → Lent → Back → Type 0
 Gives read b a = a ≡ readBack b (readFile (b .file) .verdict)
 Gives write b a = a ≡ writeBack b (writeAnswer (b .file) (b .output)) (outputAfter (b .file) (b .output))
@@ -173,7 +210,7 @@ Gives prune b a =
     (a ≡ pruneBack b (checkedMarks (b .file) (b .marks) (b .work)) (a .marks)
     (workAfter (b .file) (b .marks) (b .work)))
     × Pruned (checkedMarks (b .file) (b .marks) (b .work)) (programIn b) (b .marks) (a .marks)
-Gives repair-forward b a = a ≡ repairBack (repaired (b .file) (b .marks) (b .edit) (b .output) (b .work)) 0
-Gives repair-inside-out b a =
-    (a ≡ repairBack (repaired (b .file) (b .marks) (b .edit) (b .output) (b .work)) (a .values .reanalyzed))
-    × InsideOutNumber (eqb (a .refusal) 0) (wantedEdit (programIn b) (b .edit)) (programIn b) (a .values .reanalyzed)
+Gives repair-forward b a = RepairGives EditLine b a
+Gives repair-inside-out b a = InsideOutGives EditLine b a
+Gives exchange-forward b a = RepairGives ExchangeText b a
+Gives exchange-inside-out b a = InsideOutGives ExchangeText b a

@@ -1,6 +1,7 @@
 // The functions for C: bytes are handed over, and numbers come back. Every number is set on every call.
 use analysis::AnalyzeAnswer;
 use analysis::NextAnswer;
+use exchange::Form;
 use program::Verdict;
 use repair::RepairAnswer;
 use writer::WriteAnswer;
@@ -12,7 +13,9 @@ ghost use Rattle.analysis.specs.Answers.{analyzeRefusal, analyzeLine, configura
 ghost use Rattle.analysis.specs.Answers.{iterationCount, nextRefusal, nextLine, nextFound};
 ghost use Rattle.repair.specs.Repairs.{reanalyzed as reanalyzedNumber};
 ghost use Rattle.desk.specs.Entries.{Gives, read, write, analyze, next-violation, prune, repair-forward};
-ghost use Rattle.desk.specs.Entries.{repair-inside-out, noValues, writing, counts, finding, repairing};
+ghost use Rattle.desk.specs.Entries.{repair-inside-out, exchange-forward, exchange-inside-out};
+ghost use Rattle.desk.specs.Entries.{noValues, writing, counts, finding, lentRepair, backRepair};
+ghost use Rattle.desk.specs.Entries.{RepairGives, InsideOutGives};
 ghost use Rattle.desk.specs.Parts.{VerdictFits, WriteFits, AnalyzeFits, NextFits};
 
 struct VerdictNumbers {
@@ -43,7 +46,7 @@ pub extern "C" fn palthrenni_read(file: &[u8], line: &mut u32) -> u32
     ensures { λ r. ⌜ Gives read (record {
       file = now (file .entry);
       marks = [];
-      edit = [];
+      text = [];
       output = [];
       work = [];
       from = 0;
@@ -94,7 +97,7 @@ pub extern "C" fn palthrenni_write(
     ensures { λ r. ⌜ Gives write (record {
       file = now (file .entry);
       marks = [];
-      edit = [];
+      text = [];
       output = now (output .entry);
       work = [];
       from = 0;
@@ -163,7 +166,7 @@ pub extern "C" fn palthrenni_analyze(
     ensures { λ r. ⌜ Gives analyze (record {
       file = now (file .entry);
       marks = now (marks .entry);
-      edit = [];
+      text = [];
       output = [];
       work = now (work .entry);
       from = 0;
@@ -228,7 +231,7 @@ pub extern "C" fn palthrenni_next_violation(
     ensures { λ r. ⌜ Gives next-violation (record {
       file = now (file .entry);
       marks = now (marks .entry);
-      edit = [];
+      text = [];
       output = [];
       work = now (work .entry);
       from = from;
@@ -261,7 +264,7 @@ pub extern "C" fn palthrenni_prune(
     ensures { λ r. ⌜ Gives prune (record {
       file = now (file .entry);
       marks = now (marks .entry);
-      edit = [];
+      text = [];
       output = [];
       work = now (work .entry);
       from = 0;
@@ -281,36 +284,24 @@ pub extern "C" fn palthrenni_prune(
     numbers.refusal
 }
 
-// The forward repair: the marks become those of the edited program, which is written. The line of a refusal and the
-// count of bytes written are set.
-#[no_mangle]
-pub extern "C" fn palthrenni_repair_forward(
+// Either form of the forward repair. The line of a refusal and the count of bytes written are set.
+fn forward_for_c(
+    form: Form,
     file: &[u8],
     marks: &mut [u8],
-    edit: &[u8],
+    text: &[u8],
     output: &mut [u8],
     work: &mut [u8],
     line: &mut u32,
     written: &mut u32,
 ) -> u32
-    ensures { λ r. ⌜ Gives repair-forward (record {
-      file = now (file .entry);
-      marks = now (marks .entry);
-      edit = now (edit .entry);
-      output = now (output .entry);
-      work = now (work .entry);
-      from = 0;
-    })
-        (record {
-          refusal = r;
-          line = now (line .exit);
-          values = writing (now (written .exit));
-          marks = now (marks .exit);
-          output = now (output .exit);
-          work = now (work .exit);
-        }) ⌝ }
+    ensures { λ r. ⌜ RepairGives form
+        (lentRepair (now (file .entry)) (now (marks .entry)) (now (text .entry)) (now (output .entry))
+        (now (work .entry)))
+        (backRepair r (now (line .exit)) (now (written .exit)) 0 (now (marks .exit)) (now (output .exit))
+        (now (work .exit))) ⌝ }
 {
-    let a = repair::repair_forward(file, marks, edit, output, work);
+    let a = repair::repair_with(form, false, file, marks, text, output, work);
     let numbers = write_numbers(a);
     *line = numbers.line;
     *written = numbers.written;
@@ -326,7 +317,63 @@ fn reanalyzed_of(a: RepairAnswer) -> u32
     }
 }
 
-// The inside-out repair: as the forward one, and the set of the reanalyzed routines is set too, bit f for routine f.
+// Either form of the inside-out repair: as the forward one, and the set of the reanalyzed routines is set too, bit f
+// for routine f.
+fn inside_out_for_c(
+    form: Form,
+    file: &[u8],
+    marks: &mut [u8],
+    text: &[u8],
+    output: &mut [u8],
+    work: &mut [u8],
+    line: &mut u32,
+    written: &mut u32,
+    reanalyzed: &mut u32,
+) -> u32
+    ensures { λ r. ⌜ InsideOutGives form
+        (lentRepair (now (file .entry)) (now (marks .entry)) (now (text .entry)) (now (output .entry))
+        (now (work .entry)))
+        (backRepair r (now (line .exit)) (now (written .exit)) (now (reanalyzed .exit)) (now (marks .exit))
+        (now (output .exit)) (now (work .exit))) ⌝ }
+{
+    let a = repair::repair_inside_out(form, file, marks, text, output, work);
+    let numbers = write_numbers(repair::without_routines(a));
+    *line = numbers.line;
+    *written = numbers.written;
+    *reanalyzed = reanalyzed_of(a);
+    numbers.refusal
+}
+
+// The forward repair by an edit line: the marks become those of the edited program, which is written.
+#[no_mangle]
+pub extern "C" fn palthrenni_repair_forward(
+    file: &[u8],
+    marks: &mut [u8],
+    edit: &[u8],
+    output: &mut [u8],
+    work: &mut [u8],
+    line: &mut u32,
+    written: &mut u32,
+) -> u32
+    ensures { λ r. ⌜ Gives repair-forward
+        (lentRepair (now (file .entry)) (now (marks .entry)) (now (edit .entry)) (now (output .entry))
+        (now (work .entry)))
+        (backRepair r (now (line .exit)) (now (written .exit)) 0 (now (marks .exit)) (now (output .exit))
+        (now (work .exit))) ⌝ }
+{
+    forward_for_c(
+        Form::EditLine,
+        file,
+        marks,
+        edit,
+        output,
+        work,
+        line,
+        written,
+    )
+}
+
+// The inside-out repair by an edit line.
 #[no_mangle]
 pub extern "C" fn palthrenni_repair_inside_out(
     file: &[u8],
@@ -338,27 +385,82 @@ pub extern "C" fn palthrenni_repair_inside_out(
     written: &mut u32,
     reanalyzed: &mut u32,
 ) -> u32
-    ensures { λ r. ⌜ Gives repair-inside-out (record {
-      file = now (file .entry);
-      marks = now (marks .entry);
-      edit = now (edit .entry);
-      output = now (output .entry);
-      work = now (work .entry);
-      from = 0;
-    })
-        (record {
-          refusal = r;
-          line = now (line .exit);
-          values = repairing (now (written .exit)) (now (reanalyzed .exit));
-          marks = now (marks .exit);
-          output = now (output .exit);
-          work = now (work .exit);
-        }) ⌝ }
+    ensures { λ r. ⌜ Gives repair-inside-out
+        (lentRepair (now (file .entry)) (now (marks .entry)) (now (edit .entry)) (now (output .entry))
+        (now (work .entry)))
+        (backRepair r (now (line .exit)) (now (written .exit)) (now (reanalyzed .exit)) (now (marks .exit))
+        (now (output .exit)) (now (work .exit))) ⌝ }
 {
-    let a = repair::repair_inside_out(file, marks, edit, output, work);
-    let numbers = write_numbers(repair::without_routines(a));
-    *line = numbers.line;
-    *written = numbers.written;
-    *reanalyzed = reanalyzed_of(a);
-    numbers.refusal
+    inside_out_for_c(
+        Form::EditLine,
+        file,
+        marks,
+        edit,
+        output,
+        work,
+        line,
+        written,
+        reanalyzed,
+    )
+}
+
+// The forward repair by the text of an exchange: a whole routine is exchanged, the marks become those of the new
+// program, which is written.
+#[no_mangle]
+pub extern "C" fn palthrenni_exchange_forward(
+    file: &[u8],
+    marks: &mut [u8],
+    text: &[u8],
+    output: &mut [u8],
+    work: &mut [u8],
+    line: &mut u32,
+    written: &mut u32,
+) -> u32
+    ensures { λ r. ⌜ Gives exchange-forward
+        (lentRepair (now (file .entry)) (now (marks .entry)) (now (text .entry)) (now (output .entry))
+        (now (work .entry)))
+        (backRepair r (now (line .exit)) (now (written .exit)) 0 (now (marks .exit)) (now (output .exit))
+        (now (work .exit))) ⌝ }
+{
+    forward_for_c(
+        Form::ExchangeText,
+        file,
+        marks,
+        text,
+        output,
+        work,
+        line,
+        written,
+    )
+}
+
+// The inside-out repair by the text of an exchange.
+#[no_mangle]
+pub extern "C" fn palthrenni_exchange_inside_out(
+    file: &[u8],
+    marks: &mut [u8],
+    text: &[u8],
+    output: &mut [u8],
+    work: &mut [u8],
+    line: &mut u32,
+    written: &mut u32,
+    reanalyzed: &mut u32,
+) -> u32
+    ensures { λ r. ⌜ Gives exchange-inside-out
+        (lentRepair (now (file .entry)) (now (marks .entry)) (now (text .entry)) (now (output .entry))
+        (now (work .entry)))
+        (backRepair r (now (line .exit)) (now (written .exit)) (now (reanalyzed .exit)) (now (marks .exit))
+        (now (output .exit)) (now (work .exit))) ⌝ }
+{
+    inside_out_for_c(
+        Form::ExchangeText,
+        file,
+        marks,
+        text,
+        output,
+        work,
+        line,
+        written,
+        reanalyzed,
+    )
 }

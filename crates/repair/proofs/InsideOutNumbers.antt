@@ -1,5 +1,5 @@
 -- The numbers that an inside-out repair answers.
-use mathlib.Core.Path.{_≡_, refl, sym, subst, _∙_}
+use mathlib.Core.Path.{_≡_, refl, sym, ap, subst, _∙_}
 use mathlib.Core.Logic.{_≢_}
 use mathlib.Core.Bool.{Bool, true}
 use mathlib.Core.List.{List}
@@ -19,46 +19,58 @@ use Rattle.reader.specs.declared.Reading.{Reading}
 use Rattle.analysis.specs.Answers.{owned}
 use Rattle.analysis.proofs.AnswersByChecks.{refused-foreign}
 use Rattle.callgraph.specs.Components.{Bits}
-use Rattle.edit.specs.Editing.{wantedEdit}
-use Rattle.edit.specs.declared.Edit.{Edit}
-use Rattle.edit.specs.declared.EditRead.{EditRead}
-use Rattle.edit.specs.declared.EditRead.the-variants.{Read, Refused}
+use Rattle.exchange.specs.Changes.{Change, ChangeRead, Read}
+use Rattle.exchange.specs.Decoded.{exchangeOf, changeBy, readBy, readOf}
+use Rattle.exchange.specs.Wanted.{wantedChange, ChangeApplies}
+use Rattle.exchange.specs.declared.Form.{Form}
+use Rattle.exchange.specs.declared.ChangeKind.{ChangeKind}
+use Rattle.exchange.specs.declared.ReadKind.{ReadKind}
+use Rattle.exchange.specs.declared.DecodedRead.{DecodedRead}
+use Rattle.exchange.specs.declared.ReadKind.the-variants as read
+use Rattle.exchange.proofs.Theorems.{wanted-change-applies, change-number}
 use Rattle.update.specs.Reanalyzed.{ReanalyzedBy}
 use Rattle.update.specs.Parts.{FlagsOf, Told}
 use Rattle.repair.specs.Repairs.{InsideOutNumber}
-use Rattle.repair.proofs.EditRefusalNumbers.{wanted-number}
 
 -- the bits of what the inside-out repair tells
-pub bits-told : {inward : Bool} (e : Edit) (p : Program) → inward ≡ true → {flags : List ℕ} {n : ℕ} → FlagsOf (Told inward e p) flags
-    → Bits (λ (f : ℕ). getD flags f 0 ≢ 0) n → Bits (ReanalyzedBy e p) n
-bits-told e p i k b =
+pub bits-told : {inward : Bool} (c : Change) (p : Program) → inward ≡ true → {flags : List ℕ} {n : ℕ} → FlagsOf (Told inward (ReanalyzedBy c p)) flags
+    → Bits (λ (f : ℕ). getD flags f 0 ≢ 0) n → Bits (ReanalyzedBy c p) n
+bits-told c p i k b =
     record {
       small = b .small;
       bit = λ f h. let x = b .bit f h in let y = k .flag f h in (λ z. y .0 (x .0 z) .1, λ z. x .1 (y .1 (i, z)));
     }
 
 -- a refused call says 0
-pub number-refused : (n : ℕ) (w : EditRead) (p : Program) → 0 < n → InsideOutNumber (eqb n 0) w p 0
+pub number-refused : (n : ℕ) (w : ChangeRead) (p : Program) → 0 < n → InsideOutNumber (eqb n 0) w p 0
 number-refused n w p h = rw (ne-eqb n 0 (λ e. absurd (omega arith))) refl
 
-module _ (p : Program) (line : List ℕ) {w : EditRead} (e : w ≡ wantedEdit p line) where
-  pub number-unwanted : (n : ℕ) → w ≡ Refused n → InsideOutNumber (eqb n 0) (wantedEdit p line) p 0
-  number-unwanted n h = number-refused n (wantedEdit p line) p (omega (arith, wanted-number p line n (sym e ∙ h)))
+module _ (k : Form) (p : Program) (text : List ℕ) (w : DecodedRead) (e : readOf w ≡ wantedChange k p text) where
+  -- what was read, by its kind
+  by-kind : {r : ReadKind} → w .kind ≡ r → readBy r (exchangeOf (w .exchange)) ≡ wantedChange k p text
+  by-kind h = ap (λ (r : ReadKind). readBy r (exchangeOf (w .exchange))) (sym h) ∙ e
 
-  pub number-wanted : (d : Edit) → w ≡ Read d → (t : Bool) (n : ℕ) → InsideOutNumber t (Read d) p n → InsideOutNumber t (wantedEdit p line) p n
-  number-wanted d h t n x = subst (λ (y : EditRead). InsideOutNumber t y p n) (sym h ∙ e) x
+  pub number-unwanted : (n : ℕ) → w .kind ≡ read.Refused n → InsideOutNumber (eqb n 0) (wantedChange k p text) p 0
+  number-unwanted n h = number-refused n (wantedChange k p text) p (omega (arith, change-number k p text n (sym (by-kind h)) .0))
+
+  pub kind-applies : (c : ChangeKind) → w .kind ≡ read.Read c → ChangeApplies (changeBy c (exchangeOf (w .exchange))) p
+  kind-applies c h = wanted-change-applies k p text (changeBy c (exchangeOf (w .exchange))) (sym (by-kind h))
+
+  pub number-wanted : (c : ChangeKind) → w .kind ≡ read.Read c → (t : Bool) (n : ℕ)
+      → InsideOutNumber t (Read (changeBy c (exchangeOf (w .exchange)))) p n → InsideOutNumber t (wantedChange k p text) p n
+  number-wanted c h t n x = subst (λ (y : ChangeRead). InsideOutNumber t y p n) (by-kind h) x
 
 module _ (p : Program) (marks : List ℕ) where
-  pub number-foreign : (e : Edit) {n at : ℕ} → owned p marks ≡ verdict.Refused n at → InsideOutNumber (eqb n 0) (Read e) p 0
-  number-foreign e {n} h = number-refused n (Read e) p (omega (arith, refused-foreign p marks h))
+  pub number-foreign : (c : Change) {n at : ℕ} → owned p marks ≡ verdict.Refused n at → InsideOutNumber (eqb n 0) (Read c) p 0
+  number-foreign c {n} h = number-refused n (Read c) p (omega (arith, refused-foreign p marks h))
 
-module _ (file line : List ℕ) {marks output work : Length} {r : Reading} (k : Checked file marks output work r) where
+module _ (k : Form) (file text : List ℕ) {marks output work : Length} {r : Reading} (x : Checked file marks output work r) where
   pub number-unchecked : {n at : ℕ} → r .verdict ≡ verdict.Refused n at
-      → InsideOutNumber (eqb n 0) (wantedEdit (readFile file .program) line) (readFile file .program) 0
+      → InsideOutNumber (eqb n 0) (wantedChange k (readFile file .program) text) (readFile file .program) 0
   number-unchecked {n} h =
-      number-refused n (wantedEdit (readFile file .program) line) (readFile file .program)
-      (few-checks file marks output work (sym (k .verdict) ∙ h) .0)
+      number-refused n (wantedChange k (readFile file .program) text) (readFile file .program)
+      (few-checks file marks output work (sym (x .verdict) ∙ h) .0)
 
-  pub number-checked : (t : Bool) (n : ℕ) → InsideOutNumber t (wantedEdit (programOf (r .program)) line) (programOf (r .program)) n
-      → InsideOutNumber t (wantedEdit (readFile file .program) line) (readFile file .program) n
-  number-checked t n x = subst (λ (p : Program). InsideOutNumber t (wantedEdit p line) p n) (k .program) x
+  pub number-checked : (t : Bool) (n : ℕ) → InsideOutNumber t (wantedChange k (programOf (r .program)) text) (programOf (r .program)) n
+      → InsideOutNumber t (wantedChange k (readFile file .program) text) (readFile file .program) n
+  number-checked t n y = subst (λ (p : Program). InsideOutNumber t (wantedChange k p text) p n) (x .program) y

@@ -1,3 +1,2 @@
-pub mod EditRefusalNumbers
 pub mod InsideOutNumbers
 pub mod RepairsAnswer

@@ -1,5 +1,6 @@
--- A repair (paper): it reads a file, its marks and one edit line, changes the marks to those of the edited program, and
--- writes that program. One function of everything that is lent gives the answer and every lent byte afterwards.
+-- A repair (paper): it reads a file, its marks and a change, which is one edit line or the text of an exchange, turns
+-- the marks into those of the changed program, and writes that program. One function of everything that is lent gives
+-- the answer and every lent byte afterwards.
 use Prim.Native.Nat.{ℕ}
 use mathlib.Core.Path.{_≡_}
 use mathlib.Core.Bool.{Bool, true, false}
@@ -18,10 +19,10 @@ use Rattle.reach.specs.Configurations.{none-set}
 use Rattle.reach.specs.Marks.{freshMarks}
 use Rattle.analysis.specs.Answers.{owned}
 use Rattle.callgraph.specs.Components.{Bits}
-use Rattle.edit.specs.Editing.{editedProgram, wantedEdit}
-use Rattle.edit.specs.declared.Edit.{Edit}
-use Rattle.edit.specs.declared.EditRead.{EditRead}
-use Rattle.edit.specs.declared.EditRead.the-variants as read
+use Rattle.exchange.specs.Changes.{Change, ChangeRead, Read, Refused as Denied}
+use Rattle.exchange.specs.Changing.{changedProgram}
+use Rattle.exchange.specs.Wanted.{wantedChange}
+use Rattle.exchange.specs.declared.Form.{Form}
 use Rattle.update.specs.Reanalyzed.{ReanalyzedBy}
 use Rattle.repair.specs.declared.RepairAnswer.{RepairAnswer}
 use Rattle.repair.specs.declared.RepairAnswer.the-variants as repair
@@ -33,28 +34,26 @@ pub record After : Type 0 where
   pub output : List ℕ
   pub work : List ℕ
 
+abbrev pub afterwards : WriteAnswer → List ℕ → List ℕ → List ℕ → After
+afterwards answer marks output work = record { answer = answer; marks = marks; output = output; work = work }
+
 -- ---- what is lent, afterwards
 
 -- a refusal that is checked before the marks leaves everything alone
 abbrev pub untouched : ℕ → ℕ → List ℕ → List ℕ → List ℕ → After
-untouched n line marks output work = record { answer = Refused n line; marks = marks; output = output; work = work }
+untouched n line marks output work = afterwards (Refused n line) marks output work
 
 -- a refusal of foreign marks: the working buffer is all zero
 abbrev pub foreign : ℕ → ℕ → List ℕ → List ℕ → After
-foreign n line marks output = record { answer = Refused n line; marks = marks; output = output; work = none-set }
+foreign n line marks output = afterwards (Refused n line) marks output none-set
 
--- the marks of the edited program; its file at the start of the output, whose other bytes stay; the working buffer all
+-- the marks of the changed program; its file at the start of the output, whose other bytes stay; the working buffer all
 -- zero
 abbrev pub repairedTo : Program → List ℕ → After
 repairedTo p output =
-    record {
-      answer = Written (length (written p));
-      marks = freshMarks p;
-      output = written p ++ drop (length (written p)) output;
-      work = none-set;
-    }
+    afterwards (Written (length (written p))) (freshMarks p) (written p ++ drop (length (written p)) output) none-set
 
--- ---- the checks, in their order: the file, the lengths of what is lent, the edit line, and last the marks
+-- ---- the checks, in their order: the file, the lengths of what is lent, the line or text, and last the marks
 
 abbrev pub checkedRepair : List ℕ → List ℕ → List ℕ → List ℕ → Verdict
 checkedRepair file marks output work = checked file (Of (length marks)) (Of (length output)) (Of (length work))
@@ -64,23 +63,23 @@ abbrev pub ownedBy : Verdict → Program → List ℕ → List ℕ → After
 ownedBy verdict.Accepted p marks output = repairedTo p output
 ownedBy (verdict.Refused n line) p marks output = foreign n line marks output
 
-abbrev pub editedBy : Edit → Program → List ℕ → List ℕ → After
-editedBy e p marks output = ownedBy (owned p marks) (editedProgram e p) marks output
+abbrev pub changedBy : Change → Program → List ℕ → List ℕ → After
+changedBy c p marks output = ownedBy (owned p marks) (changedProgram c p) marks output
 
--- the edit line (12 to 16)
-abbrev pub wantedBy : EditRead → Program → List ℕ → List ℕ → List ℕ → After
-wantedBy (read.Read e) p marks output work = editedBy e p marks output
-wantedBy (read.Refused n) p marks output work = untouched n 0 marks output work
+-- the edit line (12 to 16), or the text of an exchange (12, 13, 21, 16)
+abbrev pub wantedBy : ChangeRead → Program → List ℕ → List ℕ → List ℕ → After
+wantedBy (Read c) p marks output work = changedBy c p marks output
+wantedBy (Denied n) p marks output work = untouched n 0 marks output work
 
-abbrev pub repairedBy : Verdict → Program → List ℕ → List ℕ → List ℕ → List ℕ → After
-repairedBy verdict.Accepted p marks line output work = wantedBy (wantedEdit p line) p marks output work
-repairedBy (verdict.Refused n at) p marks line output work = untouched n at marks output work
+abbrev pub repairedBy : Form → Verdict → Program → List ℕ → List ℕ → List ℕ → List ℕ → After
+repairedBy k verdict.Accepted p marks text output work = wantedBy (wantedChange k p text) p marks output work
+repairedBy k (verdict.Refused n at) p marks text output work = untouched n at marks output work
 
--- ---- a repair, for a file, marks, an edit line, an output and a working buffer
+-- ---- a repair, for a file, marks, an edit line or a text, an output and a working buffer
 
-unfoldable pub repaired : List ℕ → List ℕ → List ℕ → List ℕ → List ℕ → After
-repaired file marks line output work =
-    repairedBy (checkedRepair file marks output work) (readFile file .program) marks line output work
+unfoldable pub repaired : Form → List ℕ → List ℕ → List ℕ → List ℕ → List ℕ → After
+repaired k file marks text output work =
+    repairedBy k (checkedRepair file marks output work) (readFile file .program) marks text output work
 
 -- ---- the numbers of an inside-out repair's answer
 
@@ -94,9 +93,9 @@ abbrev pub reanalyzed : RepairAnswer → ℕ
 reanalyzed (repair.Repaired size routines) = routines
 reanalyzed (repair.Refused n line) = 0
 
--- the number that the inside-out repair answers for them: for an edit of p that is accepted a bit each, and 0 for a
+-- the number that the inside-out repair answers for them: for a change of p that is accepted a bit each, and 0 for a
 -- refused call
-abbrev pub InsideOutNumber : Bool → EditRead → Program → ℕ → Type 0
-InsideOutNumber true (read.Read e) p n = Bits (ReanalyzedBy e p) n
-InsideOutNumber true (read.Refused m) p n = n ≡ 0
+abbrev pub InsideOutNumber : Bool → ChangeRead → Program → ℕ → Type 0
+InsideOutNumber true (Read c) p n = Bits (ReanalyzedBy c p) n
+InsideOutNumber true (Denied m) p n = n ≡ 0
 InsideOutNumber false w p n = n ≡ 0

@@ -1,10 +1,12 @@
-// Repairs: one edit line changes a program, its marks become those of the edited program, and the new file is written.
+// Repairs: one edit line or the text of an exchange changes a program, its marks become those of the changed program,
+// and the new file is written.
 use analysis::check_own;
 use callgraph::routines::bits_of;
 use checks::checked_program;
-use edit::Edit;
-use edit::EditRead;
-use edit::wanted_edit;
+use exchange::DecodedChange;
+use exchange::Form;
+use exchange::ReadKind;
+use exchange::wanted_change;
 use program::DecodedProgram;
 use program::Length;
 use program::Verdict;
@@ -19,11 +21,13 @@ ghost use lib.ListN.{length};
 ghost use Rattle.program.specs.Sizes.{marksSize, outputSize};
 ghost use Rattle.program.specs.WellFormed.{WellFormed};
 ghost use Rattle.program.specs.Decoded.{programOf};
-ghost use Rattle.edit.specs.Editing.{wantedEdit, Applies};
+ghost use Rattle.exchange.specs.Changes.{Read};
+ghost use Rattle.exchange.specs.Decoded.{changeOf};
+ghost use Rattle.exchange.specs.Wanted.{wantedChange, ChangeApplies};
 ghost use Rattle.program.specs.Reading.{readFile};
 ghost use Rattle.writer.specs.Answers.{refusal};
-ghost use Rattle.edit.specs.declared.EditRead.the-variants.{Read};
-ghost use Rattle.repair.specs.Repairs.{After, editedBy, wantedBy, repaired, plain, reanalyzed, InsideOutNumber};
+ghost use Rattle.repair.specs.Repairs.{afterwards, changedBy, wantedBy, repaired, plain, reanalyzed};
+ghost use Rattle.repair.specs.Repairs.{InsideOutNumber};
 
 // So many bytes were written, and these routines were reanalyzed, a bit each; or nothing was done, and a refusal says
 // why, at which line.
@@ -32,92 +36,91 @@ pub enum RepairAnswer {
     Refused(u8, usize),
 }
 
-// Marks that are not the program's own are refused. Else they are repaired, and the edited program is written.
+// Marks that are not the program's own are refused. Else they are repaired, and the changed program is written.
 fn repair_own(
     inward: bool,
     p: DecodedProgram,
-    e: Edit,
+    c: DecodedChange,
     marks: &mut [u8],
     output: &mut [u8],
     work: &mut [u8],
 ) -> RepairAnswer
-    requires { ⌜ WellFormed (programOf p) × Applies e (programOf p) ⌝ }
+    requires { ⌜ WellFormed (programOf p) × ChangeApplies (changeOf c) (programOf p) ⌝ }
     requires { ⌜ (length (now marks) ≡ marksSize) × (outputSize ≤ length (now output))
         × (length (now work) ≡ marksSize) ⌝ }
-    ensures { λ r. ⌜ _≡_ {A = After} (record {
-      answer = plain r;
-      marks = now (marks .exit);
-      output = now (output .exit);
-      work = now (work .exit);
-    })
-        (editedBy e (programOf p) (now (marks .entry)) (now (output .entry)))
-        × (inward ≡ true → InsideOutNumber (eqb (refusal (plain r)) 0) (Read e) (programOf p) (reanalyzed r)) ⌝ }
+    ensures { λ r. ⌜ (afterwards (plain r) (now (marks .exit)) (now (output .exit)) (now (work .exit))
+        ≡ changedBy (changeOf c) (programOf p) (now (marks .entry)) (now (output .entry)))
+        × (inward ≡ true → InsideOutNumber (eqb (refusal (plain r)) 0) (Read (changeOf c)) (programOf p)
+        (reanalyzed r)) ⌝ }
 {
     let own = check_own(p, marks, work);
     match own {
         Verdict::Refused(n, at) => RepairAnswer::Refused(n, at),
         Verdict::Accepted => {
-            let mended = mend(inward, p, e, marks, work);
-            let edited = mended.program;
+            let mended = mend(inward, p, c, marks, work);
+            let changed = mended.program;
             let routines = mended.routines;
             let flags = routines.flags;
             let bits = bits_of(&flags);
-            let size = write_program(output, edited);
+            let size = write_program(output, changed);
             RepairAnswer::Repaired(size, bits)
         }
     }
 }
 
-// The refusals of the edit line (12 to 16); else the marks are left to check.
+// The refusals of the edit line or text (12 to 16, 21); else the marks are left to check.
 fn repair_wanted(
+    form: Form,
     inward: bool,
     p: DecodedProgram,
     marks: &mut [u8],
-    line: &[u8],
+    text: &[u8],
     output: &mut [u8],
     work: &mut [u8],
 ) -> RepairAnswer
     requires { ⌜ WellFormed (programOf p) ⌝ }
     requires { ⌜ (length (now marks) ≡ marksSize) × (outputSize ≤ length (now output))
         × (length (now work) ≡ marksSize) ⌝ }
-    ensures { λ r. ⌜ _≡_ {A = After} (record {
-      answer = plain r;
-      marks = now (marks .exit);
-      output = now (output .exit);
-      work = now (work .exit);
-    })
-        (wantedBy (wantedEdit (programOf p) (now (line .entry))) (programOf p) (now (marks .entry))
+    ensures { λ r. ⌜ (afterwards (plain r) (now (marks .exit)) (now (output .exit)) (now (work .exit))
+        ≡ wantedBy (wantedChange form (programOf p) (now (text .entry))) (programOf p) (now (marks .entry))
         (now (output .entry)) (now (work .entry)))
-        × (inward ≡ true → InsideOutNumber (eqb (refusal (plain r)) 0) (wantedEdit (programOf p) (now (line .entry)))
-        (programOf p) (reanalyzed r)) ⌝ }
+        × (inward ≡ true → InsideOutNumber (eqb (refusal (plain r)) 0)
+        (wantedChange form (programOf p) (now (text .entry))) (programOf p) (reanalyzed r)) ⌝ }
 {
-    let wanted = wanted_edit(p, line);
-    match wanted {
-        EditRead::Refused(n) => RepairAnswer::Refused(n, 0),
-        EditRead::Read(e) => repair_own(inward, p, e, marks, output, work),
+    let wanted = wanted_change(form, p, text);
+    let read = wanted.kind;
+    match read {
+        ReadKind::Refused(n) => RepairAnswer::Refused(n, 0),
+        ReadKind::Read(kind) => {
+            let exchange = wanted.exchange;
+            repair_own(
+                inward,
+                p,
+                DecodedChange { kind, exchange },
+                marks,
+                output,
+                work,
+            )
+        }
     }
 }
 
 // Either repair: the inside-out one where that is asked for, else the forward one. Only the inside-out repair promises
 // something of the routines.
 fn repair_file(
+    form: Form,
     inward: bool,
     file: &[u8],
     marks: &mut [u8],
-    line: &[u8],
+    text: &[u8],
     output: &mut [u8],
     work: &mut [u8],
 ) -> RepairAnswer
-    ensures { λ r. ⌜ _≡_ {A = After} (record {
-      answer = plain r;
-      marks = now (marks .exit);
-      output = now (output .exit);
-      work = now (work .exit);
-    })
-        (repaired (now (file .entry)) (now (marks .entry)) (now (line .entry)) (now (output .entry))
+    ensures { λ r. ⌜ (afterwards (plain r) (now (marks .exit)) (now (output .exit)) (now (work .exit))
+        ≡ repaired form (now (file .entry)) (now (marks .entry)) (now (text .entry)) (now (output .entry))
         (now (work .entry)))
         × (inward ≡ true → InsideOutNumber (eqb (refusal (plain r)) 0)
-        (wantedEdit (readFile (now (file .entry)) .program) (now (line .entry)))
+        (wantedChange form (readFile (now (file .entry)) .program) (now (text .entry)))
         (readFile (now (file .entry)) .program) (reanalyzed r)) ⌝ }
 {
     let marks_length = Length::Of(marks.len());
@@ -129,7 +132,7 @@ fn repair_file(
         Verdict::Refused(n, at) => RepairAnswer::Refused(n, at),
         Verdict::Accepted => {
             let p = r.program;
-            repair_wanted(inward, p, marks, line, output, work)
+            repair_wanted(form, inward, p, marks, text, output, work)
         }
     }
 }
@@ -144,68 +147,40 @@ pub fn without_routines(a: RepairAnswer) -> WriteAnswer
     }
 }
 
-// Either repair, for those who ask for the marks and the file only: the inside-out one where that is asked for, else
-// the forward one.
+// Either repair of a file and its marks by an edit line or the text of an exchange: the inside-out one where that is
+// asked for, else the forward one. The marks must be the file's own. A refusal leaves the marks and the output alone,
+// and the working buffer too unless it is 17; after 17 and on success the working buffer is all zero.
 pub fn repair_with(
+    form: Form,
     inside_out: bool,
     file: &[u8],
     marks: &mut [u8],
-    line: &[u8],
+    text: &[u8],
     output: &mut [u8],
     work: &mut [u8],
 ) -> WriteAnswer
-    ensures { λ r. ⌜ _≡_ {A = After} (record {
-      answer = r;
-      marks = now (marks .exit);
-      output = now (output .exit);
-      work = now (work .exit);
-    })
-        (repaired (now (file .entry)) (now (marks .entry)) (now (line .entry)) (now (output .entry))
-        (now (work .entry))) ⌝ }
+    ensures { λ r. ⌜ afterwards r (now (marks .exit)) (now (output .exit)) (now (work .exit))
+        ≡ repaired form (now (file .entry)) (now (marks .entry)) (now (text .entry)) (now (output .entry))
+        (now (work .entry)) ⌝ }
 {
-    let a = repair_file(inside_out, file, marks, line, output, work);
+    let a = repair_file(form, inside_out, file, marks, text, output, work);
     without_routines(a)
 }
 
-// The forward repair. The marks must be the file's own. A refusal leaves the marks and the output alone, and the
-// working buffer too unless it is 17; after 17 and on success the working buffer is all zero.
-pub fn repair_forward(
-    file: &[u8],
-    marks: &mut [u8],
-    line: &[u8],
-    output: &mut [u8],
-    work: &mut [u8],
-) -> WriteAnswer
-    ensures { λ r. ⌜ _≡_ {A = After} (record {
-      answer = r;
-      marks = now (marks .exit);
-      output = now (output .exit);
-      work = now (work .exit);
-    })
-        (repaired (now (file .entry)) (now (marks .entry)) (now (line .entry)) (now (output .entry))
-        (now (work .entry))) ⌝ }
-{
-    repair_with(false, file, marks, line, output, work)
-}
-
-// The inside-out repair: as the forward one, and the answer says which routines were reanalyzed.
+// The inside-out repair: the same, and the answer says which routines were reanalyzed.
 pub fn repair_inside_out(
+    form: Form,
     file: &[u8],
     marks: &mut [u8],
-    line: &[u8],
+    text: &[u8],
     output: &mut [u8],
     work: &mut [u8],
 ) -> RepairAnswer
-    ensures { λ r. ⌜ _≡_ {A = After} (record {
-      answer = plain r;
-      marks = now (marks .exit);
-      output = now (output .exit);
-      work = now (work .exit);
-    })
-        (repaired (now (file .entry)) (now (marks .entry)) (now (line .entry)) (now (output .entry))
+    ensures { λ r. ⌜ (afterwards (plain r) (now (marks .exit)) (now (output .exit)) (now (work .exit))
+        ≡ repaired form (now (file .entry)) (now (marks .entry)) (now (text .entry)) (now (output .entry))
         (now (work .entry)))
-        × InsideOutNumber (eqb (refusal (plain r)) 0) (wantedEdit (readFile (now (file .entry)) .program)
-        (now (line .entry))) (readFile (now (file .entry)) .program) (reanalyzed r) ⌝ }
+        × InsideOutNumber (eqb (refusal (plain r)) 0) (wantedChange form (readFile (now (file .entry)) .program)
+        (now (text .entry))) (readFile (now (file .entry)) .program) (reanalyzed r) ⌝ }
 {
-    repair_file(true, file, marks, line, output, work)
+    repair_file(form, true, file, marks, text, output, work)
 }

@@ -27,6 +27,8 @@ use Rattle.edit.specs.Editing.{editedProgram, wantedEdit}
 use Rattle.edit.specs.declared.EditRead.{EditRead}
 use Rattle.edit.specs.declared.EditRead.the-variants as read
 use Rattle.edit.proofs.Theorems.{wanted-applies, applied-well-formed}
+use Rattle.exchange.specs.Wanted.{ofEdit}
+use Rattle.exchange.specs.declared.Form.the-variants.{EditLine}
 use Rattle.repair.specs.Repairs.{After, checkedRepair, repairedTo, ownedBy, wantedBy, repairedBy, repaired}
 use Rattle.repair.specs.Desk.{Desk, fileBy, after}
 use Rattle.report.specs.Report.{blockOf, blockText, fileRefusal, refusedFile}
@@ -94,7 +96,7 @@ module _ (line : List ℕ) (d : Desk) where
       rw (take-written p output)
       (block-is (written p) (freshMarks p) (ap (λ (o : Outcome). o .verdict) (read-again p w)) (marks-length p))
 
-  wanted-text : (p : Program) (w : EditRead) → WellFormed p → wantedEdit p line ≡ w → Same (wantedBy w p (d .marks) noOutput none-set)
+  wanted-text : (p : Program) (w : EditRead) → WellFormed p → wantedEdit p line ≡ w → Same (wantedBy (ofEdit w) p (d .marks) noOutput none-set)
   wanted-text p (read.Refused n) f h = refl
   wanted-text p (read.Read e) f h =
       by-marks p (d .marks) (λ v. Same (ownedBy v (editedProgram e p) (d .marks) noOutput))
@@ -107,7 +109,7 @@ module _ (line : List ℕ) (d : Desk) where
       p : Program
       p = readFile (d .file) .program
 
-      go : (v : Verdict) → checkedRepair (d .file) (d .marks) noOutput none-set ≡ v → Same (repairedBy v p (d .marks) line noOutput none-set)
+      go : (v : Verdict) → checkedRepair (d .file) (d .marks) noOutput none-set ≡ v → Same (repairedBy EditLine v p (d .marks) line noOutput none-set)
       go (verdict.Refused n at) h = refl
       go verdict.Accepted h =
           wanted-text p (wantedEdit p line)
@@ -124,9 +126,9 @@ file-wrote file h w = rw h (w .front)
 
 -- a repair of what is held, as its function has it at hand: `used` is the count of the held file's bytes
 pub edited : (line : List ℕ) (h h′ : Held) {used : ℕ} {answer : WriteAnswer} {marks output work : List ℕ} → Within (h .used) (h .file) used
-    → _≡_ {A = After} (record { answer = answer; marks = marks; output = output; work = work }) (repaired (take used (h .file)) (h .marks) line noOutput none-set)
+    → _≡_ {A = After} (record { answer = answer; marks = marks; output = output; work = work }) (repaired EditLine (take used (h .file)) (h .marks) line noOutput none-set)
     → heldOf h′ ≡ record { file = fileBy answer output (take used (h .file)); marks = marks }
     → (answer ≡ editOn line (heldOf h) .answer) × (heldOf h′ ≡ after (editOn line (heldOf h)) (heldOf h .file))
 edited line h h′ {used = used} {answer} {marks} {output} {work} w e k =
-    let x : _≡_ {A = After} (record { answer = answer; marks = marks; output = output; work = work }) (editOn line (heldOf h)) = e ∙ ap (λ (l : List ℕ). repaired l (h .marks) line noOutput none-set) (w .front) in
+    let x : _≡_ {A = After} (record { answer = answer; marks = marks; output = output; work = work }) (editOn line (heldOf h)) = e ∙ ap (λ (l : List ℕ). repaired EditLine l (h .marks) line noOutput none-set) (w .front) in
     (ap (λ (a : After). a .answer) x, k ∙ (λ i. after (x i) (w .front i)))

@@ -22,6 +22,7 @@ use Rattle.edit.specs.Editing.{editedProgram, wantedEdit}
 use Rattle.edit.specs.declared.EditRead.{EditRead}
 use Rattle.edit.specs.declared.EditRead.the-variants as read
 use Rattle.edit.proofs.Theorems.{wanted-applies, applied-well-formed, edited-read}
+use Rattle.exchange.specs.Wanted.{ofEdit}
 use Rattle.repair.specs.Repairs.{wantedBy, repaired}
 use Rattle.repair.specs.Desk.{Desk, started}
 use Rattle.report.specs.Report.{firstSize, editText, programAfter, editsText, blockOf, tooLong, fileSize, fileText, inputText, benchText}
@@ -45,13 +46,13 @@ record Turned (w : EditRead) (p : Program) (next : ℕ) (s : Shown) : Type 0 whe
 
 module _ (p : Program) (d : Desk) (k : Holds p d) where
   -- on a program's own file and marks nothing is left to refuse but the line
-  edit-on : (line : List ℕ) → editOn line d ≡ wantedBy (wantedEdit p line) p (freshMarks p) noOutput none-set
+  edit-on : (line : List ℕ) → editOn line d ≡ wantedBy (ofEdit (wantedEdit p line)) p (freshMarks p) noOutput none-set
   unfolding repaired checked firstMet noOutput
   edit-on line = rw (k .file, k .marks, marks-length p, none-length)
 
   -- the turn of a line is what the definition prints for it
   wanted-turn : (line : List ℕ) (next : ℕ) (w : EditRead) → wantedEdit p line ≡ w
-      → Turned w p next (turnedBy (wantedBy w p (freshMarks p) noOutput none-set) (d .file) next)
+      → Turned w p next (turnedBy (wantedBy (ofEdit w) p (freshMarks p) noOutput none-set) (d .file) next)
   unfolding firstMet
   wanted-turn line next (read.Refused n) h =
       record { text = refl; at = refl; held = record { well-formed = k .well-formed; file = k .file; marks = refl } }

@@ -16,6 +16,7 @@ use Rattle.writer.specs.declared.WriteAnswer.{WriteAnswer}
 use Rattle.writer.specs.declared.WriteAnswer.the-variants.{Written, Refused}
 use Rattle.reach.specs.Configurations.{none-set}
 use Rattle.reach.specs.Marks.{freshMarks}
+use Rattle.exchange.specs.declared.Form.the-variants.{EditLine}
 use Rattle.repair.specs.Repairs.{After, repaired}
 use Rattle.repair.specs.Desk.{Desk, started, after}
 use Rattle.report.specs.Report.{fileSize, firstSize, blockOf, tooLong, refusedFile, refusedEdit, Printed, inputSize}
@@ -81,7 +82,7 @@ noOutput = replicate outputSize 0
 
 -- an edit line on what is held, by either repair: both promise the same of it
 abbrev pub editOn : List ℕ → Desk → After
-editOn line d = repaired (d .file) (d .marks) line noOutput none-set
+editOn line d = repaired EditLine (d .file) (d .marks) line noOutput none-set
 
 -- the block comes after an accepted edit, of the new file's program and its marks; a refused edit prints its number
 abbrev pub textBy : WriteAnswer → Desk → List ℕ

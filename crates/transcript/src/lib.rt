@@ -1,6 +1,7 @@
 // What bench prints for an input, a turn after the other: one for the file, and then one for each edit line. Each turn
 // puts its text at the start of an output of 180,235 bytes, which every text fits.
 use analysis::AnalyzeAnswer;
+use exchange::Form;
 use program::sizes::MARKS_SIZE;
 use program::sizes::OUTPUT_SIZE;
 use repair::repair_with;
@@ -164,6 +165,7 @@ fn edit_held(inside_out: bool, line: &[u8], held: Held) -> Edited
     let mut marks = held.marks;
     let used = within(held.used, &file);
     let answer = repair_with(
+        Form::EditLine,
         inside_out,
         &file[..used],
         &mut marks,

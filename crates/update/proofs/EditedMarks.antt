@@ -8,9 +8,8 @@ use Rattle.reach.specs.Sizes.{nodeSpan}
 use Rattle.reach.specs.Configurations.{number, none-set}
 use Rattle.reach.specs.Reachable.{Derivable, Any}
 use Rattle.reach.specs.Marks.{Marked, Shows, ClosedBut, freshMarks}
-use Rattle.reach.proofs.Growing.{Grown, AtNode, node-spanned, grown-closed, grown-marks}
+use Rattle.reach.proofs.Growing.{node-spanned}
 use Rattle.prune.specs.Pruning.{Kept}
-use Rattle.prune.proofs.Theorems.{kept-fresh}
 use Rattle.edit.specs.Edits.{edgeOfStep, relabelled}
 use Rattle.edit.specs.Editing.{without, inserted, withEdges, editedProgram, Applies}
 use Rattle.edit.specs.declared.Step.{Step}
@@ -19,66 +18,51 @@ use Rattle.edit.specs.declared.Edit.the-variants.{Add, Drop, Replace}
 use Rattle.edit.proofs.Theorems.{applied-well-formed, added-is, dropped-is, replaced-is, drop-applies, add-applies}
 use Rattle.update.specs.Parts.{Keeps, Repaired}
 use Rattle.update.proofs.EditedSteps.{add-grown, drop-within, drop-initial}
+use Rattle.update.proofs.ChangedMarks.{grown-but, grown-own, kept-own}
+
+module _ (s : Step) (p p′ : Program) where
+  is-added : p′ ≡ withEdges p (inserted (edgeOfStep s) (p .edges)) → p′ ≡ editedProgram (Add s) p
+  is-added e = e ∙ sym (added-is s p)
+
+  pub is-dropped : p′ ≡ withEdges p (without (edgeOfStep s) (p .edges)) → p′ ≡ editedProgram (Drop s) p
+  is-dropped e = e ∙ sym (dropped-is s p)
 
 module _ (s : Step) (p p′ : Program) (w : WellFormed p) where
   module _ (a : Applies (Add s) p) (e : p′ ≡ withEdges p (inserted (edgeOfStep s) (p .edges))) where
-    is-added : p′ ≡ editedProgram (Add s) p
-    is-added = e ∙ sym (added-is s p)
-
     pub added-well-formed : WellFormed p′
-    added-well-formed = subst WellFormed (sym is-added) (applied-well-formed (Add s) p w a)
-
-    added-grown : Grown p p′ (AtNode (s .routine) (s .source))
-    added-grown = subst (λ (x : Program). Grown p x (AtNode (s .routine) (s .source))) (sym is-added) (add-grown s p w)
+    added-well-formed = subst WellFormed (sym (is-added s p p′ e)) (applied-well-formed (Add s) p w a)
 
     module _ {old : List ℕ} (o : old ≡ freshMarks p) where
       -- what is marked is closed but for the configurations at the source of the new step
       pub added-closed : ClosedBut p′ (number (s .routine) (s .source) 0 0) (number (s .routine) (s .source) 0 0 + nodeSpan) old
-      added-closed = rw o (grown-closed p p′ added-grown (node-spanned (s .routine) (s .source)))
+      added-closed = grown-but p _ p′ (add-grown s p w) (is-added s p p′ e) o (node-spanned (s .routine) (s .source))
 
-      pub added : {marks work : List ℕ} → Shows (Derivable p′ (Marked old) Any) marks × (work ≡ none-set) → Repaired (Add s) p p′ marks work
-      added {marks} h =
-          record {
-            is-edited = is-added;
-            own = grown-marks p p′ added-grown added-well-formed
-                (subst (λ (l : List ℕ). Shows (Derivable p′ (Marked l) Any) marks) o (h .0));
-            clear = h .1;
-          }
+      pub added : {marks work : List ℕ} → Shows (Derivable p′ (Marked old) Any) marks × (work ≡ none-set) → Repaired (editedProgram (Add s) p) p′ marks work
+      added h = grown-own p _ p′ (add-grown s p w) (is-added s p p′ e) o (applied-well-formed (Add s) p w a) h
 
-  module _ (a : Applies (Drop s) p) (e : p′ ≡ withEdges p (without (edgeOfStep s) (p .edges))) where
-    is-dropped : p′ ≡ editedProgram (Drop s) p
-    is-dropped = e ∙ sym (dropped-is s p)
+  module _ (a : Applies (Drop s) p) where
+    module _ (e : p′ ≡ withEdges p (without (edgeOfStep s) (p .edges))) where
+      pub dropped-well-formed : WellFormed p′
+      dropped-well-formed = subst WellFormed (sym (is-dropped s p p′ e)) (applied-well-formed (Drop s) p w a)
 
-    pub dropped-well-formed : WellFormed p′
-    dropped-well-formed = subst WellFormed (sym is-dropped) (applied-well-formed (Drop s) p w a)
+      pub keeps : {old marks work : List ℕ} → Shows (Kept p′ old) marks × (work ≡ none-set) → Keeps (editedProgram (Drop s) p) p′ old marks work
+      keeps h = record { is-wanted = is-dropped s p p′ e; kept = h .0; clear = h .1 }
 
-    pub keeps : {old marks work : List ℕ} → Shows (Kept p′ old) marks × (work ≡ none-set) → Keeps s p p′ old marks work
-    keeps h = record { is-edited = is-dropped; kept = h .0; clear = h .1 }
-
-  -- what is kept of the program's own marks is the edited program's own
-  pub dropped : Applies (Drop s) p → {old marks work : List ℕ} → old ≡ freshMarks p → Keeps s p p′ old marks work → Repaired (Drop s) p p′ marks work
-  dropped a {old} {marks} {work} o k =
-      record {
-        is-edited = k .is-edited;
-        own = rw (k .is-edited) (kept-fresh (editedProgram (Drop s) p) p (applied-well-formed (Drop s) p w a) w (drop-within s p w) (drop-initial s p w) marks shows);
-        clear = k .clear;
-      }
-    where
-      shows : Shows (Kept (editedProgram (Drop s) p) (freshMarks p)) marks
-      shows = subst (λ (x : Program). Shows (Kept x (freshMarks p)) marks) (k .is-edited) (subst (λ (l : List ℕ). Shows (Kept p′ l) marks) o (k .kept))
+    pub dropped : {old marks work : List ℕ} → old ≡ freshMarks p → Keeps (editedProgram (Drop s) p) p′ old marks work → Repaired (editedProgram (Drop s) p) p′ marks work
+    dropped o k = kept-own p _ p′ w (applied-well-formed (Drop s) p w a) (drop-within s p w) (drop-initial s p w) o k
 
 -- a replace is the drop and then the add
-module _ (s : Step) (l : Label) (p d p′ : Program) (w : WellFormed p) (a : Applies (Replace s l) p) {m k : List ℕ} (x : Repaired (Drop s) p d m k) where
+module _ (s : Step) (l : Label) (p d p′ : Program) (w : WellFormed p) (a : Applies (Replace s l) p) {m k : List ℕ} (x : Repaired (editedProgram (Drop s) p) d m k) where
   pub between-well-formed : WellFormed d
-  between-well-formed = subst WellFormed (sym (x .is-edited)) (applied-well-formed (Drop s) p w (drop-applies s l p a))
+  between-well-formed = subst WellFormed (sym (x .is-wanted)) (applied-well-formed (Drop s) p w (drop-applies s l p a))
 
   pub between-applies : Applies (Add (relabelled s l)) d
-  between-applies = subst (Applies (Add (relabelled s l))) (sym (x .is-edited)) (add-applies s l p w a)
+  between-applies = subst (Applies (Add (relabelled s l))) (sym (x .is-wanted)) (add-applies s l p w a)
 
-  pub replaced : {marks work : List ℕ} → Repaired (Add (relabelled s l)) d p′ marks work → Repaired (Replace s l) p p′ marks work
+  pub replaced : {marks work : List ℕ} → Repaired (editedProgram (Add (relabelled s l)) d) p′ marks work → Repaired (editedProgram (Replace s l) p) p′ marks work
   replaced y =
       record {
-        is-edited = y .is-edited ∙ ap (editedProgram (Add (relabelled s l))) (x .is-edited) ∙ sym (replaced-is s l p);
+        is-wanted = y .is-wanted ∙ ap (editedProgram (Add (relabelled s l))) (x .is-wanted) ∙ sym (replaced-is s l p);
         own = y .own;
         clear = y .clear;
       }

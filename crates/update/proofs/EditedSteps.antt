@@ -22,6 +22,7 @@ use Rattle.edit.specs.declared.Step as edit
 use Rattle.edit.specs.declared.Edit.{Edit}
 use Rattle.edit.specs.declared.Edit.the-variants.{Add, Drop, Replace}
 use Rattle.edit.proofs.EditsWellFormed.{same-equal}
+use Rattle.edit.proofs.EdgesRemaining.{remaining, without-remaining}
 use Rattle.edit.proofs.Theorems.{applied-well-formed}
 
 -- the same first element, and then more
@@ -54,24 +55,33 @@ module _ {A : Type 0} (f : Edge → A) {x : A} (e : Edge) where
       go true m k = first (λ h. inl h) (λ m. inr m) m
       go false m k = first (λ h. inr (List·Memᴰ·head h)) (λ m. elim (k m) [ inl h ↦ inl h | inr m ↦ inr (List·Memᴰ·tail m) ]) m
 
-  pub without-in : (es : List Edge) → List·Memᴰ x (map f (without e es)) → List·Memᴰ x (map f es)
-  unfolding without
-  without-in [] m = m
-  without-in (d ∷ ds) m = go (sameEdge e d) m (without-in ds)
+-- where all edges that meet a test are dropped, none is there that was not, and every other one is
+module _ {A : Type 0} (f : Edge → A) {x : A} (t : Edge → Bool) where
+  pub remaining-in : (es : List Edge) → List·Memᴰ x (map f (remaining t es)) → List·Memᴰ x (map f es)
+  unfolding remaining
+  remaining-in [] m = m
+  remaining-in (d ∷ ds) m = go (t d) m (remaining-in ds)
     where
-      go : (t : Bool) → List·Memᴰ x (map f (cond t (without e ds) (d ∷ without e ds))) → (List·Memᴰ x (map f (without e ds)) → List·Memᴰ x (map f ds))
+      go : (b : Bool) → List·Memᴰ x (map f (cond b (remaining t ds) (d ∷ remaining t ds))) → (List·Memᴰ x (map f (remaining t ds)) → List·Memᴰ x (map f ds))
           → List·Memᴰ x (map f (d ∷ ds))
       go true m k = List·Memᴰ·tail (k m)
       go false m k = behind k m
 
-  pub in-without : (x ≡ f e → ⊥) → (es : List Edge) → List·Memᴰ x (map f es) → List·Memᴰ x (map f (without e es))
-  unfolding without
-  in-without n [] m = m
-  in-without n (d ∷ ds) m = go (sameEdge e d) refl (in-without n ds)
+  pub in-remaining : ((d : Edge) → t d ≡ true → x ≡ f d → ⊥) → (es : List Edge) → List·Memᴰ x (map f es) → List·Memᴰ x (map f (remaining t es))
+  unfolding remaining
+  in-remaining n [] m = m
+  in-remaining n (d ∷ ds) m = go (t d) refl (in-remaining n ds)
     where
-      go : (t : Bool) → sameEdge e d ≡ t → (List·Memᴰ x (map f ds) → List·Memᴰ x (map f (without e ds))) → List·Memᴰ x (map f (cond t (without e ds) (d ∷ without e ds)))
-      go true s k = first (λ h. absurd (n (h ∙ ap f (sym (same-equal e d s))))) k m
+      go : (b : Bool) → t d ≡ b → (List·Memᴰ x (map f ds) → List·Memᴰ x (map f (remaining t ds))) → List·Memᴰ x (map f (cond b (remaining t ds) (d ∷ remaining t ds)))
+      go true s k = first (λ h. absurd (n d s h)) k m
       go false s k = behind k m
+
+module _ {A : Type 0} (f : Edge → A) {x : A} (e : Edge) where
+  pub without-in : (es : List Edge) → List·Memᴰ x (map f (without e es)) → List·Memᴰ x (map f es)
+  without-in es m = remaining-in f (sameEdge e) es (rw (without-remaining e es) at m)
+
+  pub in-without : (x ≡ f e → ⊥) → (es : List Edge) → List·Memᴰ x (map f es) → List·Memᴰ x (map f (without e es))
+  in-without n es m = rw (without-remaining e es) (in-remaining f (sameEdge e) (λ d s h. n (h ∙ ap f (sym (same-equal e d s)))) es m)
 
 -- the new one is there
 pub new-inserted : {A : Type 0} (f : Edge → A) (e : Edge) (es : List Edge) → List·Memᴰ (f e) (map f (inserted e es))

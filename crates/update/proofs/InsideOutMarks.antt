@@ -1,6 +1,6 @@
 -- The inside-out repair of the marks, by what the functions below promise.
 use mathlib.Core.Path.{_≡_, refl, sym, ap, subst, _∙_}
-use mathlib.Core.Logic.{inl, inr, _↔_, _≢_}
+use mathlib.Core.Logic.{_⊎_, inl, inr, _↔_, _≢_}
 use mathlib.Core.Bool.{Bool, true, false, true≢false, not, _&&_}
 use mathlib.Core.List.{List, [], _++_, append-nil}
 use Prim.Native.Nat.{ℕ, _+_, _/_, _≤_, _<_}
@@ -22,12 +22,13 @@ use Rattle.reach.proofs.AnalysisExact.{analysis-exact}
 use Rattle.callgraph.specs.Components.{Reanalyzed, Gained}
 use Rattle.components.specs.TurnParts.{DropOf}
 use Rattle.callgraph.specs.Parts.{Joined}
-use Rattle.edit.specs.Edits.{edgeOfStep, relabelled}
-use Rattle.edit.specs.Editing.{without, withEdges, editedProgram, Applies}
+use Rattle.edit.specs.Edits.{relabelled}
+use Rattle.edit.specs.Editing.{editedProgram, Applies}
 use Rattle.edit.specs.declared.Step.{Step}
 use Rattle.edit.specs.declared.Label.{Label}
-use Rattle.edit.specs.declared.Edit.{Edit}
 use Rattle.edit.specs.declared.Edit.the-variants.{Add, Drop, Replace}
+use Rattle.exchange.specs.Changes.{Exchange, step, whole}
+use Rattle.exchange.specs.Changing.{emptied, exchangedProgram}
 use Rattle.edit.proofs.Theorems.{applied-well-formed, dropped-is, replaced-is}
 use Rattle.update.specs.Parts.{Repaired, FlagsOf, MarkedMore, Told}
 use Rattle.update.specs.Reanalyzed.{ReanalyzedBy}
@@ -182,17 +183,9 @@ module _ (p p′ : Program) (w : WellFormed p) (w′ : WellFormed p′) where
   gained-flags : {flags : List ℕ} → FlagsOf (MarkedMore (freshMarks p) (freshMarks p′)) flags → FlagsOf (Gained p p′) flags
   gained-flags k = record { flag = λ f h. (λ o. more-gained (k .flag f h .0 o), λ x. k .flag f h .1 (gained-more x)) }
 
-module _ (s : Step) (p p′ : Program) (w : WellFormed p) (a : Applies (Add s) p) {old marks work flags : List ℕ} where
-  pub added-flags : old ≡ freshMarks p → Repaired (Add s) p p′ marks work → FlagsOf (MarkedMore old marks) flags → FlagsOf (ReanalyzedBy (Add s) p) flags
-  added-flags o r k = gained-flags p (editedProgram (Add s) p) w (applied-well-formed (Add s) p w a) shown
-    where
-      new : marks ≡ freshMarks (editedProgram (Add s) p)
-      new = r .own ∙ ap freshMarks (r .is-edited)
-
-      shown : FlagsOf (MarkedMore (freshMarks p) (freshMarks (editedProgram (Add s) p))) flags
-      shown =
-          subst (λ (l : List ℕ). FlagsOf (MarkedMore (freshMarks p) l) flags) new
-          (subst (λ (l : List ℕ). FlagsOf (MarkedMore l marks) flags) o k)
+  -- the marks that were repaired after steps were added have more than the copy of the old ones where a configuration is gained
+  pub grown-flags : {p″ : Program} {old marks work flags : List ℕ} → old ≡ freshMarks p → Repaired p′ p″ marks work → FlagsOf (MarkedMore old marks) flags → FlagsOf (Gained p p′) flags
+  grown-flags o r k = gained-flags (rw (o, r .own ∙ ap freshMarks (r .is-wanted)) at k)
 
 -- ---- a drop
 
@@ -201,51 +194,51 @@ pub none-dropped : (p : Program) → WellFormed p → (f : ℕ) → DropOf p p f
 none-dropped p w f =
     record { old-well-formed = w; well-formed = w; automaton = refl; steps = λ h. h; others = λ n h. h }
 
-module _ (s : Step) (p : Program) (w : WellFormed p) (a : Applies (Drop s) p) where
-  drop-is : DropOf p (editedProgram (Drop s) p) (s .routine)
-  drop-is =
-      record {
-        old-well-formed = w;
-        well-formed = applied-well-formed (Drop s) p w a;
-        automaton = ap (λ (x : Program). x .automaton) (dropped-is s p);
-        steps = λ h. drop-within s p w .steps h;
-        others = λ ne h. other-steps (Drop s) p ne h;
-      }
+module _ (p wanted p′ : Program) (f : ℕ) (e : p′ ≡ wanted) where
+  pub drop-of : DropOf p wanted f → DropOf p p′ f
+  drop-of d = subst (λ (x : Program). DropOf p x f) (sym e) d
 
-  module _ (p′ : Program) (e : p′ ≡ withEdges p (without (edgeOfStep s) (p .edges))) where
-    is-edited : p′ ≡ editedProgram (Drop s) p
-    is-edited = e ∙ sym (dropped-is s p)
+  pub dropped-inside-out : {marks work flags : List ℕ}
+      → (marks ≡ freshMarks p′) × (work ≡ none-set) × ((g : ℕ) → g < 16 → (getD flags g 0 ≢ 0) ↔ Reanalyzed p p′ f g)
+      → Repaired wanted p′ marks work × FlagsOf (Reanalyzed p wanted f) flags
+  dropped-inside-out {flags = flags} h =
+      (record { is-wanted = e; own = h .0; clear = h .1 }, subst (λ (x : Program). FlagsOf (Reanalyzed p x f) flags) e (record { flag = h .2 }))
 
-    pub drop-of : DropOf p p′ (s .routine)
-    drop-of = subst (λ (x : Program). DropOf p x (s .routine)) (sym is-edited) drop-is
+pub step-drop : (s : Step) (p : Program) → WellFormed p → Applies (Drop s) p → DropOf p (editedProgram (Drop s) p) (s .routine)
+step-drop s p w a =
+    record {
+      old-well-formed = w;
+      well-formed = applied-well-formed (Drop s) p w a;
+      automaton = ap (λ (x : Program). x .automaton) (dropped-is s p);
+      steps = λ h. drop-within s p w .steps h;
+      others = λ ne h. other-steps (Drop s) p ne h;
+    }
 
-    pub dropped-inside-out : {marks work flags : List ℕ}
-        → (marks ≡ freshMarks p′) × (work ≡ none-set) × ((f : ℕ) → f < 16 → (getD flags f 0 ≢ 0) ↔ Reanalyzed p p′ (s .routine) f)
-        → Repaired (Drop s) p p′ marks work × FlagsOf (ReanalyzedBy (Drop s) p) flags
-    dropped-inside-out {marks} {work} {flags} h =
-        (record { is-edited = is-edited; own = h .0; clear = h .1 }, subst (λ (x : Program). FlagsOf (Reanalyzed p x (s .routine)) flags) is-edited (record { flag = h .2 }))
+-- ---- a drop and then an add
 
--- ---- a replace
+either-flags : {R S : ℕ → Type 0} {a b c : List ℕ} → FlagsOf R a → FlagsOf S b → Joined a b c → FlagsOf (λ f. R f ⊎ S f) c
+either-flags x y j =
+    record {
+      flag = λ f h. (
+        λ o. elim (j .joined f h .0 o) [ inl m ↦ inl (x .flag f h .0 m) | inr m ↦ inr (y .flag f h .0 m) ],
+        λ o. j .joined f h .1 (elim o [ inl m ↦ inl (x .flag f h .1 m) | inr m ↦ inr (y .flag f h .1 m) ]),
+      );
+    }
 
 module _ (s : Step) (l : Label) (p d : Program) {a b c : List ℕ} where
-  pub replaced-flags : d ≡ editedProgram (Drop s) p → FlagsOf (ReanalyzedBy (Drop s) p) a → FlagsOf (ReanalyzedBy (Add (relabelled s l)) d) b → Joined a b c
-      → FlagsOf (ReanalyzedBy (Replace s l) p) c
-  replaced-flags e x y j =
-      record {
-        flag = λ f h. (
-          λ o. elim (j .joined f h .0 o) [ inl m ↦ inl (x .flag f h .0 m) | inr m ↦ inr (after f .0 (y .flag f h .0 m)) ],
-          λ o. j .joined f h .1 (elim o [ inl m ↦ inl (x .flag f h .1 m) | inr m ↦ inr (y .flag f h .1 (after f .1 m)) ]),
-        );
-      }
-    where
-      after : (f : ℕ) → Gained d (editedProgram (Add (relabelled s l)) d) f ↔ Gained (editedProgram (Drop s) p) (editedProgram (Replace s l) p) f
-      after f = rw (e, replaced-is s l p) (λ g. g, λ g. g)
+  pub replaced-flags : d ≡ editedProgram (Drop s) p → FlagsOf (ReanalyzedBy (step (Drop s)) p) a → FlagsOf (ReanalyzedBy (step (Add (relabelled s l))) d) b → Joined a b c
+      → FlagsOf (ReanalyzedBy (step (Replace s l)) p) c
+  replaced-flags e x y j = either-flags x (rw (replaced-is s l p) (rw e at y)) j
+
+pub exchanged-flags : (x : Exchange) (p : Program) {a b c : List ℕ} → FlagsOf (Reanalyzed p (emptied (x .routine) p) (x .routine)) a
+    → FlagsOf (Gained (emptied (x .routine) p) (exchangedProgram x p)) b → Joined a b c → FlagsOf (ReanalyzedBy (whole x) p) c
+exchanged-flags x p y z j = either-flags y z j
 
 -- ---- what is told
 
-module _ (e : Edit) (p : Program) {inward : Bool} where
-  pub told : inward ≡ true → {flags : List ℕ} → FlagsOf (ReanalyzedBy e p) flags → FlagsOf (Told inward e p) flags
+module _ (R : ℕ → Type 0) {inward : Bool} where
+  pub told : inward ≡ true → {flags : List ℕ} → FlagsOf R flags → FlagsOf (Told inward R) flags
   told i k = record { flag = λ f h. (λ o. (i, k .flag f h .0 o), λ x. k .flag f h .1 (x .1)) }
 
-  pub none-told : inward ≡ false → FlagsOf (Told inward e p) (replicate 16 0)
+  pub none-told : inward ≡ false → FlagsOf (Told inward R) (replicate 16 0)
   none-told i = record { flag = λ f h. (λ o. absurd (o (zeros 16 f)), λ x. absurd (true≢false (sym (x .0) ∙ i))) }

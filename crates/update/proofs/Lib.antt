@@ -1,3 +1,6 @@
 pub mod EditedSteps
+pub mod ExchangedSteps
+pub mod ChangedMarks
 pub mod EditedMarks
+pub mod ExchangedMarks
 pub mod InsideOutMarks

@@ -9,23 +9,18 @@ use Rattle.program.specs.Program.{Program}
 use Rattle.reach.specs.Configurations.{none-set}
 use Rattle.reach.specs.Marks.{Marked, Shows, freshMarks}
 use Rattle.prune.specs.Pruning.{Kept}
-use Rattle.edit.specs.Editing.{editedProgram}
-use Rattle.edit.specs.declared.Step.{Step}
-use Rattle.edit.specs.declared.Edit.{Edit}
-use Rattle.edit.specs.declared.Edit.the-variants.{Drop}
-use Rattle.update.specs.Reanalyzed.{ReanalyzedBy}
 
--- the program is the edited one, the marks are its own, and the working buffer is all zero
-pub record Repaired (e : Edit) (p p′ : Program) (marks work : List ℕ) : Type 0 where
-  pub is-edited : p′ ≡ editedProgram e p
-  pub own : marks ≡ freshMarks p′
+-- the program is the wanted one, the marks are its own, and the working buffer is all zero
+pub record Repaired (wanted p : Program) (marks work : List ℕ) : Type 0 where
+  pub is-wanted : p ≡ wanted
+  pub own : marks ≡ freshMarks p
   pub clear : work ≡ none-set
 
--- the program is the one without the step, the marks are what it keeps of the old ones (paper: the keeping), foreign or
--- not, and the working buffer is all zero
-pub record Keeps (s : Step) (p p′ : Program) (old marks work : List ℕ) : Type 0 where
-  pub is-edited : p′ ≡ editedProgram (Drop s) p
-  pub kept : Shows (Kept p′ old) marks
+-- the program is the wanted one, the marks are what it keeps of the old ones (paper: the keeping), foreign or not, and
+-- the working buffer is all zero
+pub record Keeps (wanted p : Program) (old marks work : List ℕ) : Type 0 where
+  pub is-wanted : p ≡ wanted
+  pub kept : Shows (Kept p old) marks
   pub clear : work ≡ none-set
 
 -- the flags are set exactly at these routines
@@ -41,5 +36,5 @@ pub record MarkedMore (old new : List ℕ) (f : ℕ) : Type 0 where
   pub not-before : ¬ (Marked old f node root state)
 
 -- the routines that are told: by the inside-out repair those that it reanalyzes, by the forward one none
-abbrev pub Told : Bool → Edit → Program → ℕ → Type 0
-Told inward e p f = (inward ≡ true) × ReanalyzedBy e p f
+abbrev pub Told : Bool → (ℕ → Type 0) → ℕ → Type 0
+Told inward R f = (inward ≡ true) × R f

@@ -3,6 +3,7 @@ use Rattle.repair.proofs.InsideOutNumbers.{number-foreign, bits-told}
 use Rattle.reach.proofs.ShapeKept.{none-length}
 use Rattle.analysis.proofs.AnswersByChecks.{accepted-own}
 use Rattle.program.specs.Decoded.{programOf}
+use Rattle.exchange.specs.Decoded.{changeOf}
 use lib.ListN.{length}
 use mathlib.Core.Path.{ap, sym, _∙_}
 use borrow.Author.Needs.{needs}
@@ -29,7 +30,7 @@ write-program-requires : tie.Need-write-program-requires
 write-program-requires c κs =
     let m = mended (c .before) in
     let z = start (own (m .before .before .before)) in
-    let x = room (z .args .e) (programOf (z .args .p)) (z .args .marks .now) (z .args .output .now) (z .pre .0 .0) (z .pre .0 .1) (m .mend .ensures .0) (z .pre .1 .1) in
+    let x = room (changeOf (z .args .c)) (programOf (z .args .p)) (z .args .marks .now) (z .args .output .now) (z .pre .0 .0) (z .pre .0 .1) (m .mend .ensures .0) (z .pre .1 .1) in
     (x .0 .transitions-fit, x .1)
 
 returns : tie.Need-returns
@@ -39,7 +40,7 @@ returns c =
     let p = programOf (z .args .p) in
     let o = b .check-own .ensures in
     let h = sym (o .0) ∙ c .before .own .given .1 in
-    (foreign-answer (z .args .e) p (z .args .marks .now) (z .args .output .now) h (o .1), λ i. number-foreign p (z .args .marks .now) (z .args .e) h)
+    (foreign-answer (changeOf (z .args .c)) p (z .args .marks .now) (z .args .output .now) h (o .1), λ i. number-foreign p (z .args .marks .now) (changeOf (z .args .c)) h)
 
 returns-2 : tie.Need-returns-2
 returns-2 c =
@@ -49,8 +50,8 @@ returns-2 c =
     let z = start (own t) in
     let h = sym (own t .check-own .ensures .0) ∙ t .enum-told .given .1 in
     let r = m .mend .ensures in (
-      own-answer (z .args .e) (programOf (z .args .p)) (z .args .marks .now) (z .args .output .now) h (r .0) (c .before .before .write-program .ensures),
-      λ i. bits-told (z .args .e) (programOf (z .args .p)) i (r .1) (d .bits-of .ensures),
+      own-answer (changeOf (z .args .c)) (programOf (z .args .p)) (z .args .marks .now) (z .args .output .now) h (r .0) (c .before .before .write-program .ensures),
+      λ i. bits-told (changeOf (z .args .c)) (programOf (z .args .p)) i (r .1) (d .bits-of .ensures),
     )
 
 pub repair-own-spec : {M : Type 1} → statement M

@@ -1,6 +1,5 @@
 -- `update::mend` meets its contract.
 use Rattle.update.proofs.InsideOutMarks.{told, none-told}
-use Rattle.program.specs.Decoded.{programOf}
 use borrow.Author.Needs.{needs}
 use Rattle.update.proofs.mend.Statement.{statement}
 use Rattle.update.proofs.mend.Tie as tie
@@ -8,17 +7,13 @@ use Rattle.update.proofs.mend.Tie as tie
 returns : tie.Need-returns
 returns c =
     let b = c .before .before .before .before in
-    let asked = b .before .before .before in
-    let z = asked .before .before .before in
     let r = b .rework-marks .ensures in
-    (r .0, told (z .args .e) (programOf (z .args .p)) (asked .if1 .taken) (r .1))
+    (r .0, told _ (b .before .before .before .if1 .taken) (r .1))
 
 returns-2 : tie.Need-returns-2
 returns-2 c =
     let b = c .before .before .before .before in
-    let asked = b .before .before .before in
-    let z = asked .before .before .before in
-    (b .repair-marks .ensures, none-told (z .args .e) (programOf (z .args .p)) (asked .if1 .left))
+    (b .repair-marks .ensures, none-told _ (b .before .before .before .if1 .left))
 
 pub mend-spec : {M : Type 1} → statement M
 mend-spec =

@@ -1,5 +1,7 @@
 -- `update::inside_out::add_step_inside_out` meets its contract.
-use Rattle.update.proofs.InsideOutMarks.{copied-fresh, added-flags}
+use Rattle.update.proofs.InsideOutMarks.{copied-fresh, grown-flags}
+use Rattle.edit.proofs.Theorems.{applied-well-formed}
+use Rattle.edit.specs.declared.Edit.the-variants.{Add}
 use Rattle.reach.proofs.ShapeKept.{marks-length}
 use Rattle.program.specs.Decoded.{programOf}
 use lib.ListN.{length}
@@ -26,7 +28,7 @@ returns c =
     let p = programOf (z .args .p) in
     let r = c .before .before .before .before .before .before .before .add-step .ensures in
     let o = copied-fresh p (z .args .marks .now) (z .pre .1 .0) (c .before .before .before .before .before .before .before .before .before .before .before .copy .ensures .1) in
-    (r, added-flags (z .args .s) p _ (z .pre .0 .0) (z .pre .0 .1) o r (c .gained .ensures))
+    (r, grown-flags p _ (z .pre .0 .0) (applied-well-formed (Add (z .args .s)) p (z .pre .0 .0) (z .pre .0 .1)) o r (c .gained .ensures))
 
 pub add-step-inside-out-spec : {M : Type 1} → statement M
 add-step-inside-out-spec =

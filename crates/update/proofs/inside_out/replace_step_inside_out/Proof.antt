@@ -29,7 +29,7 @@ returns c =
     let p = programOf (z .args .p) in
     let x = c .before .before .before .before .before .before .before .before .before .before .before .before .before .before .drop-step-inside-out .ensures in
     let y = rw (c .before .before .before .before .before .before .before .before .before .relabelled .ensures) at (c .before .before .before .before .before .before .add-step-inside-out .ensures) in
-    (replaced (z .args .s) (z .args .l) p _ _ (z .pre .0 .0) (z .pre .0 .1) (x .0) (y .0), replaced-flags (z .args .s) (z .args .l) p _ (x .0 .is-edited) (x .1) (y .1) (c .before .either .ensures))
+    (replaced (z .args .s) (z .args .l) p _ _ (z .pre .0 .0) (z .pre .0 .1) (x .0) (y .0), replaced-flags (z .args .s) (z .args .l) p _ (x .0 .is-wanted) (x .1) (y .1) (c .before .either .ensures))
 
 pub replace-step-inside-out-spec : {M : Type 1} → statement M
 replace-step-inside-out-spec =

@@ -1,27 +1,24 @@
-use Rattle.desk.proofs.BackByParts.{same-back, same-size}
+use Rattle.desk.proofs.BackByParts.{same-repair}
 use Rattle.desk.proofs.NumbersFit.{repair-fits}
 use Rattle.repair.specs.Repairs.{After}
 use mathlib.Core.Path.{ap, _∙_}
 use borrow.Author.Needs.{needs}
-use Rattle.desk.proofs.palthrenni_repair_inside_out.Statement.{statement}
-use Rattle.desk.proofs.palthrenni_repair_inside_out.Tie as tie
+use Rattle.desk.proofs.inside_out_for_c.Statement.{statement}
+use Rattle.desk.proofs.inside_out_for_c.Tie as tie
 
 write-numbers-requires : tie.Need-write-numbers-requires
 write-numbers-requires c κs =
     let x = c .before .before .before .before .before .before .before .repair-inside-out .ensures .0 in
-    rw (c .without-routines .ensures ∙ ap (λ (a : After). a .answer) x) (repair-fits _ _ _ _ _)
+    rw (c .without-routines .ensures ∙ ap (λ (a : After). a .answer) x) (repair-fits _ _ _ _ _ _)
 
 returns : tie.Need-returns
 returns c =
     let x = c .before .before .before .before .before .before .before .before .before .repair-inside-out .ensures in
     let k = rw (c .before .before .without-routines .ensures) at (c .before .write-numbers .ensures) in
-    let n = rw (ap (λ (a : After). a .answer) (x .0)) at k in (
-      same-back (n .0) (n .1) (same-size _ (n .2)) (ap (λ (a : After). a .marks) (x .0)) (ap (λ (a : After). a .output) (x .0)) (ap (λ (a : After). a .work) (x .0)),
-      rw (k .0, c .reanalyzed-of .ensures) (x .1),
-    )
+    (same-repair _ (x .0) k, rw (k .0, c .reanalyzed-of .ensures) (x .1))
 
-pub palthrenni-repair-inside-out-spec : {M : Type 1} → statement M
-palthrenni-repair-inside-out-spec =
+pub inside-out-for-c-spec : {M : Type 1} → statement M
+inside-out-for-c-spec =
     tie.close
     (tie.spec (λ c κs. search needs) (λ c κs. search needs) write-numbers-requires (λ c κs. search needs)
     (λ c. search needs) (λ c. search needs) (λ c. search needs) returns)
