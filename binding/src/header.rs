@@ -74,4 +74,33 @@ extern "C" {
         written: *mut u32,
         reanalyzed: *mut u32,
     ) -> u32;
+    pub fn palthrenni_exchange_forward(
+        file: *const u8,
+        file_len: usize,
+        marks: *mut u8,
+        marks_len: usize,
+        text: *const u8,
+        text_len: usize,
+        output: *mut u8,
+        output_len: usize,
+        work: *mut u8,
+        work_len: usize,
+        line: *mut u32,
+        written: *mut u32,
+    ) -> u32;
+    pub fn palthrenni_exchange_inside_out(
+        file: *const u8,
+        file_len: usize,
+        marks: *mut u8,
+        marks_len: usize,
+        text: *const u8,
+        text_len: usize,
+        output: *mut u8,
+        output_len: usize,
+        work: *mut u8,
+        work_len: usize,
+        line: *mut u32,
+        written: *mut u32,
+        reanalyzed: *mut u32,
+    ) -> u32;
 }

@@ -128,3 +128,23 @@ pub fn repair_inside_out(
 ) -> Answer<2> {
     answer!(palthrenni_repair_inside_out(file, marks, edit, output, work;; written, reanalyzed))
 }
+
+pub fn exchange_forward(
+    file: Option<&[u8]>,
+    marks: Option<&mut [u8]>,
+    text: Option<&[u8]>,
+    output: Option<&mut [u8]>,
+    work: Option<&mut [u8]>,
+) -> Answer<1> {
+    answer!(palthrenni_exchange_forward(file, marks, text, output, work;; written))
+}
+
+pub fn exchange_inside_out(
+    file: Option<&[u8]>,
+    marks: Option<&mut [u8]>,
+    text: Option<&[u8]>,
+    output: Option<&mut [u8]>,
+    work: Option<&mut [u8]>,
+) -> Answer<2> {
+    answer!(palthrenni_exchange_inside_out(file, marks, text, output, work;; written, reanalyzed))
+}

@@ -14,7 +14,7 @@ use reference::generate::programs::program_of_shape;
 use reference::generate::random::Random;
 use reference::generate::shapes::Shape;
 use reference::generate::tables::complete_file;
-use reference::model::calls::repairs::Repair::{Forward, InsideOut};
+use reference::model::calls::repairs::Function::{RepairForward, RepairInsideOut};
 use reference::model::edit::Edit;
 use reference::model::refusals::{FOREIGN_SHEET, OUTPUT_SHORT, PAIR_MET_TWICE, PAIR_NOT_MET};
 use reference::model::write::write;
@@ -31,7 +31,7 @@ fn single_repairs_of_many_seeds_agree() {
     let mut tally = Tally::default();
     for seed in 0..SINGLE_SEEDS {
         let files = &trial::IN_LINES;
-        trial::single_calls(!seed, CALLS_A_SEED, &[InsideOut], files, &mut tally);
+        trial::single_calls(!seed, CALLS_A_SEED, &[RepairInsideOut], files, &mut tally);
     }
     println!("single inside-out repairs: {tally:?}");
     tally.met.check(0..=FOREIGN_SHEET, OFTEN);
@@ -44,7 +44,7 @@ fn single_repairs_of_files_with_rows_agree() {
     let mut tally = Tally::default();
     for seed in 0..ROW_SEEDS {
         let files = &trial::IN_ROWS;
-        trial::single_calls(!seed, CALLS_A_SEED, &[InsideOut], files, &mut tally);
+        trial::single_calls(!seed, CALLS_A_SEED, &[RepairInsideOut], files, &mut tally);
     }
     println!("single inside-out repairs of files with rows: {tally:?}");
     let refusals = (0..=FOREIGN_SHEET).chain([PAIR_NOT_MET, PAIR_MET_TWICE]);
@@ -68,12 +68,12 @@ fn lists_of_both_repairs_agree_with_the_book() {
             (2, Shape::Mixed),
             (2, Shape::Crowded),
         ],
-        repairs: &[
-            &[InsideOut],
-            &[InsideOut, Forward],
-            &[InsideOut, InsideOut, Forward],
+        functions: &[
+            &[RepairInsideOut],
+            &[RepairInsideOut, RepairForward],
+            &[RepairInsideOut, RepairInsideOut, RepairForward],
         ],
-        large: &[InsideOut, Forward],
+        large: &[RepairInsideOut, RepairForward],
     };
     lists::compare_lists(&plan, &mut tally);
     println!("lists of both repairs: {tally:?}");
@@ -100,8 +100,12 @@ fn lists_that_begin_with_rows_agree_with_the_book() {
             (1, Shape::Mixed),
             (2, Shape::Crowded),
         ],
-        repairs: &[&[Forward], &[InsideOut], &[InsideOut, Forward]],
-        large: &[InsideOut, Forward],
+        functions: &[
+            &[RepairForward],
+            &[RepairInsideOut],
+            &[RepairInsideOut, RepairForward],
+        ],
+        large: &[RepairInsideOut, RepairForward],
     };
     lists::compare_lists(&plan, &mut tally);
     println!("lists that begin with rows: {tally:?}");
@@ -130,7 +134,7 @@ fn every_drop_of_small_programs_agrees() {
         for &step in &program.steps {
             let name = format!("seed {seed}, {step:?}");
             let line = Edit::Drop(step).line();
-            trial::compare_line(&name, InsideOut, &program, &line, random, &mut tally);
+            trial::compare_text(&name, RepairInsideOut, &program, &line, random, &mut tally);
         }
     }
     println!("drops: {tally:?}");
@@ -144,19 +148,19 @@ fn every_drop_of_small_programs_agrees() {
 
 #[test]
 fn repairs_worked_out_by_hand() {
-    trial::worked_out(InsideOut);
+    trial::worked_out(RepairInsideOut);
 }
 
 #[test]
 fn repairs_of_a_file_with_rows_worked_out_by_hand() {
-    trial::worked_out_from_rows(InsideOut);
+    trial::worked_out_from_rows(RepairInsideOut);
 }
 
 #[test]
 fn reopening_stops_where_pairs_stay() {
     let (program, drops) = cases::repairs::reopenings();
     for (line, reopened) in drops {
-        let (answer, ..) = trial::repaired(InsideOut, &program, line);
+        let (answer, ..) = trial::repaired(RepairInsideOut, &program, line);
         let given = (answer.refusal, answer.value.reopened);
         assert_eq!(given, (0, reopened), "{}", line.escape_ascii());
     }
@@ -164,10 +168,10 @@ fn reopening_stops_where_pairs_stay() {
 
 #[test]
 fn named_edits_agree_with_the_answers_worked_out_by_hand() {
-    trial::named_edits(InsideOut);
+    trial::named_texts(RepairInsideOut);
 }
 
 #[test]
 fn buffers_of_no_bytes_may_be_null() {
-    trial::no_bytes(InsideOut);
+    trial::no_bytes(RepairInsideOut);
 }

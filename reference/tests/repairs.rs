@@ -14,7 +14,7 @@ use reference::generate::programs::program_of_shape;
 use reference::generate::random::Random;
 use reference::generate::shapes::Shape;
 use reference::model::analysis::own_sheet;
-use reference::model::calls::repairs::Repair::Forward;
+use reference::model::calls::repairs::Function::RepairForward;
 use reference::model::file::read;
 use reference::model::kinds::DROP;
 use reference::model::lines::starts_with_kind;
@@ -34,7 +34,7 @@ fn single_repairs_of_many_seeds_agree() {
     let mut tally = Tally::default();
     for seed in 0..SINGLE_SEEDS {
         let files = &trial::IN_LINES;
-        trial::single_calls(seed, CALLS_A_SEED, &[Forward], files, &mut tally);
+        trial::single_calls(seed, CALLS_A_SEED, &[RepairForward], files, &mut tally);
     }
     println!("single forward repairs: {tally:?}");
     tally.met.check(0..=FOREIGN_SHEET, OFTEN);
@@ -47,7 +47,7 @@ fn single_repairs_of_files_with_rows_agree() {
     let mut tally = Tally::default();
     for seed in 0..ROW_SEEDS {
         let files = &trial::IN_ROWS;
-        trial::single_calls(seed, CALLS_A_SEED, &[Forward], files, &mut tally);
+        trial::single_calls(seed, CALLS_A_SEED, &[RepairForward], files, &mut tally);
     }
     println!("single forward repairs of files with rows: {tally:?}");
     let refusals = (0..=FOREIGN_SHEET).chain([PAIR_NOT_MET, PAIR_MET_TWICE]);
@@ -71,8 +71,8 @@ fn lists_of_many_repairs_agree_with_the_book() {
             (2, Shape::Mixed),
             (2, Shape::Crowded),
         ],
-        repairs: &[&[Forward]],
-        large: &[Forward],
+        functions: &[&[RepairForward]],
+        large: &[RepairForward],
     };
     lists::compare_lists(&plan, &mut tally);
     println!("lists of forward repairs: {tally:?}");
@@ -92,24 +92,31 @@ fn a_list_goes_on_from_the_first_file_while_all_is_refused() {
         "2B00000102\n",
     ] {
         let sample = &sample::program();
-        trial::compare_line(line, Forward, sample, line.as_bytes(), random, &mut tally);
+        trial::compare_text(
+            line,
+            RepairForward,
+            sample,
+            line.as_bytes(),
+            random,
+            &mut tally,
+        );
     }
     tally.met.check((BAD_EDIT..=THERE_ALREADY).chain([0]), 1);
 }
 
 #[test]
 fn repairs_worked_out_by_hand() {
-    trial::worked_out(Forward);
+    trial::worked_out(RepairForward);
 }
 
 #[test]
 fn repairs_of_a_file_with_rows_worked_out_by_hand() {
-    trial::worked_out_from_rows(Forward);
+    trial::worked_out_from_rows(RepairForward);
 }
 
 #[test]
 fn named_edits_agree_with_the_answers_worked_out_by_hand() {
-    trial::named_edits(Forward);
+    trial::named_texts(RepairForward);
 }
 
 /// Every byte of a good line, one at a time, as other bytes, left out, and put in.
@@ -121,7 +128,7 @@ fn an_edit_line_with_any_one_byte_wrong_agrees() {
     let sample = &sample::program();
     for line in [&b"2B01000101\n"[..], b"2D00020101\n", b"3D0000410240\n"] {
         for (name, line) in one_byte_wrong(line, &bytes) {
-            trial::compare_line(name, Forward, sample, &line, random, &mut tally);
+            trial::compare_text(name, RepairForward, sample, &line, random, &mut tally);
         }
     }
     println!("edit lines with a byte wrong: {tally:?}");
@@ -130,7 +137,7 @@ fn an_edit_line_with_any_one_byte_wrong_agrees() {
 
 #[test]
 fn buffers_of_no_bytes_may_be_null() {
-    trial::no_bytes(Forward);
+    trial::no_bytes(RepairForward);
 }
 
 /// A drop by the repair is the keeping with the edited file on the old sheet.
@@ -143,7 +150,7 @@ fn a_forward_drop_is_the_keeping_on_the_old_sheet() {
         if !starts_with_kind(&line, DROP) {
             continue;
         }
-        let (answer, left, file) = trial::repaired(Forward, &before, &line);
+        let (answer, left, file) = trial::repaired(RepairForward, &before, &line);
         if answer.refusal == 0 {
             let after = read(&file).expect("what is written is accepted");
             let kept = desk::kept(&after, &own_sheet(&before));

@@ -6,11 +6,12 @@
 use crate::cases::files::{full_steps, largest};
 use crate::cases::sample;
 
-/// A file that is accepted, a line, and the refusal from 12 to 16 that the line gets; 0 if none.
+/// A file that is accepted, a line or the text of an exchange, and the refusal from 12 to 16, or 21,
+/// that it gets; 0 if none.
 pub struct EditCase {
     pub name: String,
     pub file: Vec<u8>,
-    pub line: Vec<u8>,
+    pub text: Vec<u8>,
     pub refusal: u32,
 }
 
@@ -24,11 +25,17 @@ pub fn all() -> Vec<EditCase> {
     cases
 }
 
-fn of_sample(name: &str, line: &str, refusal: u32) -> EditCase {
+/// A text for the sample.
+pub fn of_sample(name: &str, text: &str, refusal: u32) -> EditCase {
+    case(name, sample::FILE.to_vec(), text, refusal)
+}
+
+/// A text for the program of a file.
+pub fn case(name: &str, file: Vec<u8>, text: impl AsRef<[u8]>, refusal: u32) -> EditCase {
     EditCase {
         name: name.to_string(),
-        file: sample::FILE.to_vec(),
-        line: line.as_bytes().to_vec(),
+        file,
+        text: text.as_ref().to_vec(),
         refusal,
     }
 }
@@ -122,12 +129,6 @@ fn by_what_is_there() -> Vec<EditCase> {
 /// Edits of programs that have 255 and 256 steps: those of main's entry by the labels from 00 on to
 /// every place.
 fn full_tables() -> Vec<EditCase> {
-    let case = |name: &str, file: Vec<u8>, line: &str, refusal| EditCase {
-        name: name.to_string(),
-        file,
-        line: line.as_bytes().to_vec(),
-        refusal,
-    };
     let full = || full_steps(256);
     let almost = || full_steps(255);
     vec![

@@ -4,7 +4,7 @@
 
 use crate::cases::sample::{self, followed_by, inserted, removed, replaced, swapped};
 use crate::cases::tables;
-use crate::model::lines::line_of;
+use crate::model::lines::text_of;
 use crate::model::write::end;
 
 /// A file, and the refusal and line that it has to get; both 0 if it is accepted.
@@ -221,10 +221,6 @@ pub fn with_routines(count: usize) -> Vec<u8> {
     frames.extend((0..count).map(|routine| vec![0x52, routine as u8, 16]));
     frames.push(end(frames.len()));
     text_of(&frames)
-}
-
-pub fn text_of(frames: &[Vec<u8>]) -> Vec<u8> {
-    frames.iter().flat_map(|frame| line_of(frame)).collect()
 }
 
 fn step_ranges() -> Vec<Case> {

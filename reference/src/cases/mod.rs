@@ -3,13 +3,15 @@
 //!
 //! - `sample` is the sample program F and its file with one thing changed, and `small` puts down
 //!   small programs as text.
-//! - `files` has files, and `edits` has edit lines, each with its refusal; `tables` has the files with
-//!   rows, what they are written as, and repairs of one of them.
-//! - `analyses`, `keepings` and `repairs` have what these calls leave.
+//! - `files` has files, `edits` has edit lines, and `exchanges` has texts of exchanges, each with its
+//!   refusal; `tables` has the files with rows, what they are written as, and repairs of one of them.
+//! - `analyses`, `keepings` and `repairs` have what these calls leave; what exchanges leave stands with
+//!   their texts.
 //! - `inputs` has inputs of `bench`.
 
 pub mod analyses;
 pub mod edits;
+pub mod exchanges;
 pub mod files;
 pub mod inputs;
 pub mod keepings;
@@ -17,3 +19,23 @@ pub mod repairs;
 pub mod sample;
 pub mod small;
 pub mod tables;
+
+use crate::cases::edits::EditCase;
+use crate::cases::repairs::RepairCase;
+use crate::model::change::Form;
+
+/// Every named text of a form, with its refusal.
+pub fn named_texts(form: Form) -> Vec<EditCase> {
+    match form {
+        Form::Edit => edits::all(),
+        Form::Exchange => exchanges::texts::all(),
+    }
+}
+
+/// The changes by texts of a form that are worked out by hand.
+pub fn worked_out(form: Form) -> Vec<RepairCase> {
+    match form {
+        Form::Edit => repairs::all(),
+        Form::Exchange => exchanges::results::all(),
+    }
+}

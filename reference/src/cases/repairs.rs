@@ -4,39 +4,40 @@ use crate::cases::sample;
 use crate::cases::small::{after, dropped, program};
 use crate::model::program::Program;
 
-/// An edit line for a program, the refusal that it gets, 0 if none, the numbers that are marked
-/// after it, and the routines that an inside-out repair reopens, bit f for routine f.
+/// An edit line or the text of an exchange for a program, the refusal that it gets, 0 if none, the
+/// numbers that are marked after it, and the routines that an inside-out repair reopens, bit f for
+/// routine f.
 pub struct RepairCase {
     pub name: &'static str,
     pub program: Program,
-    pub line: &'static [u8],
+    pub text: &'static [u8],
     pub refusal: u32,
     pub left: Vec<usize>,
     pub reopened: u32,
 }
 
-fn accepted(
+pub fn accepted(
     name: &'static str,
     program: &Program,
-    line: &'static [u8],
+    text: &'static [u8],
     left: &[usize],
     reopened: u32,
 ) -> RepairCase {
     RepairCase {
         name,
         program: program.clone(),
-        line,
+        text,
         refusal: 0,
         left: left.to_vec(),
         reopened,
     }
 }
 
-fn refused(name: &'static str, line: &'static [u8], refusal: u32) -> RepairCase {
+fn refused(name: &'static str, text: &'static [u8], refusal: u32) -> RepairCase {
     RepairCase {
         name,
         program: sample::program(),
-        line,
+        text,
         refusal,
         left: sample::STANDINGS.to_vec(),
         reopened: 0,

@@ -2,6 +2,7 @@
 //!
 //! A file's classes are read off its lines and off its reading, whatever it was made for.
 
+use crate::generate::met::Times;
 use crate::model::file::Reading;
 use crate::model::kinds::{FRAMES, ROW, RULE, SIZES};
 use crate::model::lines::{lines, numbers_of_kind, numbers_of_line, starts_with_kind};
@@ -13,7 +14,6 @@ use crate::model::refusals::{
 };
 use crate::model::table::{line_of_pair, pairs, Row};
 use crate::model::write::OUTPUT_SIZE;
-use std::collections::BTreeMap;
 
 /// What a file with rows can be like.
 #[derive(Clone, Copy, Debug, PartialEq, Eq, PartialOrd, Ord)]
@@ -107,7 +107,7 @@ const ALL: [Class; 32] = [
 #[derive(Clone, Debug, Default)]
 pub struct MetClasses {
     pub files: usize,
-    times: BTreeMap<Class, usize>,
+    times: Times<Class>,
 }
 
 impl MetClasses {
@@ -118,25 +118,19 @@ impl MetClasses {
             return;
         }
         self.files += 1;
-        let classes = match reading {
+        self.times.note(match reading {
             Ok(program) => accepted(file, program, &rows(&judged)),
             Err(refusal) => refused(file, refusal, &judged),
-        };
-        for class in classes {
-            *self.times.entry(class).or_default() += 1;
-        }
+        });
     }
 
     pub fn times(&self, class: Class) -> usize {
-        self.times.get(&class).copied().unwrap_or(0)
+        self.times.of(class)
     }
 
     /// Each class has to be met so many times at the least.
     pub fn check(&self, least: usize) {
-        for class in ALL {
-            let times = self.times(class);
-            assert!(times >= least, "{class:?} was met {times} times: {self:?}");
-        }
+        self.times.check(ALL, least);
     }
 }
 

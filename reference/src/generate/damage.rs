@@ -74,7 +74,8 @@ fn some_line(random: &mut Random, lines: &Lines) -> Option<usize> {
     Some(of_kind[random.pick(&[0, last, choice])])
 }
 
-fn damage_bytes(random: &mut Random, file: &[u8]) -> Vec<u8> {
+/// Does one damage to the bytes of a text, whatever they say.
+pub fn damage_bytes(random: &mut Random, file: &[u8]) -> Vec<u8> {
     let mut file = file.to_vec();
     let place = random.below(file.len() + 1);
     match random.below(8) {

@@ -8,6 +8,7 @@ use crate::generate::random::Random;
 use crate::model::edit::Edit;
 use crate::model::lines::{line_of, numbers_of_line};
 use crate::model::program::{Label, Program, Step, EXIT, FIRST_CALL};
+use crate::model::ranges::Ranges;
 use crate::model::standing::numbers_at;
 
 /// A line for a program as it is now, with its sheet. What it had at home, before any edit, comes
@@ -76,9 +77,11 @@ fn step_that_acts(random: &mut Random, program: &Program, sheet: &[u8]) -> Step 
     }
 }
 
-/// A step that is there at home and not now.
+/// A step that is there at home and not now, and for which there still are the places.
 fn lost_step(random: &mut Random, home: &Program, now: &Program) -> Option<Step> {
-    let lost: Vec<Step> = home.steps.difference(&now.steps).copied().collect();
+    let ranges = Ranges::of_program(now);
+    let lost = home.steps.difference(&now.steps).copied();
+    let lost: Vec<Step> = lost.filter(|&step| ranges.has_step(step)).collect();
     if lost.is_empty() {
         None
     } else {
@@ -187,24 +190,24 @@ fn out_of_range(random: &mut Random, program: &Program, step: Step) -> Vec<u8> {
         Edit::Replace(step, label),
     ];
     let mut numbers = numbers_of(random.pick(&edits));
-    let routines = program.places.len() as u8;
     let places = program.places[usize::from(step.routine)];
-    let labels = [
-        program.actions,
-        FIRST_CALL + routines,
-        0x20,
-        0x3F,
-        0x50,
-        255,
-    ];
     let at = random.between(1, numbers.len() - 1);
-    numbers[at] = match at {
+    numbers[at] = past_range(random, program, places, at);
+    line_of(&numbers)
+}
+
+/// A number at the end of its range or beyond, for a step of a routine with so many places. After the
+/// kind, a step's line has its routine, a place, a label, a place, and in an edit another label.
+pub fn past_range(random: &mut Random, program: &Program, places: u8, at: usize) -> u8 {
+    let routines = program.routines();
+    let first_past = FIRST_CALL + routines;
+    let labels = [program.actions, first_past, 0x20, 0x3F, 0x50, 255];
+    match at {
         1 => random.pick(&[routines, 16, 255]),
         2 => random.pick(&[EXIT, EXIT, places, 16, 255]),
         4 => random.pick(&[places, 16, 255]),
         _ => random.pick(&labels),
-    };
-    line_of(&numbers)
+    }
 }
 
 fn numbers_of(edit: Edit) -> Vec<u8> {

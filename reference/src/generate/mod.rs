@@ -6,14 +6,17 @@
 //! - `tables` makes files with rows: complete tables, faulty ones, and damaged ones; `row_damage` does
 //!   the damage to rows.
 //! - `programs` makes programs for the analysis, in which much can happen, by plans for the `shapes`.
-//! - `edits` makes edit lines, `sheets` makes sheets, `calls` makes the calls of a list, and `inputs`
-//!   makes inputs of `bench`.
-//! - `met` counts the refusals that they have met, and `classes` the kinds of files with rows.
+//! - `edits` makes edit lines, and `exchanges` makes exchanges and their texts; `text_damage` does the
+//!   damage to these.
+//! - `sheets` makes sheets, `calls` makes the calls of a list, and `inputs` makes inputs of `bench`.
+//! - `met` counts what they have met: refusals, the `classes` of files with rows, and the
+//!   `text_classes` of exchanges.
 
 pub mod calls;
 pub mod classes;
 pub mod damage;
 pub mod edits;
+pub mod exchanges;
 pub mod files;
 pub mod inputs;
 pub mod met;
@@ -23,3 +26,5 @@ pub mod row_damage;
 pub mod shapes;
 pub mod sheets;
 pub mod tables;
+pub mod text_classes;
+pub mod text_damage;

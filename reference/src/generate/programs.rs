@@ -82,6 +82,15 @@ fn steps(random: &mut Random, plan: &Plan, places: &[u8]) -> BTreeSet<Step> {
     })
 }
 
+/// The steps of one routine: first those that reach its places, then others, up to the planned count.
+pub fn routine(random: &mut Random, plan: &Plan, routine: usize, places: u8) -> BTreeSet<Step> {
+    let ends = random.percent(plan.return_in_a_hundred);
+    let needed = trail(random, plan, routine, places, ends);
+    random.filled(needed.into_iter().collect(), plan.steps, |random| {
+        other_step(random, plan, routine, places, ends)
+    })
+}
+
 /// Steps that lead from the entry to every other place, the exit only where the routine ends.
 fn trail(random: &mut Random, plan: &Plan, routine: usize, places: u8, ends: bool) -> Vec<Step> {
     let mut reached = vec![0];
@@ -103,7 +112,14 @@ fn trail(random: &mut Random, plan: &Plan, routine: usize, places: u8, ends: boo
     steps
 }
 
-fn other_step(random: &mut Random, plan: &Plan, routine: usize, places: u8, ends: bool) -> Step {
+/// Any step of a routine; one to the exit only where the routine ends.
+pub fn other_step(
+    random: &mut Random,
+    plan: &Plan,
+    routine: usize,
+    places: u8,
+    ends: bool,
+) -> Step {
     let some_place = |random: &mut Random| random.below(usize::from(places)) as u8;
     let from = match some_place(random) {
         EXIT => 0,

@@ -1,7 +1,7 @@
 //! The shapes of programs, and a plan for each: how much there is of everything.
 
 use crate::generate::random::Random;
-use crate::model::program::TABLE_ROWS;
+use crate::model::program::{Program, TABLE_ROWS};
 
 /// What a program is to be like.
 #[derive(Clone, Copy, Debug, PartialEq, Eq)]
@@ -91,6 +91,30 @@ pub fn plan(random: &mut Random, shape: Shape) -> Plan {
         Shape::Full => full(random),
         Shape::Crowded => crowded(random),
         Shape::Layered => layered(random),
+    }
+}
+
+/// A plan of a program's sizes, for a routine of it that is made anew. Its steps are that routine's.
+pub fn plan_within(random: &mut Random, program: &Program) -> Plan {
+    let few = random.between(0, 6);
+    let more = random.between(4, 20);
+    Plan {
+        routines: program.places.len(),
+        least_places: 2,
+        most_places: random.pick(&[2, 4, 4, 8, 16]),
+        states: program.states.into(),
+        actions: program.actions.into(),
+        steps: random.pick(&[few, few, more]),
+        rule: 0,
+        callees: random.pick(&[
+            Callees::Any,
+            Callees::Circles,
+            Callees::Later,
+            Callees::Next,
+        ]),
+        calls_in_a_hundred: random.pick(&[20, 40, 60]),
+        return_in_a_hundred: random.pick(&[60, 90, 100]),
+        rule_is_total: false,
     }
 }
 

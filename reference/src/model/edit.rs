@@ -109,7 +109,7 @@ mod tests {
     fn named_edits_get_the_answers_worked_out_by_hand() {
         for case in cases::edits::all() {
             let program = read(&case.file).expect("the file is accepted");
-            let after = edited_by_line(&program, &case.line);
+            let after = edited_by_line(&program, &case.text);
             assert_eq!(after.err().unwrap_or(0), case.refusal, "{}", case.name);
         }
     }

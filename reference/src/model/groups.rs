@@ -5,30 +5,33 @@
 //! in circles; any other routine is a group alone. A group is reopened if it holds the edited
 //! routine, or calls one outside it whose pairs are no longer the same when the edited program is
 //! worked from all old roots. On an add, a routine is reopened if it has gained a standing. On a
-//! replace, the drop's and the add's are taken together.
+//! replace, the drop's and the add's are taken together. An exchange is the drop of all old steps of
+//! its routine and the add of all new ones.
 
 use crate::model::analysis::own_sheet;
-use crate::model::edit::{after, Edit};
+use crate::model::change::Change;
 use crate::model::least::grown;
-use crate::model::program::{Label, Program, Step, EXIT};
+use crate::model::program::{Label, Program, EXIT};
 use crate::model::standing::{standings, Standing};
 use std::collections::BTreeSet;
 
-/// The set of reopened routines for an edit that the program accepts, bit f for routine f.
-pub fn reopened(before: &Program, edit: Edit) -> u32 {
-    match edit {
-        Edit::Add(_) => gained(before, &after(before, edit)),
-        Edit::Drop(step) => reopened_by_drop(before, &after(before, edit), step),
-        Edit::Replace(step, _) => {
-            let between = after(before, Edit::Drop(step));
-            let dropped = reopened_by_drop(before, &between, step);
-            dropped | gained(&between, &after(before, edit))
+/// The set of reopened routines for a change that the program accepts, bit f for routine f.
+pub fn reopened(before: &Program, change: &Change) -> u32 {
+    let after = change.after(before);
+    match change.dropped(before) {
+        None => gained(before, &after),
+        Some(between) => {
+            let dropped = reopened_by_drop(before, &between, change.routine());
+            dropped | gained(&between, &after)
         }
     }
 }
 
 /// The routines that have a standing more.
 fn gained(before: &Program, after: &Program) -> u32 {
+    if before == after {
+        return 0;
+    }
     let (old, new) = (own_standings(before), own_standings(after));
     bits(&new.difference(&old).map(|at| at.routine).collect())
 }
@@ -43,7 +46,8 @@ pub fn bits(routines: &BTreeSet<u8>) -> u32 {
     routines.iter().map(|&routine| 1 << routine).sum()
 }
 
-fn reopened_by_drop(before: &Program, after: &Program, dropped: Step) -> u32 {
+/// The routines that are reopened where steps of a routine are dropped.
+fn reopened_by_drop(before: &Program, after: &Program, routine: u8) -> u32 {
     let changed = changed_pairs(before, after);
     let calls = calls(after);
     let is_reopened = |group: &BTreeSet<u8>| {
@@ -51,7 +55,7 @@ fn reopened_by_drop(before: &Program, after: &Program, dropped: Step) -> u32 {
         let calls_changed = calls.any(|(caller, callee)| {
             group.contains(caller) && !group.contains(callee) && changed.contains(callee)
         });
-        group.contains(&dropped.routine) || calls_changed
+        group.contains(&routine) || calls_changed
     };
     let groups = groups(after).into_iter().filter(is_reopened);
     bits(&groups.flatten().collect())
@@ -125,11 +129,13 @@ pub fn is_root(standing: &Standing) -> bool {
 mod tests {
     use super::*;
     use crate::cases::small::program;
-    use crate::generate::edits;
     use crate::generate::programs::program_of_shape;
     use crate::generate::random::Random;
     use crate::generate::shapes::Shape;
-    use crate::model::edit::{edit_of_line, edited};
+    use crate::generate::{edits, exchanges};
+    use crate::model::change::Form;
+    use crate::model::edit::Edit;
+    use crate::model::exchange::Exchange;
     use crate::model::inside_out;
 
     #[test]
@@ -144,59 +150,92 @@ mod tests {
         assert_eq!(groups(&program).into_iter().collect::<Vec<_>>(), wanted);
     }
 
-    /// What the edits of the seeds have met.
+    /// What changes of one sort have met. The group is that of the changed routine afterwards.
     #[derive(Debug, Default)]
     struct Met {
-        drops: usize,
-        replaces: usize,
+        changes: usize,
         beyond_the_group: usize,
         not_all: usize,
         circles: usize,
     }
 
+    impl Met {
+        fn note(&mut self, after: &Program, routine: u8, reopened: u32) {
+            let all_groups = groups(after);
+            let own = all_groups.iter().find(|group| group.contains(&routine));
+            let own = own.expect("each routine has a group");
+            self.changes += 1;
+            self.beyond_the_group += usize::from(reopened != bits(own));
+            self.not_all += usize::from(reopened.count_ones() < u32::from(after.routines()));
+            self.circles += usize::from(own.len() > 1);
+        }
+    }
+
     /// Following the repair as it is described gives the same sheet as working afresh, and reopens
     /// the same routines.
-    fn check(program: &Program, edit: Edit, met: &mut Met) {
-        let after = after(program, edit);
-        let followed = inside_out::repair(program, edit);
-        assert_eq!(followed.standings, own_standings(&after), "{edit:?}");
-        let reopened = reopened(program, edit);
-        assert_eq!(followed.reopened, reopened, "{edit:?}");
-        if let Edit::Drop(step) = edit {
-            let all_groups = groups(&after);
-            let own = all_groups
-                .iter()
-                .find(|group| group.contains(&step.routine));
-            let own = own.expect("each routine has a group");
-            met.drops += 1;
-            met.beyond_the_group += usize::from(reopened != bits(own));
-            met.not_all += usize::from(reopened.count_ones() < program.places.len() as u32);
-            met.circles += usize::from(own.len() > 1);
+    fn check(program: &Program, change: &Change, met: &mut Met) {
+        let after = change.after(program);
+        let followed = inside_out::repair(program, change);
+        assert_eq!(followed.standings, own_standings(&after), "{change:?}");
+        let reopened = reopened(program, change);
+        assert_eq!(followed.reopened, reopened, "{change:?}");
+        met.note(&after, change.routine(), reopened);
+    }
+
+    /// Looks at programs that are small, or middling.
+    fn small_programs(mut check: impl FnMut(&mut Random, &Program)) {
+        let shapes = [Shape::Tiny, Shape::Recursive, Shape::Layered, Shape::Mixed];
+        for seed in 0..240 {
+            let random = &mut Random::new(seed);
+            let program = program_of_shape(random, shapes[seed as usize % shapes.len()]);
+            check(random, &program);
         }
-        met.replaces += usize::from(matches!(edit, Edit::Replace(..)));
     }
 
     #[test]
     fn following_the_repair_reopens_the_same_routines() {
-        let mut met = Met::default();
-        let shapes = [Shape::Tiny, Shape::Recursive, Shape::Layered, Shape::Mixed];
-        for seed in 0..240 {
-            let random = &mut Random::new(seed);
-            let home = program_of_shape(random, shapes[seed as usize % shapes.len()]);
-            let few = home.steps.iter().take(12);
-            let drops = few.map(|&step| Edit::Drop(step).line());
-            let own = own_sheet(&home);
-            let others = (0..2).map(|_| edits::line(random, &home, &home, &own));
-            for line in drops.chain(others) {
-                match edit_of_line(&home, &line) {
-                    Ok(edit) if edited(&home, edit).is_ok() => check(&home, edit, &mut met),
+        let (mut drops, mut others) = (Met::default(), Met::default());
+        small_programs(|random, home| {
+            for &step in home.steps.iter().take(12) {
+                check(home, &Change::Edit(Edit::Drop(step)), &mut drops);
+            }
+            let own = own_sheet(home);
+            for _ in 0..2 {
+                let line = edits::line(random, home, home, &own);
+                match Change::of_text(Form::Edit, home, &line) {
+                    Ok(edit) if edit.made(home).is_ok() => check(home, &edit, &mut others),
                     _ => {}
                 }
             }
+        });
+        println!("drops: {drops:?}, others: {others:?}");
+        assert!(drops.changes >= 1500 && others.changes >= 250, "{drops:?}");
+        assert!(drops.beyond_the_group >= 100, "{drops:?}");
+        assert!(drops.not_all >= 800 && drops.circles >= 300, "{drops:?}");
+    }
+
+    #[test]
+    fn following_an_exchange_reopens_the_same_routines() {
+        let (mut own, mut others) = (Met::default(), Met::default());
+        small_programs(|random, home| {
+            for routine in 0..home.routines() {
+                let exchange = Exchange::for_itself(home, routine);
+                check(home, &Change::Exchange(exchange), &mut own);
+            }
+            let sheet = own_sheet(home);
+            for _ in 0..4 {
+                let exchange = exchanges::exchange(random, home, home, &sheet);
+                let exchange = Change::Exchange(exchange);
+                if exchange.made(home).is_ok() {
+                    check(home, &exchange, &mut others);
+                }
+            }
+        });
+        println!("for themselves: {own:?}, for others: {others:?}");
+        assert!(own.changes >= 800 && others.changes >= 800, "{others:?}");
+        for met in [own, others] {
+            assert!(met.beyond_the_group >= 300, "{met:?}");
+            assert!(met.not_all >= 300 && met.circles >= 100, "{met:?}");
         }
-        println!("{met:?}");
-        assert!(met.drops >= 1500 && met.replaces >= 20, "{met:?}");
-        assert!(met.beyond_the_group >= 100, "{met:?}");
-        assert!(met.not_all >= 800 && met.circles >= 300, "{met:?}");
     }
 }

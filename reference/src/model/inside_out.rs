@@ -3,7 +3,7 @@
 //! It is here to be held against `groups`, which says what is reopened by the outcome alone, and
 //! against working afresh, which says what the sheet is.
 
-use crate::model::edit::{after, Edit};
+use crate::model::change::Change;
 use crate::model::groups::{bits, calls, groups, is_root, own_standings};
 use crate::model::program::{Label, Program, Step};
 use crate::model::standing::{Standing, MOST_STATES};
@@ -16,30 +16,28 @@ pub struct Followed {
     pub reopened: u32,
 }
 
-/// Repairs the program's own sheet for an edit that the program accepts.
-pub fn repair(before: &Program, edit: Edit) -> Followed {
+/// Repairs the program's own sheet for a change that the program accepts.
+pub fn repair(before: &Program, change: &Change) -> Followed {
     let own = own_standings(before);
-    match (edit.leaves(), edit.joins()) {
-        (Some(step), None) => drop_step(before, step, own),
-        (None, Some(step)) => add_step(before, step, own),
-        (Some(leaves), Some(joins)) => {
-            let dropped = drop_step(before, leaves, own);
-            let between = after(before, Edit::Drop(leaves));
-            let added = add_step(&between, joins, dropped.standings);
+    let after = change.after(before);
+    match change.dropped(before) {
+        None => follow_add(&after, own),
+        Some(between) => {
+            let dropped = follow_drop(&between, change.routine(), own);
+            let added = follow_add(&after, dropped.standings);
             Followed {
                 standings: added.standings,
                 reopened: dropped.reopened | added.reopened,
             }
         }
-        (None, None) => unreachable!("an edit is an add, a drop or a replace"),
     }
 }
 
-/// The new step acts, and what is newly marked is followed.
-fn add_step(before: &Program, step: Step, old: BTreeSet<Standing>) -> Followed {
-    let program = after(before, Edit::Add(step));
+/// The new steps of a program act, and what is newly marked is followed. Where there are none, the
+/// sheet stays.
+fn follow_add(program: &Program, old: BTreeSet<Standing>) -> Followed {
     let all = 0..program.routines();
-    let standings = follow(&program, &all.collect(), old.clone());
+    let standings = follow(program, &all.collect(), old.clone());
     let gained = standings.difference(&old).map(|at| at.routine).collect();
     Followed {
         standings,
@@ -47,24 +45,24 @@ fn add_step(before: &Program, step: Step, old: BTreeSet<Standing>) -> Followed {
     }
 }
 
-fn drop_step(before: &Program, step: Step, old: BTreeSet<Standing>) -> Followed {
-    let program = after(before, Edit::Drop(step));
-    let calls = calls(&program);
+/// A program that has lost steps of a routine is worked anew, group by group, as far as needed.
+fn follow_drop(program: &Program, routine: u8, old: BTreeSet<Standing>) -> Followed {
+    let calls = calls(program);
     let mut standings = old.clone();
     let mut reopened = 0;
-    for group in called_first(&program) {
+    for group in called_first(program) {
         let mut outside = calls
             .iter()
             .filter(|(caller, callee)| group.contains(caller) && !group.contains(callee));
         let calls_changed =
             outside.any(|&(_, callee)| pairs(&old, callee) != pairs(&standings, callee));
-        if group.contains(&step.routine) || calls_changed {
-            standings = work_anew(&program, &group, &old, standings);
+        if group.contains(&routine) || calls_changed {
+            standings = work_anew(program, &group, &old, standings);
             reopened |= bits(&group);
         }
     }
     Followed {
-        standings: with_roots_that_occur(&program, standings),
+        standings: with_roots_that_occur(program, standings),
         reopened,
     }
 }

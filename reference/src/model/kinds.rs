@@ -7,7 +7,7 @@ pub struct Kind {
     pub follow: usize,
 }
 
-const fn kind(number: u8, follow: usize) -> Kind {
+pub const fn kind(number: u8, follow: usize) -> Kind {
     Kind { number, follow }
 }
 
@@ -49,6 +49,9 @@ pub const REPLACE: u8 = 0x3D;
 
 /// The kinds of edit lines.
 pub const EDITS: [Kind; 3] = [kind(ADD, 4), kind(DROP, 4), kind(REPLACE, 5)];
+
+/// The kinds of lines in the text of an exchange.
+pub const EXCHANGES: [Kind; 2] = [kind(ROUTINE, 2), kind(STEP, 4)];
 
 /// The kinds of lines that `bench` prints.
 pub const FINDING: u8 = 0x58;

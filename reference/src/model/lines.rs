@@ -57,6 +57,11 @@ pub fn line_of(numbers: &[u8]) -> Vec<u8> {
     line.into_bytes()
 }
 
+/// Frames as lines, one after the other.
+pub fn text_of(frames: &[Vec<u8>]) -> Vec<u8> {
+    frames.iter().flat_map(|frame| line_of(frame)).collect()
+}
+
 /// A count as two numbers, high first.
 pub fn two_numbers(count: usize) -> [u8; 2] {
     [(count / 256) as u8, (count % 256) as u8]

@@ -1,11 +1,11 @@
-//! Lists of repair calls, played in two ways: each call by working afresh from the bytes that it
-//! gets, and by the plain book, which knows nothing of bytes. The first file may have rows; what an
-//! accepted call writes has none.
+//! Lists of repair and exchange calls, played in two ways: each call by working afresh from the bytes
+//! that it gets, and by the plain book, which knows nothing of bytes. The first file may have rows;
+//! what an accepted call writes has none.
 
 use crate::model::analysis::own_sheet;
 use crate::model::book::Book;
 use crate::model::calls::files::put;
-use crate::model::calls::repairs::{repair_answer, Buffers, Repair, Repaired};
+use crate::model::calls::repairs::{repair_answer, Buffers, Function, Repaired};
 use crate::model::calls::Answer;
 use crate::model::file::read;
 use crate::model::program::Program;
@@ -14,8 +14,8 @@ use crate::model::write::write;
 /// One call of a list. File and sheet are what the calls before it have left.
 #[derive(Clone, Debug)]
 pub struct Call {
-    pub repair: Repair,
-    pub line: Vec<u8>,
+    pub function: Function,
+    pub text: Vec<u8>,
     pub output: Vec<u8>,
     pub work: Vec<u8>,
 }
@@ -50,11 +50,11 @@ impl ByRepairs {
         let reading = read(&self.file);
         let lent = &mut Buffers {
             sheet: &mut self.sheet,
-            line: &call.line,
+            text: &call.text,
             output: &mut output,
             work: &mut work,
         };
-        let answer = repair_answer(call.repair, &reading, lent);
+        let answer = repair_answer(call.function, &reading, lent);
         if answer.refusal == 0 {
             self.file = output[..answer.value.written as usize].to_vec();
         }
@@ -86,7 +86,8 @@ impl ByBook {
     pub fn call(&mut self, call: &Call) -> Seen {
         let before = self.book.program.clone();
         let (output, work) = (call.output.len(), call.work.len());
-        let noted = self.book.call(&call.line, output, work);
+        let form = call.function.form();
+        let noted = self.book.call(form, &call.text, output, work);
         let mut seen = Seen {
             answer: Answer::default(),
             sheet: Vec::new(),
@@ -95,10 +96,10 @@ impl ByBook {
         };
         match noted {
             Err(refusal) => seen.answer.refusal = refusal,
-            Ok(edit) => {
+            Ok(change) => {
                 let written = put(&write(&self.book.program), &mut seen.output);
                 seen.work.fill(0);
-                seen.answer.value = Repaired::new(call.repair, &before, edit, written);
+                seen.answer.value = Repaired::new(call.function, &before, &change, written);
                 self.sheet = own_sheet(&self.book.program);
             }
         }
@@ -116,7 +117,12 @@ mod tests {
     use crate::generate::random::Random;
     use crate::generate::shapes::Shape;
     use crate::generate::tables::{complete_file, has_rows};
-    use crate::model::refusals::{BAD_LINE, FOREIGN_SHEET, OUTPUT_SHORT, SHEET_LENGTH, STEPS_FULL};
+    use crate::model::calls::repairs::{EXCHANGES, FUNCTIONS, REPAIRS};
+    use crate::model::change::Form;
+    use crate::model::refusals::{
+        BAD_EDIT, BAD_LINE, EDIT_RANGE, EXCHANGE_ORDER, FOREIGN_SHEET, NOT_THERE, OUTPUT_SHORT,
+        SHEET_LENGTH, STEPS_FULL, THERE_ALREADY, WORK_LENGTH,
+    };
 
     /// A first file: half of them have rows.
     fn first_file(seed: u64, random: &mut Random, program: &Program) -> Vec<u8> {
@@ -126,39 +132,90 @@ mod tests {
         }
     }
 
-    #[test]
-    fn the_book_foretells_what_the_repairs_leave() {
-        let (mut met, mut with_rows) = (Met::default(), Met::default());
-        for seed in 0..150 {
-            let random = &mut Random::new(seed);
-            let program = match seed % 15 {
-                0 => program_of_shape(random, Shape::Crowded),
-                1 => program_of_shape(random, Shape::Mixed),
-                2..=4 => program_of_shape(random, Shape::Recursive),
-                5..=7 => program_of_shape(random, Shape::Layered),
-                8 => program_of_seed(seed),
-                _ => program_of_shape(random, Shape::Tiny),
-            };
-            let first = first_file(seed, random, &program);
-            let home = read(&first).expect("the first file is accepted");
-            let (mut repairs, mut book) = (ByRepairs::new(&first, &home), ByBook::new(&home));
-            for number in 0..40 {
-                let call = call(random, &home, &book.book.program, &book.sheet);
-                let rows = has_rows(&repairs.file);
-                let (given, wanted) = (repairs.call(&call), book.call(&call));
-                assert_eq!(given.answer, wanted.answer, "seed {seed}, call {number}");
-                assert!(given == wanted, "seed {seed}, call {number}");
-                met.note(given.answer.refusal);
-                if rows {
-                    with_rows.note(given.answer.refusal);
-                }
+    /// What the calls of lists have met, by what they are, and those whose file had rows.
+    #[derive(Debug, Default)]
+    struct Tally {
+        repairs: Met,
+        exchanges: Met,
+        with_rows: Met,
+    }
+
+    impl Tally {
+        fn note(&mut self, function: Function, rows: bool, refusal: u32) {
+            match function.form() {
+                Form::Edit => self.repairs.note(refusal),
+                Form::Exchange => self.exchanges.note(refusal),
+            }
+            if rows {
+                self.with_rows.note(refusal);
             }
         }
-        println!("{met:?}, with rows {with_rows:?}");
-        with_rows.check([0], 70);
-        met.check([0], 3000);
-        met.check(OUTPUT_SHORT..=STEPS_FULL, 20);
+    }
+
+    fn first_program(seed: u64, random: &mut Random) -> Program {
+        match seed % 15 {
+            0 => program_of_shape(random, Shape::Crowded),
+            1 => program_of_shape(random, Shape::Mixed),
+            2..=4 => program_of_shape(random, Shape::Recursive),
+            5..=7 => program_of_shape(random, Shape::Layered),
+            8 => program_of_seed(seed),
+            _ => program_of_shape(random, Shape::Tiny),
+        }
+    }
+
+    /// A list of so many calls by these functions, by both ways.
+    fn check_list(seed: u64, count: usize, functions: &[Function], tally: &mut Tally) {
+        let random = &mut Random::new(seed);
+        let program = first_program(seed, random);
+        let first = first_file(seed, random, &program);
+        let home = read(&first).expect("the first file is accepted");
+        let (mut repairs, mut book) = (ByRepairs::new(&first, &home), ByBook::new(&home));
+        for number in 0..count {
+            let function = random.pick(functions);
+            let call = call(random, function, &home, &book.book.program, &book.sheet);
+            let rows = has_rows(&repairs.file);
+            let (given, wanted) = (repairs.call(&call), book.call(&call));
+            assert_eq!(given.answer, wanted.answer, "seed {seed}, call {number}");
+            assert!(given == wanted, "seed {seed}, call {number}");
+            tally.note(function, rows, given.answer.refusal);
+        }
+    }
+
+    #[test]
+    fn the_book_foretells_what_the_repairs_leave() {
+        let mut tally = Tally::default();
+        for seed in 0..150 {
+            check_list(seed, 40, &REPAIRS, &mut tally);
+        }
+        println!("{tally:?}");
+        tally.with_rows.check([0], 70);
+        tally.repairs.check([0], 3000);
+        tally.repairs.check(OUTPUT_SHORT..=STEPS_FULL, 20);
         let others = (BAD_LINE..=SHEET_LENGTH).chain([FOREIGN_SHEET]);
-        assert_eq!(others.map(|number| met.times(number)).sum::<usize>(), 0);
+        let others = others.map(|number| tally.repairs.times(number));
+        assert_eq!(others.sum::<usize>(), 0);
+    }
+
+    #[test]
+    fn the_book_foretells_what_repairs_and_exchanges_leave() {
+        let mut tally = Tally::default();
+        for seed in 0..150 {
+            let functions: &[Function] = if seed % 3 == 0 {
+                &EXCHANGES
+            } else {
+                &FUNCTIONS
+            };
+            check_list(1000 + seed, 40, functions, &mut tally);
+        }
+        println!("{tally:?}");
+        let texts = [BAD_EDIT, EDIT_RANGE, EXCHANGE_ORDER, STEPS_FULL];
+        let exchanges = &tally.exchanges;
+        exchanges.check(texts.into_iter().chain([OUTPUT_SHORT, WORK_LENGTH]), 20);
+        exchanges.check([0], 1500);
+        tally.repairs.check([0], 1000);
+        tally.with_rows.check([0], 70);
+        let met = |number| exchanges.times(number);
+        let others = (BAD_LINE..=SHEET_LENGTH).chain([NOT_THERE, THERE_ALREADY, FOREIGN_SHEET]);
+        assert_eq!(others.map(met).sum::<usize>(), 0);
     }
 }

@@ -12,7 +12,8 @@
 //! - `lines` reads and writes lines of hexadecimal, `file` reads a file into a program or says which
 //!   line is refused, and why, and `write` writes a program.
 //! - `table` has the rows in which a file may put down its rule, and the rule lines that they become.
-//! - `edit` has the edits of a program's steps, and which of them are refused.
+//! - `edit` has the edits of a program's steps, and which of them are refused; `exchange` has the
+//!   same of the exchanges of its routines. `change` is either.
 //!
 //! What a program can do:
 //!
@@ -34,7 +35,9 @@ pub mod analysis;
 pub mod bench;
 pub mod book;
 pub mod calls;
+pub mod change;
 pub mod edit;
+pub mod exchange;
 pub mod file;
 pub mod fresh;
 pub mod groups;

@@ -97,6 +97,12 @@ impl Program {
         self.places.len() as u8
     }
 
+    /// The steps of a routine.
+    pub fn steps_of(&self, routine: u8) -> impl Iterator<Item = &Step> {
+        let steps = self.steps.iter();
+        steps.filter(move |step| step.routine == routine)
+    }
+
     /// The steps that leave a place. In the order of steps they stand side by side.
     pub fn steps_from(&self, routine: u8, place: u8) -> impl Iterator<Item = &Step> {
         let step = |label, to| Step {

@@ -16,9 +16,10 @@ pub const PAIR_MET_TWICE: u32 = 20;
 pub const SHEET_LENGTH: u32 = 9;
 pub const OUTPUT_SHORT: u32 = 10;
 pub const WORK_LENGTH: u32 = 11;
-// Of an edit line.
+// Of an edit line, or of the text of an exchange; only the text can meet 21.
 pub const BAD_EDIT: u32 = 12;
 pub const EDIT_RANGE: u32 = 13;
+pub const EXCHANGE_ORDER: u32 = 21;
 pub const NOT_THERE: u32 = 14;
 pub const THERE_ALREADY: u32 = 15;
 pub const STEPS_FULL: u32 = 16;
@@ -28,7 +29,7 @@ pub const FOREIGN_SHEET: u32 = 17;
 pub const INPUT_LONG: u32 = 18;
 
 /// How many numbers there are to answer with: every refusal's, and 0 for none.
-pub const ANSWERS: usize = 21;
+pub const ANSWERS: usize = 22;
 
 /// Why a file is refused: all faults of the line that decides, lowest first, and that line's number,
 /// counted from 1. Where its table decides, the one fault is that of the first faulty pair, and the

@@ -2,7 +2,7 @@
 //! rows.
 
 use crate::model::kinds::{END, FORBIDDEN, ROUTINE, RULE, SIZES, START, STEP};
-use crate::model::lines::{line_of, two_numbers};
+use crate::model::lines::{text_of, two_numbers};
 use crate::model::program::Program;
 
 /// The longest file that is written, and so the least length of an output. One with rows that is
@@ -29,10 +29,11 @@ pub fn write(program: &Program) -> Vec<u8> {
         frames.push(frame(FORBIDDEN, &[state]));
     }
     frames.push(end(frames.len()));
-    frames.iter().flat_map(|frame| line_of(frame)).collect()
+    text_of(&frames)
 }
 
-fn frame(kind: u8, numbers: &[u8]) -> Vec<u8> {
+/// The numbers of a frame, its kind first.
+pub fn frame(kind: u8, numbers: &[u8]) -> Vec<u8> {
     [&[kind], numbers].concat()
 }
 

@@ -65,7 +65,7 @@ impl Lent {
 pub struct Lending {
     pub file: Vec<u8>,
     pub sheet: Lent,
-    pub line: Vec<u8>,
+    pub text: Vec<u8>,
     pub output: Lent,
     pub work: Lent,
 }
@@ -76,7 +76,7 @@ impl Lending {
         Lending {
             file: file.to_vec(),
             sheet: Lent::nothing(),
-            line: Vec::new(),
+            text: Vec::new(),
             output: Lent::nothing(),
             work: Lent::nothing(),
         }
@@ -99,20 +99,20 @@ impl Lending {
         }
     }
 
-    /// Calls the library, with bytes after the file and the line that do not belong to them.
+    /// Calls the library, with bytes after the file and the text that do not belong to them.
     pub fn call<V>(&mut self, library: impl Fn(&[u8], &mut Buffers) -> Answer<V>) -> Answer<V> {
-        let (file, line) = (with_end_after(&self.file), with_line_after(&self.line));
+        let (file, text) = (with_end_after(&self.file), with_line_after(&self.text));
         let answer = library(
             &file[..self.file.len()],
             &mut Buffers {
                 sheet: self.sheet.content_mut(),
-                line: &line[..self.line.len()],
+                text: &text[..self.text.len()],
                 output: self.output.content_mut(),
                 work: self.work.content_mut(),
             },
         );
         assert!(file == with_end_after(&self.file), "the file was changed");
-        assert!(line == with_line_after(&self.line), "the line was changed");
+        assert!(text == with_line_after(&self.text), "the text was changed");
         answer
     }
 
@@ -120,15 +120,15 @@ impl Lending {
     fn foretell<V>(&mut self, reference: impl Fn(&mut Buffers) -> Answer<V>) -> Answer<V> {
         reference(&mut Buffers {
             sheet: self.sheet.content_mut(),
-            line: &self.line,
+            text: &self.text,
             output: self.output.content_mut(),
             work: self.work.content_mut(),
         })
     }
 
     pub fn input(&self, name: &str) -> String {
-        let (line, file) = (self.line.escape_ascii(), self.file.escape_ascii());
-        format!("{name}: line {line}, file {file}")
+        let (text, file) = (self.text.escape_ascii(), self.file.escape_ascii());
+        format!("{name}: text {text}, file {file}")
     }
 
     /// Every byte that was lent, margins and all, has to be as it should.
@@ -151,9 +151,9 @@ fn with_end_after(file: &[u8]) -> Vec<u8> {
     [file, b"\n450000\n"].concat()
 }
 
-/// A line with bytes after it: they would mend one that lacks its 0A, and spoil one that does not.
-fn with_line_after(line: &[u8]) -> Vec<u8> {
-    [line, b"\n2B00000001\n"].concat()
+/// A text with bytes after it: they would mend one that lacks its last 0A, and spoil one that does not.
+fn with_line_after(text: &[u8]) -> Vec<u8> {
+    [text, b"\n2B00000001\n"].concat()
 }
 
 /// One call by the library and by the reference, in buffers that were the same. Every number of the

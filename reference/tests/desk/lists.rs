@@ -1,4 +1,4 @@
-//! Lists of repair calls, held against the book. The comparisons of both repairs share this.
+//! Lists of calls, held against the book. The comparisons of all four functions share this.
 
 use super::lent::Lending;
 use super::trial::{compare, foreign_sheet, lending, Tally};
@@ -6,14 +6,14 @@ use reference::generate::calls::call;
 use reference::generate::random::Random;
 use reference::generate::shapes::{shape_in_turn, Shape, Shares};
 use reference::model::analysis::{analyze, own_sheet};
-use reference::model::calls::repairs::Repair;
+use reference::model::calls::repairs::Function;
 use reference::model::file::read;
 use reference::model::lists::{ByBook, Seen};
 use reference::model::program::Program;
 use reference::model::refusals::{FOREIGN_SHEET, OUTPUT_SHORT};
 use reference::model::standing::marked;
 
-/// How lists of calls are made. Each is by one of the rows of repairs, in turn, with shapes by their
+/// How lists of calls are made. Each is by one of the rows of functions, in turn, with shapes by their
 /// shares, also in turn.
 pub struct Lists<'a> {
     pub first_seed: u64,
@@ -22,9 +22,9 @@ pub struct Lists<'a> {
     /// The file with which a list begins, of a program of this shape.
     pub first_file: fn(&mut Random, Shape) -> Vec<u8>,
     pub shares: &'a Shares,
-    pub repairs: &'a [&'a [Repair]],
+    pub functions: &'a [&'a [Function]],
     /// For a list of one large program.
-    pub large: &'a [Repair],
+    pub large: &'a [Function],
 }
 
 /// How often each refusal has to be met, so that agreeing on it means something.
@@ -47,9 +47,9 @@ pub fn compare_lists(plan: &Lists, tally: &mut Tally) {
         let random = &mut Random::new(plan.first_seed + number);
         let shape = shape_in_turn(number as usize, plan.shares);
         let first = (plan.first_file)(random, shape);
-        let repairs = plan.repairs[number as usize % plan.repairs.len()];
+        let functions = plan.functions[number as usize % plan.functions.len()];
         let name = format!("list {number}");
-        list(&name, &first, plan.calls, repairs, random, tally);
+        list(&name, &first, plan.calls, functions, random, tally);
     }
     let random = &mut Random::new(plan.lists);
     list("large", &large_file(plan), 15, plan.large, random, tally);
@@ -64,14 +64,14 @@ fn list(
     name: &str,
     first: &[u8],
     count: usize,
-    repairs: &[Repair],
+    functions: &[Function],
     random: &mut Random,
     tally: &mut Tally,
 ) {
     let home = &accepted(first);
     let mut list = List {
         home,
-        repairs,
+        functions,
         book: ByBook::new(home),
         file: first.to_vec(),
         sheet: own_sheet(home),
@@ -91,7 +91,7 @@ fn list(
 /// A list as it goes on: the book, and the file and the sheet as the library has left them.
 struct List<'a> {
     home: &'a Program,
-    repairs: &'a [Repair],
+    functions: &'a [Function],
     book: ByBook,
     file: Vec<u8>,
     sheet: Vec<u8>,
@@ -101,20 +101,17 @@ impl List<'_> {
     /// The next call, by the library and by the book.
     fn call(&mut self, name: &str, random: &mut Random, tally: &mut Tally) {
         let now = self.book.book.program.clone();
-        let repair = random.pick(self.repairs);
-        let mut call = call(random, self.home, &now, &self.book.sheet);
-        call.repair = repair;
-        let mut given = lending(random, &self.file, &self.sheet, &call);
-        let mut wanted = given.clone();
-        let answer = given.call(|file, lent| super::repair(repair, file, lent));
+        let function = random.pick(self.functions);
+        let call = call(random, function, self.home, &now, &self.book.sheet);
+        let lending = lending(random, &self.file, &self.sheet, &call);
+        let (mut given, mut wanted) = (lending.clone(), lending.clone());
+        let answer = given.call(|file, lent| super::call(function, file, lent));
         let seen = self.book.call(&call);
         assert_eq!(answer, seen.answer, "{}", given.input(name));
         expect(&mut wanted, &seen);
         given.check_bytes(&wanted, name);
-        tally.note(repair, &answer, self.sheet != seen.sheet);
-        tally.note_rows(&self.file, &answer);
+        tally.note(function, &Ok(now), &lending, &answer, &given);
         if answer.refusal == 0 {
-            tally.note_edit(&now, &call.line);
             self.file = given.output.content()[..answer.value.written as usize].to_vec();
         }
         self.sheet = given.sheet.content().to_vec();
@@ -124,11 +121,11 @@ impl List<'_> {
     /// trace.
     fn stray_call(&self, name: &str, random: &mut Random, tally: &mut Tally) {
         let now = &self.book.book.program;
-        let sheet = foreign_sheet(random, now, &self.sheet);
-        let repair = random.pick(self.repairs);
-        let call = call(random, now, now, &self.sheet);
+        let function = random.pick(self.functions);
+        let call = call(random, function, now, now, &self.sheet);
+        let sheet = foreign_sheet(random, now, &self.sheet, &call);
         let lending = lending(random, &self.file, &sheet, &call);
-        compare(name, repair, &lending, &Ok(now.clone()), tally);
+        compare(name, function, &lending, &Ok(now.clone()), tally);
     }
 }
 

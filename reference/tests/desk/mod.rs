@@ -6,7 +6,8 @@ pub mod lent;
 pub mod lists;
 pub mod trial;
 
-use reference::model::calls::repairs::{Buffers, Repair, Repaired};
+use reference::model::calls::repairs::Function::{self, *};
+use reference::model::calls::repairs::{Buffers, Repaired};
 use reference::model::calls::sheets::Counts;
 use reference::model::calls::Answer;
 use reference::model::program::Program;
@@ -75,25 +76,32 @@ pub fn kept(program: &Program, sheet: &[u8]) -> Vec<usize> {
     marked(&sheet)
 }
 
-/// A repair, with NULL for each buffer of no bytes.
-pub fn repair(repair: Repair, file: &[u8], lent: &mut Buffers) -> Answer<Repaired> {
-    let (file, line) = (unless_empty(file), unless_empty(lent.line));
+/// A repair or an exchange, with NULL for each buffer of no bytes.
+pub fn call(function: Function, file: &[u8], lent: &mut Buffers) -> Answer<Repaired> {
+    let (file, text) = (unless_empty(file), unless_empty(lent.text));
     let marks = unless_empty_mut(lent.sheet);
     let output = unless_empty_mut(lent.output);
     let work = unless_empty_mut(lent.work);
-    match repair {
-        Repair::Forward => {
-            let answer = binding::repair_forward(file, marks, line, output, work);
-            in_words(answer, |[written]| Repaired {
-                written,
-                reopened: 0,
-            })
-        }
-        Repair::InsideOut => {
-            let answer = binding::repair_inside_out(file, marks, line, output, work);
-            in_words(answer, |[written, reopened]| Repaired { written, reopened })
-        }
+    match function {
+        RepairForward => forward(binding::repair_forward(file, marks, text, output, work)),
+        RepairInsideOut => inside_out(binding::repair_inside_out(file, marks, text, output, work)),
+        ExchangeForward => forward(binding::exchange_forward(file, marks, text, output, work)),
+        ExchangeInsideOut => inside_out(binding::exchange_inside_out(
+            file, marks, text, output, work,
+        )),
     }
+}
+
+/// What a forward function answers. It sets no set of reopened routines.
+fn forward(answer: binding::Answer<1>) -> Answer<Repaired> {
+    in_words(answer, |[written]| Repaired {
+        written,
+        reopened: 0,
+    })
+}
+
+fn inside_out(answer: binding::Answer<2>) -> Answer<Repaired> {
+    in_words(answer, |[written, reopened]| Repaired { written, reopened })
 }
 
 fn unless_empty(buffer: &[u8]) -> Option<&[u8]> {

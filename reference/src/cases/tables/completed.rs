@@ -1,6 +1,7 @@
 //! The sample with its rule completed, so that it can be put down in rows too, and repairs of it.
 
 use crate::cases::sample;
+use crate::model::change::Form;
 
 /// The sample's steps.
 const STEPS: [&str; 3] = ["5300004102", "5300020101", "5301000001"];
@@ -16,9 +17,17 @@ const ROWS: [&str; 4] = [
     "55040000000302",
 ];
 
+/// The sample's routines.
+const ROUTINES: [&str; 2] = ["520003", "520102"];
+
 /// The sample with these steps and this rule.
 fn sample_with(steps: &[&str], rule: &[&str]) -> Vec<u8> {
-    sample::rewritten(4, 10, &[steps, rule].concat())
+    rewritten(&ROUTINES, steps, rule)
+}
+
+/// The sample with these routines too.
+fn rewritten(routines: &[&str], steps: &[&str], rule: &[&str]) -> Vec<u8> {
+    sample::rewritten(2, 10, &[routines, steps, rule].concat())
 }
 
 pub fn in_lines() -> Vec<u8> {
@@ -45,34 +54,45 @@ pub fn broken_in_rows() -> Vec<u8> {
 /// to main's exit, by the lines that the sample does not have.
 pub const BROKEN_STANDINGS: [usize; 7] = [0, 65, 66, 129, 130, 1024, 1089];
 
-/// An edit of the completed sample in rows: the refusal, 0 if none, the numbers marked after it, the
-/// routines that an inside-out repair reopens, bit f for routine f, and the file, in lines, that is
-/// written.
+/// An edit of the completed sample in rows, or an exchange: the refusal, 0 if none, the numbers marked
+/// after it, the routines that an inside-out repair reopens, bit f for routine f, and the file, in
+/// lines, that is written.
 pub struct RowsRepair {
     pub name: &'static str,
-    pub line: &'static [u8],
+    pub text: &'static [u8],
     pub refusal: u32,
     pub left: Vec<usize>,
     pub reopened: u32,
     pub written: Vec<u8>,
 }
 
-pub fn repairs() -> Vec<RowsRepair> {
-    let accepted = |name, line, left: &[usize], reopened, steps: &[&str]| RowsRepair {
+/// Those by texts of a form.
+pub fn repairs(form: Form) -> Vec<RowsRepair> {
+    match form {
+        Form::Edit => edits(),
+        Form::Exchange => exchanges(),
+    }
+}
+
+fn refused(name: &'static str, text: &'static [u8], refusal: u32) -> RowsRepair {
+    RowsRepair {
         name,
-        line,
-        refusal: 0,
-        left: left.to_vec(),
-        reopened,
-        written: sample_with(steps, &LINES),
-    };
-    let refused = |name, line, refusal| RowsRepair {
-        name,
-        line,
+        text,
         refusal,
         left: sample::STANDINGS.to_vec(),
         reopened: 0,
         written: Vec::new(),
+    }
+}
+
+fn edits() -> Vec<RowsRepair> {
+    let accepted = |name, text, left: &[usize], reopened, steps: &[&str]| RowsRepair {
+        name,
+        text,
+        refusal: 0,
+        left: left.to_vec(),
+        reopened,
+        written: sample_with(steps, &LINES),
     };
     let relabelled = ["5300004102", "5300020101", "5301000101"];
     vec![
@@ -97,6 +117,31 @@ pub fn repairs() -> Vec<RowsRepair> {
         refused("action A", b"2B00000202\n", 13),
         refused("an absent step", b"2D00000102\n", 14),
         refused("a label by itself", b"3D0000410241\n", 15),
+    ]
+}
+
+fn exchanges() -> Vec<RowsRepair> {
+    let accepted = |name, text, left: &[usize], routines: &[&str], steps: &[&str]| RowsRepair {
+        name,
+        text,
+        refusal: 0,
+        left: left.to_vec(),
+        reopened: 0b11,
+        written: rewritten(routines, steps, &LINES),
+    };
+    let itself = b"520102\n5301000001\n";
+    let two_actions = b"520103\n5301000002\n5301020101\n";
+    let longer = ["520003", "520103"];
+    let steps = ["5300004102", "5300020101", "5301000002", "5301020101"];
+    let left = &[0, 65, 129, 1024, 1089, 1153];
+    vec![
+        accepted("for itself", itself, &sample::STANDINGS, &ROUTINES, &STEPS),
+        accepted("longer", two_actions, left, &longer, &steps),
+        accepted("no step", b"520102\n", &[0, 1024], &ROUTINES, &STEPS[..2]),
+        refused("no line", b"", 12),
+        refused("a row after it", b"520102\n55010000000101\n", 12),
+        refused("17 places", b"520111\n", 13),
+        refused("a step first", b"5301000001\n", 21),
     ]
 }
 

@@ -1,6 +1,7 @@
 //! Tables of 8 states and 32 actions, and tables with as many rows as there may be.
 
-use crate::cases::files::{case, text_of, Case};
+use crate::cases::files::{case, Case};
+use crate::model::lines::text_of;
 use crate::model::write::end;
 
 pub fn all() -> Vec<Case> {

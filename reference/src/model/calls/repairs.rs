@@ -1,10 +1,10 @@
-//! The two repairs, by working afresh. A repair has to leave the fresh sheet of the edited program,
-//! whichever way it gets there.
+//! The two repairs, for an edit and for an exchange, by working afresh. A repair has to leave the fresh
+//! sheet of the changed program, whichever way it gets there.
 
 use crate::model::analysis::own_sheet;
 use crate::model::calls::files::put;
 use crate::model::calls::{check_output, check_sheet, check_work, Answer};
-use crate::model::edit::{edit_of_line, edited, Edit};
+use crate::model::change::{Change, Form};
 use crate::model::file::Reading;
 use crate::model::groups::reopened;
 use crate::model::program::Program;
@@ -12,11 +12,39 @@ use crate::model::refusals::{refuse_if, Refused, FOREIGN_SHEET};
 use crate::model::standing::SHEET_SIZE;
 use crate::model::write::{write, OUTPUT_SIZE};
 
-/// Which of the two repairs is called.
-#[derive(Clone, Copy, Debug, PartialEq, Eq)]
-pub enum Repair {
-    Forward,
-    InsideOut,
+/// Which function is called: one of the two repairs, for an edit or for an exchange.
+#[derive(Clone, Copy, Debug, PartialEq, Eq, PartialOrd, Ord)]
+pub enum Function {
+    RepairForward,
+    RepairInsideOut,
+    ExchangeForward,
+    ExchangeInsideOut,
+}
+
+use Function::*;
+
+/// Those that take an edit line, those that take the text of an exchange, and all.
+pub const REPAIRS: [Function; 2] = [RepairForward, RepairInsideOut];
+pub const EXCHANGES: [Function; 2] = [ExchangeForward, ExchangeInsideOut];
+pub const FUNCTIONS: [Function; 4] = [
+    RepairForward,
+    RepairInsideOut,
+    ExchangeForward,
+    ExchangeInsideOut,
+];
+
+impl Function {
+    pub fn form(self) -> Form {
+        match self {
+            RepairForward | RepairInsideOut => Form::Edit,
+            ExchangeForward | ExchangeInsideOut => Form::Exchange,
+        }
+    }
+
+    /// Whether it says which routines were reopened.
+    pub fn is_inside_out(self) -> bool {
+        [RepairInsideOut, ExchangeInsideOut].contains(&self)
+    }
 }
 
 /// What a repair gives: the length of the new file, and the set of reopened routines, bit f for
@@ -29,39 +57,39 @@ pub struct Repaired {
 }
 
 impl Repaired {
-    /// What a repair gives for an edit that the program accepts, once the new file is written.
-    pub fn new(repair: Repair, before: &Program, edit: Edit, written: u32) -> Repaired {
-        let reopened = match repair {
-            Repair::Forward => 0,
-            Repair::InsideOut => reopened(before, edit),
+    /// What a function gives for a change that the program accepts, once the new file is written.
+    pub fn new(function: Function, before: &Program, change: &Change, written: u32) -> Repaired {
+        let reopened = match function.is_inside_out() {
+            false => 0,
+            true => reopened(before, change),
         };
         Repaired { written, reopened }
     }
 }
 
-/// What is lent to a repair, apart from the file.
+/// What is lent to a repair, apart from the file. The text is an edit line, or that of an exchange.
 pub struct Buffers<'a> {
     pub sheet: &'a mut [u8],
-    pub line: &'a [u8],
+    pub text: &'a [u8],
     pub output: &'a mut [u8],
     pub work: &'a mut [u8],
 }
 
 /// The same, as one holds it who lends it.
-#[derive(Clone)]
+#[derive(Clone, PartialEq, Eq)]
 pub struct Held {
     pub sheet: Vec<u8>,
-    pub line: Vec<u8>,
+    pub text: Vec<u8>,
     pub output: Vec<u8>,
     pub work: Vec<u8>,
 }
 
 impl Held {
-    /// A program's own sheet, a line, and buffers of the right lengths, filled with sevens.
-    pub fn for_line(program: &Program, line: &[u8]) -> Held {
+    /// A program's own sheet, a text, and buffers of the right lengths, filled with sevens.
+    pub fn for_text(program: &Program, text: &[u8]) -> Held {
         Held {
             sheet: own_sheet(program),
-            line: line.to_vec(),
+            text: text.to_vec(),
             output: vec![7; OUTPUT_SIZE],
             work: vec![7; SHEET_SIZE],
         }
@@ -70,37 +98,46 @@ impl Held {
     pub fn lend(&mut self) -> Buffers<'_> {
         Buffers {
             sheet: &mut self.sheet,
-            line: &self.line,
+            text: &self.text,
             output: &mut self.output,
             work: &mut self.work,
         }
     }
 }
 
-/// What the library has to answer to a repair of a file of this reading, and what it has to leave in
+/// What the library has to answer to a call with a file of this reading, and what it has to leave in
 /// all that is lent.
-pub fn repair_answer(repair: Repair, reading: &Reading, lent: &mut Buffers) -> Answer<Repaired> {
-    Answer::from(repaired(repair, reading, lent))
+pub fn repair_answer(
+    function: Function,
+    reading: &Reading,
+    lent: &mut Buffers,
+) -> Answer<Repaired> {
+    Answer::from(repaired(function, reading, lent))
 }
 
-fn repaired(repair: Repair, reading: &Reading, lent: &mut Buffers) -> Result<Repaired, Refused> {
+fn repaired(
+    function: Function,
+    reading: &Reading,
+    lent: &mut Buffers,
+) -> Result<Repaired, Refused> {
     let before = reading.as_ref()?;
-    let (edit, after) = judged(before, lent)?;
+    let (change, after) = judged(function.form(), before, lent)?;
     lent.work.fill(0);
     refuse_if(lent.sheet != own_sheet(before), FOREIGN_SHEET)?;
     lent.sheet.copy_from_slice(&own_sheet(&after));
     let written = put(&write(&after), lent.output);
-    Ok(Repaired::new(repair, before, edit, written))
+    Ok(Repaired::new(function, before, &change, written))
 }
 
-/// The edit and the program after it, or the first of the refusals 9 to 16. Until 17 is judged,
-/// nothing is touched.
-fn judged(before: &Program, lent: &Buffers) -> Result<(Edit, Program), u32> {
+/// The change and the program after it, or the first of the refusals 9 to 16 and 21. Until 17 is
+/// judged, nothing is touched.
+fn judged(form: Form, before: &Program, lent: &Buffers) -> Result<(Change, Program), u32> {
     check_sheet(lent.sheet.len())?;
     check_output(lent.output.len())?;
     check_work(lent.work.len())?;
-    let edit = edit_of_line(before, lent.line)?;
-    Ok((edit, edited(before, edit)?))
+    let change = Change::of_text(form, before, lent.text)?;
+    let after = change.made(before)?;
+    Ok((change, after))
 }
 
 #[cfg(test)]
@@ -111,22 +148,43 @@ mod tests {
     use crate::model::file::read;
     use crate::model::standing::marked;
 
-    /// A repair with a program's own sheet: the answer, and what is left.
-    fn with_own_sheet(repair: Repair, program: &Program, line: &[u8]) -> (Answer<Repaired>, Held) {
-        let mut held = Held::for_line(program, line);
-        let answer = repair_answer(repair, &Ok(program.clone()), &mut held.lend());
+    /// A call with a program's own sheet: the answer, and what is left.
+    fn with_own_sheet(
+        function: Function,
+        program: &Program,
+        text: &[u8],
+    ) -> (Answer<Repaired>, Held) {
+        let mut held = Held::for_text(program, text);
+        let answer = repair_answer(function, &Ok(program.clone()), &mut held.lend());
         (answer, held)
     }
 
     #[test]
     fn cases_worked_out_by_hand() {
-        for case in cases::repairs::all() {
-            let (answer, left) = with_own_sheet(Repair::InsideOut, &case.program, case.line);
-            assert_eq!(answer.refusal, case.refusal, "{}", case.name);
-            assert_eq!(answer.value.reopened, case.reopened, "{}", case.name);
-            assert_eq!(marked(&left.sheet), case.left, "{}", case.name);
-            if case.refusal != 0 {
-                assert_eq!(answer, Answer::refused(case.refusal, 0), "{}", case.name);
+        for function in [RepairInsideOut, ExchangeInsideOut] {
+            for case in cases::worked_out(function.form()) {
+                let (answer, left) = with_own_sheet(function, &case.program, case.text);
+                assert_eq!(answer.refusal, case.refusal, "{}", case.name);
+                assert_eq!(answer.value.reopened, case.reopened, "{}", case.name);
+                assert_eq!(marked(&left.sheet), case.left, "{}", case.name);
+                if case.refusal != 0 {
+                    assert_eq!(answer, Answer::refused(case.refusal, 0), "{}", case.name);
+                }
+            }
+        }
+    }
+
+    #[test]
+    fn a_forward_repair_leaves_the_same_and_tells_of_no_routine() {
+        for [forward, inside_out] in [REPAIRS, EXCHANGES] {
+            for case in cases::worked_out(forward.form()) {
+                let (answer, left) = with_own_sheet(forward, &case.program, case.text);
+                let (told, same) = with_own_sheet(inside_out, &case.program, case.text);
+                assert_eq!(answer.refusal, told.refusal, "{}", case.name);
+                assert_eq!(answer.value.written, told.value.written, "{}", case.name);
+                assert_eq!(answer.value.reopened, 0, "{}", case.name);
+                assert_eq!(left.sheet, same.sheet, "{}", case.name);
+                assert_eq!(left.output, same.output, "{}", case.name);
             }
         }
     }
@@ -135,14 +193,16 @@ mod tests {
     fn a_file_with_rows_is_repaired_as_its_program() {
         let reading = read(&cases::tables::completed::in_rows());
         let program = reading.clone().expect("the file is accepted");
-        for case in cases::tables::completed::repairs() {
-            let mut held = Held::for_line(&program, case.line);
-            let answer = repair_answer(Repair::InsideOut, &reading, &mut held.lend());
-            let given = (answer.refusal, answer.line, answer.value.reopened);
-            assert_eq!(given, (case.refusal, 0, case.reopened), "{}", case.name);
-            assert_eq!(marked(&held.sheet), case.left, "{}", case.name);
-            let written = &held.output[..answer.value.written as usize];
-            assert_eq!(written, case.written, "{}", case.name);
+        for function in [RepairInsideOut, ExchangeInsideOut] {
+            for case in cases::tables::completed::repairs(function.form()) {
+                let mut held = Held::for_text(&program, case.text);
+                let answer = repair_answer(function, &reading, &mut held.lend());
+                let given = (answer.refusal, answer.line, answer.value.reopened);
+                assert_eq!(given, (case.refusal, 0, case.reopened), "{}", case.name);
+                assert_eq!(marked(&held.sheet), case.left, "{}", case.name);
+                let written = &held.output[..answer.value.written as usize];
+                assert_eq!(written, case.written, "{}", case.name);
+            }
         }
     }
 
@@ -150,7 +210,7 @@ mod tests {
     fn reopening_stops_where_pairs_stay() {
         let (program, drops) = cases::repairs::reopenings();
         for (line, reopened) in drops {
-            let (answer, _) = with_own_sheet(Repair::InsideOut, &program, line);
+            let (answer, _) = with_own_sheet(RepairInsideOut, &program, line);
             assert_eq!((answer.refusal, answer.value.reopened), (0, reopened));
         }
     }
@@ -158,9 +218,9 @@ mod tests {
     #[test]
     fn an_accepted_call_leaves_the_new_file_and_the_rest_of_the_output() {
         let sample = sample::program();
-        let mut held = Held::for_line(&sample, b"2B00000102\n");
+        let mut held = Held::for_text(&sample, b"2B00000102\n");
         held.output.push(7);
-        let answer = repair_answer(Repair::Forward, &Ok(sample.clone()), &mut held.lend());
+        let answer = repair_answer(RepairForward, &Ok(sample.clone()), &mut held.lend());
         let file = write(&after(&sample, "2B00000102"));
         assert_eq!((answer.refusal, answer.line), (0, 0));
         assert_eq!(answer.value.written as usize, file.len());
@@ -194,33 +254,68 @@ mod tests {
             ("F", &foreign[..], "2B00004102\n", most, sheets, (15, 0)),
             ("F", &foreign[..], good, most, sheets, (17, 0)),
         ] {
-            let file = if file == "F" {
-                sample::FILE
-            } else {
-                file.as_bytes()
-            };
-            let mut held = Held {
-                sheet: sheet.to_vec(),
-                line: line.as_bytes().to_vec(),
-                output: vec![7; output],
-                work: vec![7; work],
-            };
-            let answer = repair_answer(Repair::Forward, &read(file), &mut held.lend());
-            assert_eq!(answer, Answer::refused(wanted.0, wanted.1));
-            assert_eq!(held.sheet, sheet);
-            assert_eq!(held.output, vec![7; output]);
-            let byte = if wanted.0 == 17 { 0 } else { 7 };
-            assert_eq!(held.work, vec![byte; work]);
+            check_refused(RepairForward, file, sheet, line, output, work, wanted);
         }
     }
 
     #[test]
-    fn named_edits_get_the_answers_worked_out_by_hand() {
-        for case in cases::edits::all() {
-            let program = read(&case.file).expect("the file is accepted");
-            let (answer, _) = with_own_sheet(Repair::Forward, &program, &case.line);
-            let given = (answer.refusal, answer.line);
-            assert_eq!(given, (case.refusal, 0), "{}", case.name);
+    fn a_refused_exchange_changes_nothing_but_the_working_buffer_after_17() {
+        let own = own_sheet(&sample::program());
+        let mut foreign = own.clone();
+        foreign[16_383] = 1;
+        let (most, sheets) = (OUTPUT_SIZE, SHEET_SIZE);
+        for (file, sheet, text, output, work, wanted) in [
+            ("", &own[1..], "", 0, 0, (8, 1)),
+            ("F", &own[1..], "", 0, 0, (9, 0)),
+            ("F", &foreign[..], "", most - 1, 0, (10, 0)),
+            ("F", &foreign[..], "", most, sheets + 1, (11, 0)),
+            ("F", &foreign[..], "2B00000102\n", most, sheets, (12, 0)),
+            ("F", &foreign[..], "520101\n", most, sheets, (13, 0)),
+            ("F", &foreign[..], "520102\n520102\n", most, sheets, (21, 0)),
+            ("F", &foreign[..], "520102\n", most, sheets, (17, 0)),
+        ] {
+            check_refused(ExchangeInsideOut, file, sheet, text, output, work, wanted);
+        }
+    }
+
+    /// A call with buffers of such lengths is refused so, with this line.
+    fn check_refused(
+        function: Function,
+        file: &str,
+        sheet: &[u8],
+        text: &str,
+        output: usize,
+        work: usize,
+        (number, line): (u32, u32),
+    ) {
+        let file = if file == "F" {
+            sample::FILE
+        } else {
+            file.as_bytes()
+        };
+        let mut held = Held {
+            sheet: sheet.to_vec(),
+            text: text.as_bytes().to_vec(),
+            output: vec![7; output],
+            work: vec![7; work],
+        };
+        let answer = repair_answer(function, &read(file), &mut held.lend());
+        assert_eq!(answer, Answer::refused(number, line));
+        assert_eq!(held.sheet, sheet);
+        assert_eq!(held.output, vec![7; output]);
+        let byte = if number == 17 { 0 } else { 7 };
+        assert_eq!(held.work, vec![byte; work]);
+    }
+
+    #[test]
+    fn named_texts_get_the_answers_worked_out_by_hand() {
+        for function in FUNCTIONS {
+            for case in cases::named_texts(function.form()) {
+                let program = read(&case.file).expect("the file is accepted");
+                let (answer, _) = with_own_sheet(function, &program, &case.text);
+                let given = (answer.refusal, answer.line);
+                assert_eq!(given, (case.refusal, 0), "{}", case.name);
+            }
         }
     }
 }
