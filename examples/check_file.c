@@ -2,14 +2,23 @@
  * Says of a program file whether the checker accepts it, and whether some run
  * of its program arrives in a rejecting state (paper: a forbidden one).
  *
- *     check_file [--all] [FILE]
+ *     check_file [--all] [--exchange TEXT [--output NEW]] [FILE]
  *
  * Without FILE it reads standard input. It prints the first 20 violations
  * (paper: findings) and how many more there are; with --all it prints each.
+ *
+ * With --exchange a whole routine of the program is exchanged first. TEXT is a
+ * file that holds the text of the exchange. Both repairs make it, each for
+ * itself, and have to come to the same; it prints what has changed, the first
+ * 20 configurations (paper: standings) that are new and that are gone, or with
+ * --all each, and then says of the new program what it says of any. With
+ * --output it also writes the new program file to NEW.
+ *
  * The exit status is 0 if the file is accepted and has no violation, 3 if it
  * is accepted and has one or more, 1 if it is refused, and 2 if anything else
  * is wrong: an unknown option, a file that cannot be read or is too long, or
- * an answer that the checker must not give.
+ * an answer that the checker must not give. With --exchange 0 and 3 are about
+ * the new program, and 1 says that the file or the exchange is refused.
  */
 #include "palthrenni.h"
 
@@ -17,21 +26,30 @@
 #include <stdio.h>
 #include <string.h>
 
-/* How many violations are printed without --all. */
+/* How many violations, or configurations, are printed without --all. */
 #define FIRST 20
 
 /* No accepted file has more than 6864 bytes, and one without rows no more than
- * PALTHRENNI_OUTPUT_SIZE. A longer one is handed over too, up to this length,
- * so that the checker names its fault. */
+ * PALTHRENNI_OUTPUT_SIZE; the text of an accepted exchange has fewer. A longer
+ * one is handed over too, up to this length, so that the checker names its
+ * fault. */
 #define LONGEST 16384
 
-/* The file: its name for messages, and its bytes, with room for one that is
- * too many. */
-static struct {
+/* What is read: its name, which is NULL until one is given, and its bytes,
+ * with room for one that is too many. */
+struct input {
     const char *name;
     uint8_t bytes[LONGEST + 1];
     size_t len;
-} file = {.name = "standard input"};
+};
+
+/* The program file, and the text of an exchange. */
+static struct input file, text;
+
+/* What else the arguments ask for: to print each violation, and where the new
+ * file goes, NULL for nowhere. */
+static int all;
+static const char *output_name;
 
 /* The marks (paper: the sheet), and room to work in. */
 static uint8_t marks[PALTHRENNI_MARKS_SIZE];
@@ -44,22 +62,22 @@ static int wrong(const char *where, const char *what)
     return 2;
 }
 
-static int read_open(FILE *in)
+static int read_open(struct input *input, FILE *in)
 {
-    file.len = fread(file.bytes, 1, sizeof file.bytes, in);
+    input->len = fread(input->bytes, 1, sizeof input->bytes, in);
     if (ferror(in))
-        return wrong(file.name, strerror(errno));
-    if (file.len > LONGEST)
-        return wrong(file.name, "the file has more than 16384 bytes");
+        return wrong(input->name, strerror(errno));
+    if (input->len > LONGEST)
+        return wrong(input->name, "the file has more than 16384 bytes");
     return 0;
 }
 
-static int read_named(void)
+static int read_named(struct input *input)
 {
-    FILE *in = fopen(file.name, "rb");
+    FILE *in = fopen(input->name, "rb");
     if (in == NULL)
-        return wrong(file.name, strerror(errno));
-    int status = read_open(in);
+        return wrong(input->name, strerror(errno));
+    int status = read_open(input, in);
     fclose(in);
     return status;
 }
@@ -76,6 +94,7 @@ static const char *meaning(uint32_t refusal)
     case PALTHRENNI_ORDER:
         return "the order of the frames is broken, or there are transitions and rows";
     case PALTHRENNI_RANGE:
+    case PALTHRENNI_EDIT_RANGE:
         return "a number is outside its range, or an edge leaves the exit";
     case PALTHRENNI_TABLE_FULL:
         return "more than 256 edges, transitions or rows";
@@ -87,6 +106,12 @@ static const char *meaning(uint32_t refusal)
         return "a state and an action are met by no row";
     case PALTHRENNI_PAIR_MET_TWICE:
         return "a state and an action are met by more than one row";
+    case PALTHRENNI_EDIT_LINE:
+        return "there is no line, or one that is not a frame 52 or 53";
+    case PALTHRENNI_EXCHANGE_ORDER:
+        return "not one frame 52 and then edges of its routine, ascending";
+    case PALTHRENNI_EDGES_FULL:
+        return "the new program would have more than 256 edges";
     default:
         return "unknown refusal";
     }
@@ -156,13 +181,21 @@ static int check_copy(void)
     return 0;
 }
 
-static void print_violation(uint32_t number)
+/* Prints a configuration, after a word that says what is the matter with it. */
+static void print_configuration(const char *word, uint32_t number)
 {
-    printf("violation: routine %lu, node %lu, root %lu, state %lu\n",
+    printf("%s: routine %lu, node %lu, root %lu, state %lu\n", word,
            (unsigned long)PALTHRENNI_ROUTINE(number),
            (unsigned long)PALTHRENNI_NODE(number),
            (unsigned long)PALTHRENNI_ROOT(number),
            (unsigned long)PALTHRENNI_STATE(number));
+}
+
+/* Says how many were left out, if any were. */
+static void print_more(uint32_t more)
+{
+    if (more > 0)
+        printf("and %lu more (--all prints them)\n", (unsigned long)more);
 }
 
 /*
@@ -185,7 +218,7 @@ static int print_first(uint32_t *printed)
             break;
         if (found < from || found >= PALTHRENNI_MARKS_SIZE)
             return wrong(file.name, "a violation was listed out of order");
-        print_violation(found);
+        print_configuration("violation", found);
         from = found + 1;
     }
     return 0;
@@ -202,8 +235,7 @@ static void find_rejecting(int rejecting[8])
 }
 
 /* Prints every violation straight from the marks, without another analysis: a
- * violation is a marked configuration (paper: standing) whose state is
- * rejecting. */
+ * violation is a marked configuration whose state is rejecting. */
 static void print_all(uint32_t *printed)
 {
     int rejecting[8] = {0};
@@ -211,14 +243,14 @@ static void print_all(uint32_t *printed)
     *printed = 0;
     for (uint32_t number = 0; number < PALTHRENNI_MARKS_SIZE; number++) {
         if (marks[number] == 1 && rejecting[PALTHRENNI_STATE(number)]) {
-            print_violation(number);
+            print_configuration("violation", number);
             ++*printed;
         }
     }
 }
 
 /* Prints the violations; the analysis has counted so many. */
-static int print_violations(uint32_t violations, int all)
+static int print_violations(uint32_t violations)
 {
     uint32_t wanted = all || violations < FIRST ? violations : FIRST;
     uint32_t printed;
@@ -228,25 +260,29 @@ static int print_violations(uint32_t violations, int all)
         return 2;
     if (printed != wanted)
         return wrong(file.name, "the violations are not as many as were counted");
-    if (printed < violations)
-        printf("and %lu more (--all prints them)\n",
-               (unsigned long)(violations - printed));
+    print_more(violations - printed);
     return 0;
 }
 
-/* Analyzes the accepted file and says what was found. */
-static int check_runs(int all)
+/* Analyzes the accepted file, which sets the marks, and says what was counted. */
+static int analyze(uint32_t *violations)
 {
-    uint32_t line, configurations, violations, iterations;
+    uint32_t line, configurations, iterations;
     uint32_t refusal = palthrenni_analyze(file.bytes, file.len, marks, sizeof marks,
                                           work, sizeof work, &line, &configurations,
-                                          &violations, &iterations);
+                                          violations, &iterations);
     if (refusal != PALTHRENNI_OK)
         return wrong(file.name, "accepted, but not analyzed");
     printf("analyzed: configurations %lu, violations %lu, iterations %lu\n",
-           (unsigned long)configurations, (unsigned long)violations,
+           (unsigned long)configurations, (unsigned long)*violations,
            (unsigned long)iterations);
-    if (print_violations(violations, all) != 0)
+    return 0;
+}
+
+/* Says what the analysis of the file has found. */
+static int conclude(uint32_t violations)
+{
+    if (print_violations(violations) != 0)
         return 2;
     if (violations == 0) {
         printf("no run arrives in a rejecting state\n");
@@ -257,52 +293,198 @@ static int check_runs(int all)
     return 3;
 }
 
-/* A refusal of the table has no line. */
-static void print_refusal(uint32_t refusal, uint32_t line)
+/* Analyzes the accepted file and says what was found. */
+static int check_runs(void)
 {
-    printf("refused: %lu (%s)", (unsigned long)refusal, meaning(refusal));
+    uint32_t violations;
+    return analyze(&violations) == 0 ? conclude(violations) : 2;
+}
+
+/* Says what is refused and why; a refusal of the table, or of an exchange, has
+ * no line. Gives the status for it. */
+static int refused(const char *what, uint32_t refusal, uint32_t line)
+{
+    printf("%s: %lu (%s)", what, (unsigned long)refusal, meaning(refusal));
     if (line != 0)
         printf(" at line %lu", (unsigned long)line);
     printf("\n");
+    return 1;
 }
 
-static int check(int all)
+/* What an exchange gives back: its refusal, the marks, and the new file. */
+struct exchanged {
+    uint32_t refusal;
+    uint8_t marks[PALTHRENNI_MARKS_SIZE];
+    struct copy file;
+};
+
+static int is_same(const struct exchanged *one, const struct exchanged *other)
+{
+    return one->refusal == other->refusal
+        && memcmp(one->marks, other->marks, sizeof one->marks) == 0
+        && is_copy(&one->file, other->file.bytes, other->file.len);
+}
+
+/* Makes the exchange by both repairs, each on marks and an output of its own.
+ * Which routines were reanalyzed, only the inside-out repair says. */
+static int exchange(struct exchanged *result, uint32_t *reanalyzed)
+{
+    static struct exchanged inward;
+    uint32_t line;
+    memcpy(result->marks, marks, sizeof marks);
+    memcpy(inward.marks, marks, sizeof marks);
+    result->refusal = palthrenni_exchange_forward(
+        file.bytes, file.len, result->marks, sizeof result->marks, text.bytes, text.len,
+        result->file.bytes, sizeof result->file.bytes, work, sizeof work,
+        &line, &result->file.len);
+    inward.refusal = palthrenni_exchange_inside_out(
+        file.bytes, file.len, inward.marks, sizeof inward.marks, text.bytes, text.len,
+        inward.file.bytes, sizeof inward.file.bytes, work, sizeof work,
+        &line, &inward.file.len, reanalyzed);
+    if (result->file.len > sizeof result->file.bytes || !is_same(result, &inward))
+        return wrong(text.name, "the two repairs do not come to the same");
+    if (result->refusal != PALTHRENNI_OK && memcmp(result->marks, marks, sizeof marks) != 0)
+        return wrong(text.name, "refused, but the marks were changed");
+    return 0;
+}
+
+/* Prints the configurations that are marked here and not there, and says how
+ * many they are. */
+static uint32_t print_only(const char *word, const uint8_t *here, const uint8_t *there)
+{
+    uint32_t count = 0, printed = 0;
+    for (uint32_t number = 0; number < PALTHRENNI_MARKS_SIZE; number++) {
+        if (here[number] == there[number] || here[number] == 0)
+            continue;
+        count++;
+        if (all || printed < FIRST) {
+            print_configuration(word, number);
+            printed++;
+        }
+    }
+    print_more(count - printed);
+    return count;
+}
+
+/* Says what the exchange has changed; the marks are still the old ones. */
+static void print_changes(const struct exchanged *result, uint32_t reanalyzed)
+{
+    printf("exchanged: %lu bytes, reanalyzed routines", (unsigned long)result->file.len);
+    for (int routine = 0; routine < 16; routine++) {
+        if (reanalyzed >> routine & 1)
+            printf(" %d", routine);
+    }
+    printf("\n");
+    uint32_t new = print_only("new", result->marks, marks);
+    uint32_t gone = print_only("gone", marks, result->marks);
+    if (new == 0 && gone == 0)
+        printf("no configuration is new, and none is gone\n");
+}
+
+/* Writes the new program file where --output says. */
+static int write_output(void)
+{
+    FILE *out = fopen(output_name, "wb");
+    if (out == NULL)
+        return wrong(output_name, strerror(errno));
+    size_t put = fwrite(file.bytes, 1, file.len, out);
+    if (fclose(out) != 0 || put != file.len)
+        return wrong(output_name, "not all could be written");
+    return 0;
+}
+
+/* Exchanges a routine of the accepted file, says what has changed, and goes on
+ * with the new file in the place of the old one. Its analysis has to set the
+ * marks that the exchange left. */
+static int check_exchange(void)
+{
+    static struct exchanged result;
+    uint32_t violations, reanalyzed;
+    if (analyze(&violations) != 0 || exchange(&result, &reanalyzed) != 0)
+        return 2;
+    if (result.refusal != PALTHRENNI_OK)
+        return refused("exchange refused", result.refusal, 0);
+    print_changes(&result, reanalyzed);
+    memcpy(file.bytes, result.file.bytes, result.file.len);
+    file.len = result.file.len;
+    if (analyze(&violations) != 0)
+        return 2;
+    if (memcmp(result.marks, marks, sizeof marks) != 0)
+        return wrong(text.name, "the marks left are not those of the new program");
+    if (output_name != NULL && write_output() != 0)
+        return 2;
+    return conclude(violations);
+}
+
+static int check(void)
 {
     uint32_t line;
     uint32_t refusal = palthrenni_read(file.bytes, file.len, &line);
-    if (refusal != PALTHRENNI_OK) {
-        print_refusal(refusal, line);
-        return 1;
-    }
-    int status = check_copy();
-    return status == 0 ? check_runs(all) : status;
+    if (refusal != PALTHRENNI_OK)
+        return refused("refused", refusal, line);
+    if (check_copy() != 0)
+        return 2;
+    return text.name != NULL ? check_exchange() : check_runs();
 }
 
 static int misused(const char *argument, const char *what)
 {
     wrong(argument, what);
-    fprintf(stderr, "usage: check_file [--all] [FILE]\n");
+    fprintf(stderr, "usage: check_file [--all] [--exchange TEXT [--output NEW]] [FILE]\n");
     return 2;
+}
+
+/* Where the name goes that follows this option; NULL if there is no such
+ * option. */
+static const char **name_after(const char *option)
+{
+    if (strcmp(option, "--exchange") == 0)
+        return &text.name;
+    return strcmp(option, "--output") == 0 ? &output_name : NULL;
+}
+
+static int read_arguments(int argc, char **argv)
+{
+    for (int i = 1; i < argc; i++) {
+        const char **name = &file.name;
+        if (strcmp(argv[i], "--all") == 0) {
+            all = 1;
+            continue;
+        }
+        if (argv[i][0] == '-') {
+            name = name_after(argv[i]);
+            if (name == NULL)
+                return misused(argv[i], "no such option");
+            if (++i == argc)
+                return misused(argv[i - 1], "no name follows");
+        }
+        if (*name != NULL)
+            return misused(argv[i], "a second file");
+        *name = argv[i];
+    }
+    if (output_name != NULL && text.name == NULL)
+        return misused("--output", "only with --exchange");
+    return 0;
+}
+
+/* Reads the text of an exchange, if one is named, and the program file. */
+static int read_inputs(void)
+{
+    if (text.name != NULL && read_named(&text) != 0)
+        return 2;
+    if (file.name != NULL)
+        return read_named(&file);
+    file.name = "standard input";
+    return read_open(&file, stdin);
 }
 
 int main(int argc, char **argv)
 {
-    int all = 0, named = 0;
-    for (int i = 1; i < argc; i++) {
-        if (strcmp(argv[i], "--all") == 0) {
-            all = 1;
-        } else if (argv[i][0] == '-') {
-            return misused(argv[i], "no such option");
-        } else if (named) {
-            return misused(argv[i], "a second file");
-        } else {
-            file.name = argv[i];
-            named = 1;
-        }
-    }
-    int status = named ? read_named() : read_open(stdin);
+    int status = read_arguments(argc, argv);
     if (status == 0)
-        status = check(all);
+        status = read_inputs();
+    if (status == 0)
+        status = check();
     if (fflush(stdout) != 0 || ferror(stdout))
         return wrong("standard output", "not all could be written");
     return status;

@@ -97,8 +97,8 @@ extern "C" {
 /* A state-action pair is met by two rows or more. */
 #define PALTHRENNI_PAIR_MET_TWICE 20
 
-/* Refusals of buffers, of an edit and of marks (paper: the sheet). They come
- * with line 0. */
+/* Refusals of buffers, of an edit, of an exchange and of marks (paper: the
+ * sheet). They come with line 0. */
 
 /* The marks do not have exactly PALTHRENNI_MARKS_SIZE bytes. */
 #define PALTHRENNI_MARKS_LENGTH 9
@@ -107,19 +107,30 @@ extern "C" {
 /* The working buffer does not have exactly PALTHRENNI_MARKS_SIZE bytes. */
 #define PALTHRENNI_WORK_LENGTH 11
 /* The edit is not exactly one line of hexadecimal, its kind is none of 2B, 2D
- * and 3D, or the kind has another count of numbers. */
+ * and 3D, or the kind has another count of numbers. Of an exchange: the text
+ * has no line at all, or some line of it is not one of hexadecimal, has a kind
+ * other than 52 and 53, or another count of numbers than its kind. */
 #define PALTHRENNI_EDIT_LINE 12
-/* A number of the edit is outside its range, or its edge leaves the exit. */
+/* A number of the edit is outside its range, or its edge leaves the exit. Of
+ * an exchange: so for some frame of the text. If the first frame is a 52, its
+ * count of nodes is the one that the edges of its routine are judged by; the
+ * edges of every other routine are judged by the program's own count. */
 #define PALTHRENNI_EDIT_RANGE 13
 /* The edge that is to be dropped or replaced is not there. */
 #define PALTHRENNI_NO_SUCH_EDGE 14
 /* The edge that would be made is there already. */
 #define PALTHRENNI_EDGE_EXISTS 15
-/* An edge is to be added, and there are 256. */
+/* An edge is to be added, and there are 256. Of an exchange: the new program
+ * would have more than 256 edges. */
 #define PALTHRENNI_EDGES_FULL 16
 /* The marks are not the program's own: some byte is not the one that
  * palthrenni_analyze would leave there. */
 #define PALTHRENNI_FOREIGN_MARKS 17
+/* Of an exchange only, and judged after 13 and before 16: the first frame of
+ * the text is not 52, a later one is, or an edge is of another routine or is
+ * not above the edge before it, compared left to right. So the same edge twice
+ * is 21. */
+#define PALTHRENNI_EXCHANGE_ORDER 21
 
 /* The most bytes that are ever written, and so the least length of an output.
  * An accepted file without rows is never longer. One with rows may be, up to
@@ -219,9 +230,9 @@ uint32_t palthrenni_analyze(const uint8_t *file, size_t file_len,
  * Each call costs a full analysis of the program, to see whether the marks
  * are its own (17); only a refusal before 17 costs less. To go through
  * thousands of violations this way takes thousands of analyses. Where the
- * marks are sure to be those that palthrenni_analyze or a repair left for
- * this file, they can be read instead: the violations are the numbers whose
- * byte is 1 and whose state is rejecting, that is, has a frame 46 in the
+ * marks are sure to be those that palthrenni_analyze, a repair or an exchange
+ * left for this file, they can be read instead: the violations are the numbers
+ * whose byte is 1 and whose state is rejecting, that is, has a frame 46 in the
  * file. examples/check_file.c does both.
  *
  *   file, file_len    the file's bytes, of any length
@@ -282,19 +293,20 @@ uint32_t palthrenni_prune(const uint8_t *file, size_t file_len,
  *
  * two digits a number and a byte 0A at the end.
  *
- * For a chain of repairs keep two buffers for files, one lent as the file and
- * the other as the output, and swap them after each accepted call: the next
- * call's file is what this one wrote, the first `written` bytes of its
- * output. Each has PALTHRENNI_OUTPUT_SIZE bytes or more; the one that holds
- * the first file needs more where a file with rows is longer. After a refusal
- * lend the same file again. The marks go on as each call leaves them.
+ * For a chain of repairs, with exchanges among them or not, keep two buffers
+ * for files, one lent as the file and the other as the output, and swap them
+ * after each accepted call: the next call's file is what this one wrote, the
+ * first `written` bytes of its output. Each has PALTHRENNI_OUTPUT_SIZE bytes
+ * or more; the one that holds the first file needs more where a file with rows
+ * is longer. After a refusal lend the same file again. The marks go on as each
+ * call leaves them.
  *
  * Each call costs at least one full analysis, to see whether the marks are
  * the program's own (17); only a refusal before 17 costs less.
  *
  *   file, file_len      the file's bytes, of any length
- *   marks, marks_len    the marks as palthrenni_analyze, or the repair before
- *                       this one, left them for this file
+ *   marks, marks_len    the marks as palthrenni_analyze, or the repair or
+ *                       exchange before this one, left them for this file
  *   edit, edit_len      the edit line's bytes
  *   output, output_len  where the new file is written: PALTHRENNI_OUTPUT_SIZE
  *                       bytes or more
@@ -342,6 +354,91 @@ uint32_t palthrenni_repair_inside_out(const uint8_t *file, size_t file_len,
                                       uint8_t *work, size_t work_len,
                                       uint32_t *line, uint32_t *written,
                                       uint32_t *reanalyzed);
+
+/*
+ * Exchanges a whole routine, by the forward repair: reads a program file and
+ * the text of an exchange, changes the marks to those of the new program, and
+ * writes that program, its transitions one by one even where the file has
+ * rows. In the new program the routine has another count of nodes, if the text
+ * says so, and in the place of all its edges those of the text. Everything
+ * else stays: the other routines, their calls of this one, and the automaton.
+ *
+ * The text is lines of hexadecimal as in a file, two digits a number and a
+ * byte 0A at the end of each line,
+ *
+ *     52 f p          first, and once: routine f has p nodes, 2 to 16
+ *     53 f n a m      an edge of routine f from node n to m by label a
+ *
+ * with a frame 53 for each edge that the routine is to have, ascending,
+ * compared left to right. With no frame 53 the routine has no edge afterwards.
+ * It may be main, routine 0. This text gives routine 1 of examples/F.txt a
+ * third node, with an action before it and one after it:
+ *
+ *     520103          routine 1 has three nodes: the entry 0, the exit 1, and 2
+ *     5301000002      from node 0 to node 2 by action 0
+ *     5301020101      from node 2 to node 1 by action 1
+ *
+ * In C it is "520103\n5301000002\n5301020101\n", with its 29 bytes.
+ *
+ * A chain of calls is kept as for palthrenni_repair_forward, and repairs and
+ * exchanges may take turns in it. Each call costs at least one full analysis,
+ * to see whether the marks are the program's own (17); only a refusal before
+ * 17 costs less.
+ *
+ *   file, file_len      the file's bytes, of any length
+ *   marks, marks_len    the marks as palthrenni_analyze, or the repair or
+ *                       exchange before this one, left them for this file
+ *   text, text_len      the text's bytes, of any length; they are lent for
+ *                       reading only
+ *   output, output_len  where the new file is written: PALTHRENNI_OUTPUT_SIZE
+ *                       bytes or more
+ *   work, work_len      room to work in: PALTHRENNI_MARKS_SIZE bytes, which
+ *                       may hold anything before
+ *   line                set to the line of a refusal 1 to 8, else to 0: a
+ *                       refusal of the text has no line
+ *   written             set to how many bytes were written, or to 0 if the
+ *                       call was refused
+ *
+ * Returns 1 to 8 for the file; then 19 or 20; then, if it is accepted, the
+ * first that is met of 9, 10, 11, 12, 13, 21, 16 and 17, in this order, each
+ * of 12, 13, 21 and 16 judged over the whole text before the next; else
+ * PALTHRENNI_OK. (14 and 15 are never met.) On PALTHRENNI_OK the marks are
+ * those that palthrenni_analyze would set for the new file, the new file is at
+ * the start of the output and the rest of the output is unchanged, and the
+ * working buffer is all zero. On a refusal the marks and the output are
+ * unchanged; the working buffer is all zero on 17 and unchanged on every other
+ * number.
+ */
+uint32_t palthrenni_exchange_forward(const uint8_t *file, size_t file_len,
+                                     uint8_t *marks, size_t marks_len,
+                                     const uint8_t *text, size_t text_len,
+                                     uint8_t *output, size_t output_len,
+                                     uint8_t *work, size_t work_len,
+                                     uint32_t *line, uint32_t *written);
+
+/*
+ * As palthrenni_exchange_forward, by the inside-out repair. The marks, the
+ * output, the working buffer and the numbers are the same; one number more
+ * says which routines were reanalyzed.
+ *
+ *   reanalyzed          set to a bit for each routine, bit f for routine f, or
+ *                       to 0 if the call was refused
+ *
+ * The reanalyzed routines are those of dropping all old edges of the routine
+ * together, as for palthrenni_repair_inside_out, and then those that gain a
+ * configuration when all new edges are added together. So the exchanged
+ * routine is always one of them, and so is each routine that calls it, if it
+ * could reach its exit before: in between, without an edge, it cannot. This
+ * holds also where a routine is exchanged for itself, and no byte of the marks
+ * changes.
+ */
+uint32_t palthrenni_exchange_inside_out(const uint8_t *file, size_t file_len,
+                                        uint8_t *marks, size_t marks_len,
+                                        const uint8_t *text, size_t text_len,
+                                        uint8_t *output, size_t output_len,
+                                        uint8_t *work, size_t work_len,
+                                        uint32_t *line, uint32_t *written,
+                                        uint32_t *reanalyzed);
 
 #ifdef __cplusplus
 }
