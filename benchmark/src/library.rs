@@ -4,7 +4,8 @@ use binding::Answer;
 use reference::model::standing::SHEET_SIZE;
 use reference::model::write::OUTPUT_SIZE;
 
-/// A repair, which takes a file, marks, an edit, an output and a working buffer.
+/// A repair, which takes a file, marks, an edit line or the text of an exchange, an output and a
+/// working buffer.
 pub type Repair<const N: usize> = fn(
     Option<&[u8]>,
     Option<&mut [u8]>,
@@ -38,15 +39,15 @@ impl Buffers {
     }
 
     /// How many bytes a repair writes.
-    pub fn repair<const N: usize>(&mut self, by: Repair<N>, file: &[u8], line: &[u8]) -> u32 {
+    pub fn repair<const N: usize>(&mut self, by: Repair<N>, file: &[u8], text: &[u8]) -> u32 {
         let Buffers {
             marks,
             work,
             output,
         } = self;
-        let (file, line) = (Some(file), Some(line));
-        let answer = by(file, Some(marks), line, Some(output), Some(work));
-        assert_eq!(answer.refusal, 0, "the edit is accepted");
+        let (file, text) = (Some(file), Some(text));
+        let answer = by(file, Some(marks), text, Some(output), Some(work));
+        assert_eq!(answer.refusal, 0, "the change is accepted");
         answer.values[0]
     }
 }

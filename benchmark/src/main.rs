@@ -1,7 +1,7 @@
 //! How many programs a second the proved analysis does, through the C interface, beside the same
-//! procedure in plain Rust; and how many edits the two repairs do.
+//! procedure in plain Rust; and how many changes the two repairs make.
 
-mod edits;
+mod changes;
 mod library;
 mod plain;
 
@@ -179,5 +179,5 @@ fn main() {
         measure_row(kind, inputs);
     }
     println!();
-    edits::print_table(&kinds);
+    changes::print_table(&kinds);
 }

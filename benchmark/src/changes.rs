@@ -1,68 +1,98 @@
-//! How many edits a second the two repairs do, beside the analysis of the edited program.
+//! How many changes a second, edits and exchanges, the two repairs make, beside the analysis of the
+//! changed program.
 
 use crate::library::{Buffers, Repair};
 use crate::{print_row, rates, Input};
 use reference::generate::edits::steps_that_act;
+use reference::model::change::Change;
 use reference::model::edit::{after, Edit};
+use reference::model::exchange::Exchange;
 use reference::model::program::{Label, Program, Step};
 use reference::model::standing::SHEET_SIZE;
 use reference::model::write::write;
 use std::time::{Duration, Instant};
 
-/// How many edits of each kind a program gets.
-const EDITS: usize = 4;
+/// How many changes of each kind a program gets.
+const CHANGES: usize = 4;
 
 const ABOUT: &str = "\
-An edit by the forward and by the inside-out repair beside the analysis of the edited program, all
-by the library through its C interface, for the same programs and timed in the same way. In each
-program a few steps are chosen, spread evenly over those that begin where something is marked.
+A change by the forward and by the inside-out repair beside the analysis of the changed program,
+all by the library through its C interface, for the same programs and timed in the same way. In
+each program a few steps are chosen, spread evenly over those that begin where something is marked.
 'drop' drops such a step, 'add' puts it back into the program without it, and 'replace' gives it
-the next label that no step between the same places has. All these edits are accepted. Before the
-timing all sides were seen to leave the same marks, and the repairs to write the edited file.
+the next label that no step between the same places has. 'exchange' exchanges the step's routine
+for itself without that step, so its programs, the old and the new, are those of 'drop'. All these
+changes are accepted. Before the timing all sides were seen to leave the same marks, and the
+repairs to write the changed file.
 Each repair starts from the old program's own marks, and copying them in is within the time
 measured. A repair reads the old file and writes the new one, and it tests the marks (refusal 17)
 by a full analysis of the old program: so it cannot be faster than one analysis of that program.
-For 'add' that is the analysis in the row of 'drop', and for 'drop' and 'replace' the one in the
-row of 'add'; but the rows are timed one after the other, so on a busy machine numbers of
-different rows compare only roughly. A ratio stands after its repair; above 1 it means that the
-repair is faster than the analysis of the edited program. Standings of the edited program, and
-marks changed by the edit, are means.
+For 'add' that is the analysis in the row of 'drop', and for the others the one in the row of
+'add'; but the rows are timed one after the other, so on a busy machine numbers of different rows
+compare only roughly. A ratio stands after its repair; above 1 it means that the repair is faster
+than the analysis of the changed program. Standings of the changed program, and marks that differ
+from the old ones ('changed'), are means.
 ";
 
-/// One edit, with what the two sides take and what they have to answer.
+/// The two repairs for a change of one form.
+struct Repairs {
+    forward: Repair<1>,
+    inside_out: Repair<2>,
+}
+
+const BY_EDIT_LINE: Repairs = Repairs {
+    forward: binding::repair_forward,
+    inside_out: binding::repair_inside_out,
+};
+const BY_EXCHANGE_TEXT: Repairs = Repairs {
+    forward: binding::exchange_forward,
+    inside_out: binding::exchange_inside_out,
+};
+
+/// One change, with what all sides take and what they have to answer.
 struct Task {
     old_file: Vec<u8>,
     old_marks: Vec<u8>,
-    line: Vec<u8>,
+    repairs: Repairs,
+    /// What the repairs are handed for the change: an edit line, or the text of an exchange.
+    text: Vec<u8>,
     new_file: Vec<u8>,
     counts: [u32; 3],
-    /// How many marks the edit changes.
+    /// How many marks become different.
     changed: usize,
 }
 
 /// Whether a repair, which begins from the old marks, writes as much as it should.
 fn repair<const N: usize>(by: Repair<N>, task: &Task, buffers: &mut Buffers) -> bool {
     buffers.marks.copy_from_slice(&task.old_marks);
-    buffers.repair(by, &task.old_file, &task.line) == task.new_file.len() as u32
+    buffers.repair(by, &task.old_file, &task.text) == task.new_file.len() as u32
 }
 
 fn forward(task: &Task, buffers: &mut Buffers) -> bool {
-    repair(binding::repair_forward, task, buffers)
+    repair(task.repairs.forward, task, buffers)
 }
 
 fn inside_out(task: &Task, buffers: &mut Buffers) -> bool {
-    repair(binding::repair_inside_out, task, buffers)
+    repair(task.repairs.inside_out, task, buffers)
 }
 
-/// Whether the analysis of the edited program counts what it should.
+/// Whether the analysis of the changed program counts what it should.
 fn analysis(task: &Task, buffers: &mut Buffers) -> bool {
     buffers.analyze(&task.new_file) == task.counts
 }
 
-/// An edit of a program, after all sides have done it and agree.
-fn task(old: &Program, edit: Edit) -> Task {
-    let new = after(old, edit);
-    let (old_file, new_file) = (write(old), write(&new));
+/// The repairs for a change, and the text that they are handed for it.
+fn repairs_and_text(change: &Change) -> (Repairs, Vec<u8>) {
+    match change {
+        Change::Edit(edit) => (BY_EDIT_LINE, edit.line()),
+        Change::Exchange(exchange) => (BY_EXCHANGE_TEXT, exchange.text()),
+    }
+}
+
+/// A change of a program, after all sides have made it and agree.
+fn task(old: &Program, change: &Change) -> Task {
+    let (repairs, text) = repairs_and_text(change);
+    let (old_file, new_file) = (write(old), write(&change.after(old)));
     let mut buffers = Buffers::new();
     buffers.analyze(&old_file);
     let old_marks = buffers.marks.clone();
@@ -73,7 +103,8 @@ fn task(old: &Program, edit: Edit) -> Task {
     let task = Task {
         old_file,
         old_marks,
-        line: edit.line(),
+        repairs,
+        text,
         new_file,
         counts,
         changed,
@@ -82,7 +113,7 @@ fn task(old: &Program, edit: Edit) -> Task {
         assert!(repair(&task, &mut buffers), "the repair is accepted");
         assert_eq!(buffers.marks, new_marks, "all sides mark the same");
         let written = &buffers.output[..task.new_file.len()];
-        assert_eq!(written, task.new_file, "the repair writes the edited file");
+        assert_eq!(written, task.new_file, "the repair writes the changed file");
     }
     task
 }
@@ -92,8 +123,8 @@ fn chosen_steps(input: &Input) -> Vec<Step> {
     let mut buffers = Buffers::new();
     buffers.analyze(&input.file);
     let steps = steps_that_act(&input.program, &buffers.marks);
-    let middle = |part: usize| steps[(2 * part + 1) * steps.len() / (2 * EDITS)];
-    (0..EDITS).map(middle).collect()
+    let middle = |part: usize| steps[(2 * part + 1) * steps.len() / (2 * CHANGES)];
+    (0..CHANGES).map(middle).collect()
 }
 
 /// The next label, after a step's own, that no step between its places has: the actions come first,
@@ -113,26 +144,40 @@ fn next_label(program: &Program, step: Step) -> Label {
     once.find(is_new).expect("some label is new")
 }
 
+fn without(program: &Program, step: Step) -> Program {
+    after(program, Edit::Drop(step))
+}
+
 fn add(program: &Program, step: Step) -> Task {
-    let without = after(program, Edit::Drop(step));
-    task(&without, Edit::Add(step))
+    task(&without(program, step), &Change::Edit(Edit::Add(step)))
 }
 
 fn drop(program: &Program, step: Step) -> Task {
-    task(program, Edit::Drop(step))
+    task(program, &Change::Edit(Edit::Drop(step)))
 }
 
 fn replace(program: &Program, step: Step) -> Task {
-    task(program, Edit::Replace(step, next_label(program, step)))
+    let edit = Edit::Replace(step, next_label(program, step));
+    task(program, &Change::Edit(edit))
 }
 
-type EditKind = fn(&Program, Step) -> Task;
-const EDIT_KINDS: [(&str, EditKind); 3] = [("add", add), ("drop", drop), ("replace", replace)];
+fn exchange(program: &Program, step: Step) -> Task {
+    let exchange = Exchange::for_itself(&without(program, step), step.routine);
+    task(program, &Change::Exchange(exchange))
+}
+
+type ChangeKind = fn(&Program, Step) -> Task;
+const CHANGE_KINDS: [(&str, ChangeKind); 4] = [
+    ("add", add),
+    ("drop", drop),
+    ("replace", replace),
+    ("exchange", exchange),
+];
 
 type Side = fn(&Task, &mut Buffers) -> bool;
 const SIDES: [Side; 3] = [forward, inside_out, analysis];
 
-/// One turn: every edit once. The answer has to be right each time.
+/// One turn: every change once. The answer has to be right each time.
 fn turn(side: Side, tasks: &[Task], buffers: &mut Buffers) -> Duration {
     let begin = Instant::now();
     for task in tasks {
@@ -147,12 +192,12 @@ fn measure(tasks: &[Task]) -> [f64; 3] {
     rates(tasks.len(), |side| turn(SIDES[side], tasks, &mut buffers))
 }
 
-fn measure_row(kind: &str, edit: &str, tasks: &[Task]) {
+fn measure_row(kind: &str, change: &str, tasks: &[Task]) {
     let [forward, inside_out, analyses] = measure(tasks);
     let standings: u32 = tasks.iter().map(|task| task.counts[0]).sum();
     let changed: usize = tasks.iter().map(|task| task.changed).sum();
     let cells = [
-        edit.to_string(),
+        change.to_string(),
         (standings as usize / tasks.len()).to_string(),
         (changed / tasks.len()).to_string(),
         format!("{forward:.0}"),
@@ -164,11 +209,11 @@ fn measure_row(kind: &str, edit: &str, tasks: &[Task]) {
     print_row(kind, cells);
 }
 
-/// Measures and prints the table: for each kind of program a row for each kind of edit.
+/// Measures and prints the table: for each kind of program a row for each kind of change.
 pub fn print_table(kinds: &[(&str, Vec<Input>)]) {
     println!("{ABOUT}");
     let names = [
-        "edit",
+        "change",
         "standings",
         "changed",
         "forward",
@@ -177,15 +222,15 @@ pub fn print_table(kinds: &[(&str, Vec<Input>)]) {
         "ratio",
         "analyses",
     ];
-    print_row("edits a second", names.map(String::from));
+    print_row("changes a second", names.map(String::from));
     for (kind, inputs) in kinds {
-        for (edit, make) in EDIT_KINDS {
-            let edits = |input| {
+        for (change, make) in CHANGE_KINDS {
+            let changes = |input| {
                 let tasks = chosen_steps(input).into_iter();
                 tasks.map(move |step| make(&input.program, step))
             };
-            let tasks: Vec<Task> = inputs.iter().flat_map(edits).collect();
-            measure_row(kind, edit, &tasks);
+            let tasks: Vec<Task> = inputs.iter().flat_map(changes).collect();
+            measure_row(kind, change, &tasks);
         }
     }
 }
