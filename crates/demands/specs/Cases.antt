@@ -215,11 +215,6 @@ P10 = record {
 
 -- ---- exchanges of a routine of F
 
--- the lines of F with its routine 1 exchanged: so many nodes, and these edges
-abbrev withRoutine : String → List String → String → List String
-withRoutine nodes steps end =
-    "50020302" ∷ "520003" ∷ nodes ∷ "5300004102" ∷ "5300020101" ∷ steps ++ transitions ++ "4900" ∷ "4602" ∷ end ∷ []
-
 -- E1: routine 1 exchanged for itself changes no byte; reanalyzed are 0 and 1
 abbrev pub E1 : Changed
 E1 = record {
@@ -243,7 +238,9 @@ E2 =
       text = "520103" ∷ "5301000002" ∷ "5301020001" ∷ [];
       refused = 0;
       after = 0 ∷ 65 ∷ 129 ∷ 1024 ∷ 1089 ∷ 1153 ∷ [];
-      wrote = withRoutine "520103" ("5301000002" ∷ "5301020001" ∷ []) "45000D";
+      wrote =
+          "50020302" ∷ "520003" ∷ "520103" ∷ "5300004102" ∷ "5300020101" ∷ "5301000002" ∷ "5301020001"
+          ∷ transitions ++ "4900" ∷ "4602" ∷ "45000D" ∷ [];
       reanalyzed = none;
     }
 
