@@ -1,7 +1,7 @@
 // Passes over the marks: the count of violations, and the search for one.
 use reach::configuration::state_of;
 ghost use mathlib.Core.Path.{_≡_};
-ghost use Prim.Native.Nat.{ℕ, _<_};
+ghost use Prim.Native.Nat.{_<_};
 ghost use lib.ListN.{length, getD};
 ghost use Rattle.automaton.specs.Sizes.{maxStates};
 ghost use Rattle.program.specs.Sizes.{marksSize};

@@ -1,5 +1,5 @@
 -- What is asked of the keys in use: whether a key is one of them, and where those that are not below a number begin.
-use mathlib.Core.Path.{_≡_, refl}
+use mathlib.Core.Path.{refl}
 use mathlib.Core.List.{List}
 use Prim.Native.Nat.{ℕ, min, _≤_, _<_}
 use native.Mathlib.Omega.{arith}

@@ -8,7 +8,6 @@ use Rattle.text.specs.Lines.{lines}
 use Rattle.program.specs.Reading.{readFile}
 use Rattle.program.specs.declared.Verdict.the-variants as verdict
 use Rattle.writer.specs.declared.WriteAnswer.{WriteAnswer}
-use Rattle.writer.specs.declared.WriteAnswer.the-variants.{Refused}
 use Rattle.reach.specs.Marks.{freshMarks}
 use Rattle.reach.proofs.ShapeKept.{marks-length}
 use Rattle.repair.specs.Repairs.{After}

@@ -10,7 +10,7 @@ use Rattle.program.specs.Sizes.{maxRoutines, maxNodes}
 use Rattle.program.specs.Program.{Edge, Program}
 use Rattle.program.specs.Frames.{edgeKey}
 use Rattle.program.specs.WellFormed.{WellFormed}
-use Rattle.reach.specs.Runs.{Step, labelOf, stepOf, HasStep}
+use Rattle.reach.specs.Runs.{Step, eventOf, stepOf, HasStep}
 use Rattle.reach.specs.Reachable.{Initial, initial}
 use Rattle.reach.proofs.LeastSetLaws.{Within}
 use Rattle.reach.specs.Configurations.{Sub}
@@ -135,7 +135,7 @@ module _ (s : edit.Step) (p : Program) (w : WellFormed p) where
   unfolding editedProgram
   add-from a =
       let z = sizes (editedProgram (Add s) p) (applied-well-formed (Add s) p w a) in
-      let h : HasStep (editedProgram (Add s) p) (s .routine) (s .source) (labelOf (edgeOfStep s .label)) (s .target) = new-inserted stepOf (edgeOfStep s) (p .edges) in
+      let h : HasStep (editedProgram (Add s) p) (s .routine) (s .source) (eventOf (edgeOfStep s .label)) (s .target) = new-inserted stepOf (edgeOfStep s) (p .edges) in
       (z .routine h, z .source h)
 
   pub drop-within : Within (editedProgram (Drop s) p) p

@@ -1,14 +1,14 @@
 -- The loop that follows what is pending: its head, a turn and its end.
 use Prim.Native.Nat.{ℕ, _+_, _≤_, _<_}
 use mathlib.Core.Path.{_≡_, refl, sym, subst, _∙_}
-use mathlib.Core.Option.{Option, some, none}
+use mathlib.Core.Option.{some}
 use mathlib.Core.List.{List}
 use lib.ListN.{length}
 use borrow.Author.Tests.{lt-ltb, le-ltb}
 use Rattle.program.specs.Sizes.{marksSize}
 use Rattle.program.specs.Program.{Program}
 use Rattle.reach.specs.Sizes.{summariesSize, enoughIterations}
-use Rattle.reach.specs.Worklist.{Worklist, lowest, takeAt}
+use Rattle.reach.specs.Worklist.{lowest, takeAt}
 use Rattle.reach.proofs.LoopRuns.{Running, running-from, running-end, running-more, running-turn}
 use Rattle.marking.specs.Parts.{worklist, NoneBelow, Tables}
 use Rattle.worklist.specs.Parts.{within, followed, Ends}

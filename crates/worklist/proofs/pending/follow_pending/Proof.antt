@@ -4,7 +4,6 @@ use Rattle.worklist.proofs.LoopFollows.{Going, going-start, not-used-up
 use native.Mathlib.Omega.{arith}
 use mathlib.Core.Path.{sym, _∙_}
 use Prim.Native.Nat.{_-_, _<_}
-use borrow.Author.Needs.{needs}
 use Rattle.worklist.proofs.pending.follow_pending.Statement.{statement}
 use Rattle.worklist.proofs.pending.follow_pending.Tie as tie
 
