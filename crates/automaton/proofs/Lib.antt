@@ -1,1 +1,3 @@
 pub mod TablesFilled
+pub mod LabelsUnheard
+pub mod EventsHeard

@@ -1,29 +1,26 @@
 -- Tables of flags that a loop fills: it takes entries in turn and sets one flag for each.
-use mathlib.Core.Path.{_≡_, refl, sym, _∙_}
-use mathlib.Core.Bool.{Bool, true, false, _&&_, _||_, or-true, or-false, or-assoc}
+use mathlib.Core.Path.{_≡_, refl}
+use mathlib.Core.Bool.{Bool, true, false, _&&_}
 use mathlib.Core.List.{List, map}
-use Prim.Native.Nat.{ℕ, suc, min, _+_, _/_, _%_, _≤_, _<_}
-use native.Mathlib.Numerals.{add-one}
+use Prim.Native.Nat.{ℕ, min, _+_, _/_, _%_, _≤_, _<_}
 use native.Mathlib.Omega.{arith}
 use lib.Dec.{eqb}
-use lib.ListN.{length, take, drop, getD, set, replicate, length-take, length-set, length-replicate, getD-replicate, drop-of-length-le}
-use lib.Seq.{drop-cons, getD-take, getD-set-same, getD-set-other}
+use lib.ListN.{length, take, getD, set, replicate, length-set, length-replicate}
 use borrow.Author.Tests.{eqb-true, eqb-false, eq-eqb, ne-eqb}
 use Rattle.tables.specs.Keys.{member}
 use Rattle.base.proofs.EntriesInUse.{Asks}
 use Rattle.tables.proofs.KeysAsked.{asks-member}
-use Rattle.automaton.specs.Sizes.{maxStates, maxActions, nextStatesSize}
-use Rattle.automaton.specs.Automaton.{Automaton, goes, listed, moves}
+use Rattle.automaton.specs.Sizes.{maxStates, maxLabels, nextStatesSize}
+use Rattle.automaton.specs.Automaton.{Transition, goes, listed, heard}
 use Rattle.automaton.specs.Decoded.{transitionOf}
-use Rattle.automaton.specs.Flags.{nextPlace, Placed, Answers, Lists}
-use Rattle.base.specs.Flags.{isSet}
+use Rattle.automaton.specs.Flags.{nextPlace, Placed, Listed, Heard, Lists}
 use Rattle.base.proofs.FlagsDecided.{Deciding, deciding-none, deciding-more, deciding-all}
 
 -- ---- the place of a transition's flag
 
 -- a number is the place for (q, a, s) just where the parts x, y, z are q, a, s
 module _ (x y z q a s at : ℕ) (to : at ≡ nextPlace q a s → (x ≡ q) × (y ≡ a) × (z ≡ s)) (from : x ≡ q → y ≡ a → z ≡ s → at ≡ nextPlace q a s) where
-  same-place : eqb at (nextPlace q a s) ≡ eqb x q && eqb y a && eqb z s
+  pub same-place : eqb at (nextPlace q a s) ≡ eqb x q && eqb y a && eqb z s
   same-place = go (eqb x q) (eqb y a) (eqb z s) refl refl refl
     where
       go : (b c d : Bool) → eqb x q ≡ b → eqb y a ≡ c → eqb z s ≡ d → eqb at (nextPlace q a s) ≡ b && c && d
@@ -43,14 +40,14 @@ module _ (key : ℕ) where
   abbrev z : ℕ
   z = key % 256
 
-  pub no-place : (x < maxStates → y < maxActions → z < maxStates → ⊥) → Placed key nextStatesSize
+  pub no-place : (x < maxStates → y < maxLabels → z < maxStates → ⊥) → Placed key nextStatesSize
   no-place out =
       record {
         placed = λ q a s hq ha hs.
             same-place x y z q a s nextStatesSize (λ d. absurd (omega arith)) (λ u v w. absurd (out (omega arith) (omega arith) (omega arith)));
       }
 
-  pub its-place : {at : ℕ} → at ≡ nextPlace x y z → x < maxStates → y < maxActions → z < maxStates → Placed key at
+  pub its-place : {at : ℕ} → at ≡ nextPlace x y z → x < maxStates → y < maxLabels → z < maxStates → Placed key at
   its-place {at} e hx hy hz =
       record {
         placed = λ q a s hq ha hs. same-place x y z q a s at (λ d. (omega arith, omega arith, omega arith)) (λ u v w. omega arith);
@@ -64,7 +61,7 @@ asks-listed q a s = record { empty = refl; first = λ x xs. refl }
 
 pub record Allowed (keys : List ℕ) (n i : ℕ) (flags : List ℕ) : Type 0 where
   pub size : length flags ≡ nextStatesSize
-  pub flag : (q a s : ℕ) → q < maxStates → a < maxActions → s < maxStates → Deciding (λ ks. listed q a s (map transitionOf ks)) keys n i flags (nextPlace q a s)
+  pub flag : (q a s : ℕ) → q < maxStates → a < maxLabels → s < maxStates → Deciding (λ ks. listed q a s (map transitionOf ks)) keys n i flags (nextPlace q a s)
 
 pub allowed-none : (keys : List ℕ) (n : ℕ) → Allowed keys n 0 (replicate nextStatesSize 0)
 allowed-none keys n =
@@ -81,10 +78,37 @@ module _ {keys : List ℕ} {n i : ℕ} {flags : List ℕ} (t : Allowed keys n i 
         flag = λ q a s hq ha hs. deciding-more (asks-listed q a s) (t .flag q a s hq ha hs) j h k (omega (arith, t .size)) (place .placed q a s hq ha hs);
       }
 
-  pub allowed-all : (r : Automaton) → min n (length keys) ≤ i → r .transitions ≡ map transitionOf (take n keys) → Answers r flags
-  unfolding moves
-  allowed-all r h e =
-      record { answers = λ q a s hq ha hs. rw e (deciding-all (asks-listed q a s) (t .flag q a s hq ha hs) h) }
+  pub allowed-all : {ts : List Transition} → min n (length keys) ≤ i → ts ≡ map transitionOf (take n keys) → Listed ts flags
+  allowed-all h e =
+      record { listed-at = λ q a s hq ha hs. rw e (deciding-all (asks-listed q a s) (t .flag q a s hq ha hs) h) }
+
+-- ---- the flags of the labels that are heard, the first i keys taken
+
+asks-heard : (l : ℕ) → Asks (λ ks. heard l (map transitionOf ks)) (λ k. eqb (transitionOf k .label) l)
+unfolding heard
+asks-heard l = record { empty = refl; first = λ x xs. refl }
+
+pub record Hearing (keys : List ℕ) (n i : ℕ) (flags : List ℕ) : Type 0 where
+  pub size : length flags ≡ maxLabels
+  pub flag : (l : ℕ) → l < maxLabels → Deciding (λ ks. heard l (map transitionOf ks)) keys n i flags l
+
+pub hearing-none : (keys : List ℕ) (n : ℕ) → Hearing keys n 0 (replicate maxLabels 0)
+hearing-none keys n =
+    record {
+      size = length-replicate {A = ℕ} maxLabels 0;
+      flag = λ l h. deciding-none (λ ks. heard l (map transitionOf ks)) keys n maxLabels l h;
+    }
+
+module _ {keys : List ℕ} {n i : ℕ} {flags : List ℕ} (t : Hearing keys n i flags) where
+  pub hearing-more : {l : ℕ} → l ≡ transitionOf (getD keys i 0) .label → i < n → i < length keys → Hearing keys n (i + 1) (set flags l 1)
+  hearing-more {l} e h k =
+      record {
+        size = simp length-set (t .size);
+        flag = λ x b. deciding-more (asks-heard x) (t .flag x b) l h k (omega (arith, t .size)) (rw e);
+      }
+
+  pub hearing-all : {ts : List Transition} → min n (length keys) ≤ i → ts ≡ map transitionOf (take n keys) → Heard ts flags
+  hearing-all h e = record { heard-at = λ l b. rw e (deciding-all (asks-heard l) (t .flag l b) h) }
 
 -- ---- the flags of a list's states, the first i of them taken
 

@@ -16,7 +16,7 @@ statesOf s = take (s .count) (s .list)
 
 -- a transition is kept as one number in base 256, its key
 abbrev pub transitionOf : ℕ → Transition
-transitionOf k = record { before = k / 0x10000; action = k / 0x100 % 256; after = k % 256 }
+transitionOf k = record { before = k / 0x10000; label = k / 0x100 % 256; after = k % 256 }
 
 abbrev pub automatonOf : DecodedAutomaton → Automaton
 automatonOf d =

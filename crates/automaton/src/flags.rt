@@ -5,7 +5,6 @@ use crate::States;
 use crate::sizes::MAX_STATES;
 use base::flags::set_flag;
 use tables::in_use;
-ghost use mathlib.Core.Path.{_≡_};
 ghost use Rattle.automaton.specs.Decoded.{statesOf, automatonOf};
 ghost use Rattle.automaton.specs.Flags.{Lists, Starts, Rejects};
 

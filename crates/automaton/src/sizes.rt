@@ -1,9 +1,17 @@
-// How many states, actions and transitions an automaton has at most.
+// How many states, actions and transitions an automaton has at most, and the numbers of labels.
 pub const MAX_STATES: usize = 8;
 
 pub const MAX_ACTIONS: usize = 32;
 
 pub const MAX_TRANSITIONS: usize = 256;
 
-// An answer for each state, action and next state.
-pub const NEXT_STATES_SIZE: usize = MAX_STATES * MAX_ACTIONS * MAX_STATES;
+// The label of a call of routine 0, and that of a return from it: below are the actions, and the calls.
+pub const FIRST_CALL: u8 = 0x40;
+
+pub const FIRST_RETURN: u8 = 0x60;
+
+// Every label is below this.
+pub const MAX_LABELS: usize = 0x80;
+
+// An answer for each state, label and next state.
+pub const NEXT_STATES_SIZE: usize = MAX_STATES * MAX_LABELS * MAX_STATES;

@@ -14,7 +14,7 @@ pub struct Transitions {
 // A transition as its key says it.
 pub struct DecodedTransition {
     pub before: u32,
-    pub action: u32,
+    pub label: u32,
     pub after: u32,
 }
 
@@ -26,20 +26,20 @@ pub fn no_transitions() -> Transitions
 }
 
 // The key of a transition.
-pub fn transition_key(before: u8, action: u8, after: u8) -> u32
-    ensures { λ r. ⌜ transitionOf r ≡ record { before = before; action = action; after = after } ⌝ }
+pub fn transition_key(before: u8, label: u8, after: u8) -> u32
+    ensures { λ r. ⌜ transitionOf r ≡ record { before = before; label = label; after = after } ⌝ }
 {
-    ((before as u32) * 256 + (action as u32)) * 256 + (after as u32)
+    ((before as u32) * 256 + (label as u32)) * 256 + (after as u32)
 }
 
 // The parts of a transition's key.
 pub fn transition(key: u32) -> DecodedTransition
-    ensures { λ t. ⌜ (t .before ≡ transitionOf key .before) × (t .action ≡ transitionOf key .action)
+    ensures { λ t. ⌜ (t .before ≡ transitionOf key .before) × (t .label ≡ transitionOf key .label)
         × (t .after ≡ transitionOf key .after) ⌝ }
 {
     DecodedTransition {
         before: key / 0x10000,
-        action: key / 0x100 % 256,
+        label: key / 0x100 % 256,
         after: key % 256,
     }
 }

@@ -13,7 +13,7 @@ use Rattle.base.specs.Flags.{isSet}
 use Rattle.base.proofs.EntriesInUse.{Asks}
 
 -- a store sets its own flag, and leaves the others
-set-sets : (flags : List ℕ) (j at : ℕ) → at < length flags → isSet (set flags j 1) at ≡ isSet flags at || eqb j at
+pub set-sets : (flags : List ℕ) (j at : ℕ) → at < length flags → isSet (set flags j 1) at ≡ isSet flags at || eqb j at
 set-sets flags j at h = go (eqb j at) refl
   where
     go : (b : Bool) → eqb j at ≡ b → isSet (set flags j 1) at ≡ isSet flags at || b

@@ -8,14 +8,15 @@ use lib.Dec.{ltb, leb, eqb}
 use lib.ListN.{length, getD, take, length-map, length-take}
 use borrow.Author.Tests.{ltb-false, leb-true, leb-false, le-leb, lt-leb, eqb-true, not-false}
 use Rattle.text.specs.declared.Line.{Line}
-use Rattle.program.specs.Sizes.{maxEdges, firstCall}
+use Rattle.program.specs.Sizes.{maxEdges}
+use Rattle.automaton.specs.Sizes.{firstCall}
 use Rattle.program.specs.Program.{Edge, Program, edgeFits, labelFits, placed}
 use Rattle.program.specs.Frames.{num}
 use Rattle.program.specs.Decoded.{edgeOf}
 use Rattle.program.specs.Reading.{edgeIn}
 use Rattle.program.specs.WellFormed.{WellFormed}
 use Rattle.program.proofs.FramesFitBytes.{edge-bytes}
-use Rattle.edit.specs.Edits.{labelOf, labelNumber, labelled, edgeOfStep, oldEdge, newEdge}
+use Rattle.edit.specs.Edits.{eventOf, labelNumber, labelled, edgeOfStep, oldEdge, newEdge}
 use Rattle.edit.specs.EditLines.{onlyLine, badLine, outOfRange, stepIn, editIn, editFrom, readEdit}
 use Rattle.edit.specs.Editing.{sameEdge, hasEdge, without, editRefusal, wantedBy, Applies}
 use Rattle.edit.specs.Parts.{Keyed, KeyedRead, refusalBy}
@@ -32,7 +33,7 @@ use Rattle.base.proofs.Bools.{neither, and-false}
 -- ---- what was read is in range
 
 -- the label of a number has that number
-label-number : (a : ℕ) → labelNumber (labelOf a) ≡ a
+label-number : (a : ℕ) → labelNumber (eventOf a) ≡ a
 label-number a = go (ltb a firstCall) refl
   where
     go : (b : Bool) → ltb a firstCall ≡ b → labelNumber (cond b (Action a) (Call (a - firstCall))) ≡ a
@@ -75,7 +76,7 @@ edit-fits p l b o =
 
     go : (x y z : Bool) → eqb (kindBy x y z) 0 ≡ false → edgeFits p (edgeIn l) ≡ true
         → eqb (kindBy x y z) 3 && not (labelFits (p .routines) (p .automaton .actions) (num l 5)) ≡ false
-        → Fits p (cond (eqb (kindBy x y z) 1) (Add (stepIn l)) (cond (eqb (kindBy x y z) 2) (Drop (stepIn l)) (Replace (stepIn l) (labelOf (num l 5)))))
+        → Fits p (cond (eqb (kindBy x y z) 1) (Add (stepIn l)) (cond (eqb (kindBy x y z) 2) (Drop (stepIn l)) (Replace (stepIn l) (eventOf (num l 5)))))
     go true y z b f g = let h : edgeFits p (edgeOfStep (stepIn l)) ≡ true = rw (label-number (num l 3)) f in record { old = h; new = h }
     go false true z b f g = let h : edgeFits p (edgeOfStep (stepIn l)) ≡ true = rw (label-number (num l 3)) f in record { old = h; new = h }
     go false false true b f g =

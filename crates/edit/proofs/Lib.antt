@@ -4,3 +4,4 @@ pub mod KeysOfEdges
 pub mod EditRefusals
 pub mod EditRefusalNumbers
 pub mod Theorems
+pub mod Samples

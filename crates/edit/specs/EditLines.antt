@@ -10,7 +10,7 @@ use Rattle.text.specs.declared.Line.{Line}
 use Rattle.program.specs.Program.{Program, edgeFits, labelFits}
 use Rattle.program.specs.Frames.{num}
 use Rattle.program.specs.Reading.{edgeIn}
-use Rattle.edit.specs.Edits.{labelOf}
+use Rattle.edit.specs.Edits.{eventOf}
 use Rattle.edit.specs.declared.Step.{Step}
 use Rattle.edit.specs.declared.Edit.{Edit}
 use Rattle.edit.specs.declared.Edit.the-variants.{Add, Drop, Replace}
@@ -39,11 +39,11 @@ outOfRange p l = not (edgeFits p (edgeIn l)) || (eqb (editKind l) 3
     && not (labelFits (p .routines) (p .automaton .actions) (num l 5)))
 
 abbrev pub stepIn : Line → Step
-stepIn l = record { routine = num l 1; source = num l 2; label = labelOf (num l 3); target = num l 4 }
+stepIn l = record { routine = num l 1; source = num l 2; label = eventOf (num l 3); target = num l 4 }
 
 abbrev pub editIn : Line → Edit
 editIn l = cond (eqb (editKind l) 1) (Add (stepIn l)) (cond (eqb (editKind l) 2) (Drop (stepIn l))
-    (Replace (stepIn l) (labelOf (num l 5))))
+    (Replace (stepIn l) (eventOf (num l 5))))
 
 unfoldable pub editFrom : Program → Line → EditRead
 editFrom p l = cond (badLine l) (Refused 12) (cond (outOfRange p l) (Refused 13) (Read (editIn l)))

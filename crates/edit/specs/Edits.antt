@@ -1,7 +1,8 @@
 -- Edits, and the edges that they are about.
 use Prim.Native.Nat.{ℕ}
 use mathlib.Core.Bool.{cond}
-use Rattle.program.specs.Program.{Edge, isAction, calledBy, callOf}
+use Rattle.program.specs.Program.{Edge, isAction, calledBy}
+use Rattle.automaton.specs.Automaton.{callOf}
 use Rattle.edit.specs.declared.Label.{Label}
 use Rattle.edit.specs.declared.Label.the-variants.{Action, Call}
 use Rattle.edit.specs.declared.Step.{Step}
@@ -9,8 +10,8 @@ use Rattle.edit.specs.declared.Edit.{Edit}
 use Rattle.edit.specs.declared.Edit.the-variants.{Add, Drop, Replace}
 
 -- the label of a number
-abbrev pub labelOf : ℕ → Label
-labelOf a = cond (isAction a) (Action a) (Call (calledBy a))
+abbrev pub eventOf : ℕ → Label
+eventOf a = cond (isAction a) (Action a) (Call (calledBy a))
 
 abbrev pub labelNumber : Label → ℕ
 labelNumber (Action a) = a

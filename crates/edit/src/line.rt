@@ -21,7 +21,7 @@ ghost use lib.Dec.{eqb};
 ghost use Rattle.text.specs.Lines.{lineOf};
 ghost use Rattle.program.specs.Decoded.{programOf};
 ghost use Rattle.frames.specs.Limits.{limitsOf};
-ghost use Rattle.edit.specs.Edits.{labelOf};
+ghost use Rattle.edit.specs.Edits.{eventOf};
 ghost use Rattle.edit.specs.EditLines.{onlyLine, editKind, editSize, badLine, outOfRange, stepIn, editIn};
 ghost use Rattle.edit.specs.EditLines.{editFrom};
 ghost use Rattle.edit.specs.declared.Edit.the-variants.{Add, Drop, Replace};
@@ -101,7 +101,7 @@ fn is_out_of_range(p: DecodedProgram, l: Line) -> bool
 }
 
 fn label_of(a: u8) -> Label
-    ensures { λ r. ⌜ r ≡ labelOf a ⌝ }
+    ensures { λ r. ⌜ r ≡ eventOf a ⌝ }
 {
     if is_call(a) {
         return Label::Call(called_by(a));

@@ -120,6 +120,15 @@ from-the-exit : says ("520102" ∷ "5301010000" ∷ []) ≡ Refused 13
 unfolding reading
 from-the-exit = refl
 
+-- no step is labelled by a return: the automaton alone hears it
+return-as-label : says ("520102" ∷ "5301006001" ∷ []) ≡ Refused 13
+unfolding reading
+return-as-label = refl
+
+own-return-as-label : says ("520102" ∷ "5301006101" ∷ []) ≡ Refused 13
+unfolding reading
+own-return-as-label = refl
+
 -- 21 is met on line 2, and 13 on line 3
 range-before-order : says ("520102" ∷ "520102" ∷ "5301000005" ∷ []) ≡ Refused 13
 unfolding reading

@@ -6,13 +6,14 @@ use crate::kind_of;
 use crate::number;
 use crate::row_in;
 use crate::size_of;
+use automaton::sizes::FIRST_CALL;
+use automaton::sizes::FIRST_RETURN;
 use automaton::sizes::MAX_ACTIONS;
 use automaton::sizes::MAX_STATES;
 use automaton::sizes::MAX_TRANSITIONS;
 use program::DecodedProgram;
 use program::Nodes;
 use program::edges::is_call;
-use program::sizes::FIRST_CALL;
 use program::sizes::MAX_EDGES;
 use program::sizes::MAX_NODES;
 use program::sizes::MAX_ROUTINES;
@@ -22,8 +23,9 @@ use tables::in_use;
 use text::Line;
 ghost use mathlib.Core.Path.{_≡_};
 ghost use lib.ListN.{getD};
-ghost use Rattle.program.specs.Program.{within, countsFit, labelFits, placed, edgeFits};
-ghost use Rattle.program.specs.Reading.{due, inPlace, ordered, edgeIn, rowIn, ranged, full, miscounted, lowest};
+ghost use Rattle.program.specs.Program.{within, countsFit, labelFits, eventFits, placed, edgeFits, transitionFits};
+ghost use Rattle.program.specs.Reading.{due, inPlace, ordered, edgeIn, transitionIn, rowIn, ranged, full};
+ghost use Rattle.program.specs.Reading.{miscounted, lowest};
 ghost use Rattle.program.specs.Decoded.{nodesOf};
 ghost use Rattle.rows.specs.Rows.{rowFits};
 ghost use Rattle.frames.specs.Limits.{limits, limitsOf, judgedBy};
@@ -77,10 +79,19 @@ fn counts_fit(r: u8, q: u8, a: u8) -> bool
         & inside(1, MAX_ACTIONS as u8, a)
 }
 
+// Whether it is the label of an edge.
 pub fn label_fits(routines: u8, actions: u8, a: u8) -> bool
     ensures { λ y. ⌜ y ≡ labelFits routines actions a ⌝ }
 {
     (a < actions) | (is_call(a) & ((a as u16) < FIRST_CALL as u16 + routines as u16))
+}
+
+// Whether it is the label of a transition, which may also be that of a return.
+fn event_fits(routines: u8, actions: u8, l: u8) -> bool
+    ensures { λ y. ⌜ y ≡ eventFits routines actions l ⌝ }
+{
+    label_fits(routines, actions, l)
+        | ((FIRST_RETURN <= l) & ((l as u16) < FIRST_RETURN as u16 + routines as u16))
 }
 
 fn is_placed(nodes: u8, n: u8, m: u8) -> bool
@@ -100,6 +111,14 @@ pub fn edge_fits(h: Limits, l: Line) -> bool
         & label_fits(h.routines, h.actions, number(l, 3))
 }
 
+fn transition_fits(h: Limits, l: Line) -> bool
+    ensures { λ y. ⌜ y ≡ transitionFits (limitsOf h) (transitionIn l) ⌝ }
+{
+    (number(l, 1) < h.states)
+        & event_fits(h.routines, h.actions, number(l, 2))
+        & (number(l, 3) < h.states)
+}
+
 fn is_row_in_range(h: Limits, l: Line) -> bool
     ensures { λ y. ⌜ y ≡ rowFits (limitsOf h .automaton) (rowIn l) ⌝ }
 {
@@ -116,7 +135,7 @@ pub fn in_range(h: Limits, k: u8, l: Line) -> bool
     ((k == 1) & counts_fit(a, b, c))
         | ((k == 2) & (a < h.routines) & inside(2, MAX_NODES as u8, b))
         | ((k == 3) & edge_fits(h, l))
-        | ((k == 4) & ((a < h.states) & (b < h.actions) & (c < h.states)))
+        | ((k == 4) & transition_fits(h, l))
         | ((k == 5) & is_row_in_range(h, l))
         | (inside(6, 7, k) & (a < h.states))
         | (k == 8)

@@ -1,16 +1,16 @@
 -- The numbers of a well-formed program's frames fit a byte, and none of these frames is a row.
 use mathlib.Core.Path.{_≡_, refl, ap}
-use mathlib.Core.Bool.{Bool, true, false, cond, _&&_, _||_}
+use mathlib.Core.Bool.{Bool, true, false, cond, _&&_}
 use mathlib.Core.List.{List, [], _∷_, _++_, map}
 use Prim.Native.Nat.{ℕ, _+_, _≤_, _<_}
 use native.Mathlib.Omega.{arith}
-use lib.Dec.{ltb, leb, eqb}
+use lib.Dec.{ltb, eqb}
 use lib.ListN.{length, getD}
 use borrow.Author.Tests.{ltb-true}
 use Rattle.text.specs.Lines.{Bytes, lineOf}
 use Rattle.automaton.specs.Automaton.{Transition}
 use Rattle.program.specs.Sizes.{maxFrames}
-use Rattle.program.specs.Program.{Edge, Program, within, placed, labelFits, edgeFits, transitionFits}
+use Rattle.program.specs.Program.{Edge, Program, within, placed, edgeFits, transitionFits}
 use Rattle.program.specs.Frames.{kind, edgeFrame, transitionFrame, initialFrame, rejectingFrame, endFrame}
 use Rattle.program.specs.Reading.{rowIn}
 use Rattle.program.specs.WellFormed.{All, WellFormed}
@@ -18,7 +18,7 @@ use Rattle.program.specs.Writing.{nodesFrames, framesOf}
 use Rattle.program.proofs.SectionsAscend.{all-at}
 use Rattle.program.proofs.LinesJudged.{at-most}
 use Rattle.base.proofs.Bools.{both}
-use Rattle.program.proofs.ProgramLimits.{Limits, length-frames, well-formed-limits}
+use Rattle.program.proofs.ProgramLimits.{Limits, label-small, transition-small, length-frames, well-formed-limits}
 use Rattle.program.proofs.FilesAsFrames.{Frames, rowsOf}
 
 bytes-first : (f : List ℕ) (fs : List (List ℕ)) → Bytes f → Frames fs → Frames (f ∷ fs)
@@ -39,13 +39,6 @@ bytes-nodes : (f : ℕ) (ns : List ℕ) → f + length ns ≤ 16 → All (within
 unfolding Frames All nodesFrames
 bytes-nodes f [] h a = tt
 bytes-nodes f (n ∷ ns) h a = let z = at-most 2 16 n (a .0) in (omega arith, bytes-nodes (f + 1) ns (omega arith) (a .1))
-
-label-small : (r a x : ℕ) → labelFits r a x ≡ true → r ≤ 16 → a ≤ 32 → x < 80
-label-small r a x f h i = go (ltb x a) refl f
-  where
-    go : (t : Bool) → ltb x a ≡ t → t || (leb 0x40 x && ltb x (0x40 + r)) ≡ true → x < 80
-    go true e f = omega (arith, ltb-true x a e)
-    go false e f = omega (arith, ltb-true x (0x40 + r) (both (leb 0x40 x) _ f .1))
 
 -- ---- no frame of a program is a row
 
@@ -103,15 +96,11 @@ module _ (p : Program) (w : WellFormed p) where
         nodes-small (e .routine) r,
         ltb-true (e .source) n (d .0),
         ltb-true (e .target) n (d .1),
-        label-small (p .routines) (p .automaton .actions) (e .label) (a .1) (limit .routines) (limit .actions),
+        label-small p (e .label) limit (a .1),
       )
 
-  pub transition-bytes : (t : Transition) → transitionFits (p .automaton) t ≡ true → Bytes (transitionFrame t)
-  transition-bytes t f =
-      let q = p .automaton .states in
-      let a = both (ltb (t .before) q && ltb (t .action) (p .automaton .actions)) (ltb (t .after) q) f in
-      let b = both (ltb (t .before) q) (ltb (t .action) (p .automaton .actions)) (a .0) in
-      omega (arith, limit, ltb-true (t .before) q (b .0), ltb-true (t .action) (p .automaton .actions) (b .1), ltb-true (t .after) q (a .1))
+  pub transition-bytes : (t : Transition) → transitionFits p t ≡ true → Bytes (transitionFrame t)
+  transition-bytes t f = omega (arith, transition-small p t limit f)
 
   pub state-bytes : (b q : ℕ) → b < 256 → ltb q (p .automaton .states) ≡ true → Bytes (b ∷ q ∷ [])
   state-bytes b q h f = omega (arith, limit, ltb-true q (p .automaton .states) f)
@@ -122,7 +111,7 @@ module _ (p : Program) (w : WellFormed p) where
       let state : ℕ → Bool = λ q. ltb q (p .automaton .states) in
       let nodes = bytes-nodes 0 (p .nodes) (omega (arith, limit)) (w .nodes-fit) in
       let edges = bytes-map edgeFrame (edgeFits p) edge-bytes (p .edges) (w .edges-fit) in
-      let transitions = bytes-map transitionFrame (transitionFits (p .automaton)) transition-bytes (p .automaton .transitions) (w .transitions-fit) in
+      let transitions = bytes-map transitionFrame (transitionFits p) transition-bytes (p .automaton .transitions) (w .transitions-fit) in
       let initial = bytes-map initialFrame state (λ q. state-bytes 0x49 q (omega arith)) (p .automaton .initial) (w .initial-fit) in
       let rejecting = bytes-map rejectingFrame state (λ q. state-bytes 0x46 q (omega arith)) (p .automaton .rejecting) (w .rejecting-fit) in
       bytes-first _ _ (omega (arith, limit)) (bytes-append _ _ nodes (bytes-append _ _ edges (bytes-append _ _ transitions (bytes-append _ _ initial rejecting))))

@@ -135,7 +135,7 @@ module _ (p : Program) (w : WellFormed p) where
       (λ last n done x h z f c. rw (lt-ltb last (edgeKey x) z, lt-ltb 0 n h, here, f, lt-leb 256 (length done) c))
       (λ last n done x. refl) es last _ (omega arith) z (omega arith) (w .edges-ascend) (w .edges-fit) (w .edges-limited))
       (λ last z. followed (map transitionFrame ts) _
-      (section transitionFrame transitionKey (λ xs. made p ns es xs [] []) (transitionFits (p .automaton)) (keyOf 4 0 0) (keyOf 6 0 0) (λ x. omega arith) (λ x f. omega (arith, transition-bytes p w x f))
+      (section transitionFrame transitionKey (λ xs. made p ns es xs [] []) (transitionFits p) (keyOf 4 0 0) (keyOf 6 0 0) (λ x. omega arith) (λ x f. omega (arith, transition-bytes p w x f))
       (λ last n done x h z f c. rw (lt-ltb last (transitionKey x) z, lt-ltb 0 n h, here, f, lt-leb 256 (length done) c))
       (λ last n done x. refl) ts last _ (omega arith) z (omega arith) (w .transitions-ascend) (w .transitions-fit) (w .transitions-limited))
       (λ last z. followed (map initialFrame is) _

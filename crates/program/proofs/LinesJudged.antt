@@ -108,7 +108,7 @@ pub record Met (s : Progress) (k : ℕ) (l : Line) : Type 0 where
   pub complete : 2 < k → length (s .program .nodes) ≡ s .program .routines
   pub edge : k ≡ 3 → (edgeFits (s .program) (edgeIn l) ≡ true) × (length (s .program .edges) < 256)
   pub transition : k ≡ 4
-      → (transitionFits (s .program .automaton) (record { before = num l 1; action = num l 2; after = num l 3 }) ≡ true)
+      → (transitionFits (s .program) (record { before = num l 1; label = num l 2; after = num l 3 }) ≡ true)
       × (length (s .program .automaton .transitions) < 256)
   pub row : k ≡ 5 → (rowFits (s .program .automaton) (rowIn l) ≡ true) × (length (s .program .automaton .transitions) ≡ 0) × (length (s .rows) < 256)
   pub initial : k ≡ 6 → ltb (num l 1) (s .program .automaton .states) ≡ true

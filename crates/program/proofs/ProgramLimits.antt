@@ -2,21 +2,24 @@
 use mathlib.Core.Path.{_≡_, refl, ap}
 use mathlib.Core.Bool.{true, _&&_}
 use mathlib.Core.List.{List, [], _∷_, _++_, map, append-assoc}
-use Prim.Native.Nat.{ℕ, suc, _+_, _*_, _≤_}
+use Prim.Native.Nat.{ℕ, suc, _+_, _*_, _≤_, _<_}
 use native.Mathlib.Omega.{arith}
 use native.Mathlib.Nat.{suc-mul}
-use lib.Dec.{ltb}
+use lib.Dec.{ltb, leb}
 use lib.ListN.{length, length-append, length-map}
+use borrow.Author.Tests.{ltb-true}
 use Rattle.text.specs.Hex.{hexLine}
 use Rattle.text.proofs.RoundTrip.{length-hex}
-use Rattle.program.specs.Program.{Program, within, countsFit}
+use Rattle.automaton.specs.Sizes.{maxStates, firstCall, firstReturn, maxLabels}
+use Rattle.automaton.specs.Automaton.{Transition, callOf, returnOf}
+use Rattle.program.specs.Program.{Program, within, countsFit, labelFits, eventFits, transitionFits}
 use Rattle.program.specs.Frames.{packed, keyOf, nodesFrame, edgeFrame, transitionFrame, initialFrame, rejectingFrame, initialKey, rejectingKey}
 use Rattle.program.specs.WellFormed.{All, WellFormed}
 use Rattle.tables.specs.Keys.{Ascending}
 use Rattle.program.specs.Writing.{nodesFrames, framesOf, text, written}
 use Rattle.program.proofs.SectionsAscend.{few}
 use Rattle.program.proofs.LinesJudged.{at-most}
-use Rattle.base.proofs.Bools.{both}
+use Rattle.base.proofs.Bools.{both, either}
 
 -- ---- the limits
 
@@ -72,6 +75,36 @@ length-frames p = simp (length-append, length-map, count-nodes) (omega arith)
 pub well-formed-limits : (p : Program) → WellFormed p → Limits p
 well-formed-limits p w =
     limits p (w .counts-fit) (omega (arith, w .complete)) (w .edges-limited) (w .transitions-limited) (w .initial-ascend) (w .initial-fit) (w .rejecting-ascend) (w .rejecting-fit)
+
+-- ---- labels and states within the limits
+
+-- no return is the label of an edge
+pub label-small : (p : Program) (l : ℕ) → Limits p → labelFits (p .routines) (p .automaton .actions) l ≡ true → l < firstReturn
+label-small p l limit f =
+    either (ltb l (p .automaton .actions)) _ f (λ e. omega (arith, limit, ltb-true l (p .automaton .actions) e))
+    (λ e. omega (arith, limit, ltb-true l (callOf (p .routines)) (both (leb firstCall l) _ e .1)))
+
+event-small : (p : Program) (l : ℕ) → Limits p → eventFits (p .routines) (p .automaton .actions) l ≡ true → l < maxLabels
+event-small p l limit f =
+    either (labelFits (p .routines) (p .automaton .actions) l) _ f (λ e. omega (arith, label-small p l limit e))
+    (λ e. omega (arith, limit, ltb-true l (returnOf (p .routines)) (both (leb firstReturn l) _ e .1)))
+
+-- what a transition that fits says
+pub transition-fits : (p : Program) (t : Transition) → transitionFits p t ≡ true
+    → (t .before < p .automaton .states) × (eventFits (p .routines) (p .automaton .actions) (t .label) ≡ true)
+    × (t .after < p .automaton .states)
+transition-fits p t f =
+    let q = p .automaton .states in
+    let e = eventFits (p .routines) (p .automaton .actions) (t .label) in
+    let a = both (ltb (t .before) q && e) (ltb (t .after) q) f in
+    let b = both (ltb (t .before) q) e (a .0) in
+    (ltb-true (t .before) q (b .0), b .1, ltb-true (t .after) q (a .1))
+
+pub transition-small : (p : Program) (t : Transition) → Limits p → transitionFits p t ≡ true
+    → (t .before < maxStates) × (t .label < maxLabels) × (t .after < maxStates)
+transition-small p t limit f =
+    let x = transition-fits p t f in
+    (omega (arith, limit), event-small p (t .label) limit (x .1), omega (arith, limit))
 
 -- ---- the longest file
 

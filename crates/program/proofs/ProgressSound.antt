@@ -1,13 +1,12 @@
 -- What holds of the progress after frames without a fault.
 use mathlib.Core.Path.{_≡_, refl, ap, _∙_}
-use mathlib.Core.Bool.{Bool, true, false, cond, _&&_}
+use mathlib.Core.Bool.{Bool, true, false, cond}
 use mathlib.Core.List.{List, [], _∷_}
 use Prim.Native.Nat.{ℕ, zero, suc, _+_, _≤_, _<_}
 use native.Mathlib.Omega.{arith}
 use lib.Dec.{ltb, eqb}
 use lib.ListN.{length, length-append, drop-of-length-le}
-use borrow.Author.Tests.{eqb-true, ne-eqb, ltb-true}
-use Rattle.base.proofs.Bools.{both}
+use borrow.Author.Tests.{eqb-true, ne-eqb}
 use Rattle.text.specs.declared.Line.{Line}
 use Rattle.automaton.specs.Automaton.{Transition}
 use Rattle.program.specs.Sizes.{maxFrames}
@@ -19,7 +18,7 @@ use Rattle.program.specs.RoomParts.{Room, RoomForRow}
 use Rattle.rows.specs.Rows.{TableRow, rowFits}
 use Rattle.program.proofs.SectionsAscend.{rising-ascending, none-yet, Section, no-section, length-more, limited-more, all-more, section-more}
 use Rattle.program.proofs.LinesJudged.{Padded, at-most, kind-ordered, by-kind, Met, met}
-use Rattle.program.proofs.ProgramLimits.{Limits, limits, frameCount}
+use Rattle.program.proofs.ProgramLimits.{Limits, limits, transition-small, frameCount}
 
 -- ---- after the header
 
@@ -35,7 +34,7 @@ pub record Begun (s : Progress) : Type 0 where
   pub complete : s .ended ≡ true → length (s .program .nodes) ≡ s .program .routines
   pub edges : Section (edgeFits (s .program)) edgeKey (s .program .edges) (s .last)
   pub edges-limited : length (s .program .edges) ≤ 256
-  pub transitions : Section (transitionFits (s .program .automaton)) transitionKey (s .program .automaton .transitions) (s .last)
+  pub transitions : Section (transitionFits (s .program)) transitionKey (s .program .automaton .transitions) (s .last)
   pub transitions-limited : length (s .program .automaton .transitions) ≤ 256
   pub rows-fit : All (rowFits (s .program .automaton)) (s .rows)
   pub rows-limited : length (s .rows) ≤ 256
@@ -108,20 +107,8 @@ module _ (s : Progress) (k : ℕ) (l : Line) (pad : Padded l) (b : Begun s) (m :
   -- a transition comes before every row
   before-rows : k ≡ 4 → keyOf k (word l) (rest l) < keyOf 5 0 0
   before-rows i =
-      let q = s .program .automaton .states in
-      let a = s .program .automaton .actions in
-      let f = both (ltb (num l 1) q && ltb (num l 2) a) (ltb (num l 3) q) (m .transition i .0) in
-      let g = both (ltb (num l 1) q) (ltb (num l 2) a) (f .0) in
-      omega (
-        arith,
-        begun-limits s b,
-        i,
-        past 4 (rw i (omega arith)),
-        past-four (rw i (omega arith)),
-        ltb-true (num l 1) q (g .0),
-        ltb-true (num l 2) a (g .1),
-        ltb-true (num l 3) q (f .1),
-      )
+      let t = transition-small (s .program) (transitionIn l) (begun-limits s b) (m .transition i .0) in
+      omega (arith, i, past 4 (rw i (omega arith)), past-four (rw i (omega arith)), t)
 
   tabular-on : (t u : Bool) → eqb k 5 ≡ t → eqb k 4 ≡ u
       → Tabular (more t (rowIn l) (s .rows)) (more u (transitionIn l) (s .program .automaton .transitions)) (keyOf k (word l) (rest l))
@@ -154,7 +141,7 @@ module _ (s : Progress) (k : ℕ) (l : Line) (pad : Padded l) (b : Begun s) (m :
         complete = λ e. let i = eqb-true k 8 e in rw i (m .complete (omega arith));
         edges = edges-on (eqb k 2) refl;
         edges-limited = limited-more (eqb k 3) (edgeIn l) 256 (p .edges) (b .edges-limited) (λ e. m .edge (eqb-true k 3 e) .1);
-        transitions = section-more (eqb k 4) _ (transitionFits a) transitionKey (s .last) key (a .transitions) (m .later)
+        transitions = section-more (eqb k 4) _ (transitionFits p) transitionKey (s .last) key (a .transitions) (m .later)
             (λ e. let i = eqb-true k 4 e in (m .transition i .0, rw (past 4 (rw i (omega arith)), past-four (rw i (omega arith)), i))) (b .transitions);
         transitions-limited = limited-more (eqb k 4) _ 256 (a .transitions) (b .transitions-limited) (λ e. m .transition (eqb-true k 4 e) .1);
         rows-fit = all-more (eqb k 5) (rowIn l) (rowFits a) (s .rows) (b .rows-fit) (λ e. m .row (eqb-true k 5 e) .0);

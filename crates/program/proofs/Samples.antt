@@ -5,6 +5,7 @@ use Prim.Native.Nat.{ℕ}
 use Prim.Native.String.{String}
 use Rattle.text.specs.Hex.{hex}
 use Rattle.text.specs.Lines.{lines, numbers}
+use Rattle.automaton.specs.Automaton.{Transition}
 use Rattle.program.specs.Program.{Program}
 use Rattle.program.specs.Sample.{bytes, header, F}
 use Rattle.program.specs.declared.Verdict.the-variants.{Accepted}
@@ -25,8 +26,8 @@ sample =
             states = 3;
             actions = 2;
             transitions =
-                record { before = 0; action = 0; after = 1 } ∷ record { before = 0; action = 1; after = 2 }
-                ∷ record { before = 1; action = 0; after = 1 } ∷ record { before = 1; action = 1; after = 1 } ∷ [];
+                record { before = 0; label = 0; after = 1 } ∷ record { before = 0; label = 1; after = 2 }
+                ∷ record { before = 1; label = 0; after = 1 } ∷ record { before = 1; label = 1; after = 1 } ∷ [];
             initial = 0 ∷ [];
             rejecting = 2 ∷ [];
           };
@@ -93,6 +94,91 @@ line-after-the-end : readFile (bytes (F ++ "" ∷ [])) ≡ refused 8 14
 unfolding reading
 line-after-the-end = refl
 
+-- ---- labels: F's header, with two routines and two actions
+
+-- the header, these lines, and the end frame with this count
+abbrev headed : List String → String → List ℕ
+headed ls end = bytes (header ++ ls ++ end ∷ [])
+
+abbrev heard : List String
+heard = "54000001" ∷ "54000101" ∷ "54004001" ∷ "54004101" ∷ "54006001" ∷ "54006101" ∷ "54010001" ∷ []
+
+abbrev by : ℕ → Transition
+by l = record { before = 0; label = l; after = 1 }
+
+hearing : Program
+hearing =
+    record {
+      routines = 2;
+      nodes = 3 ∷ 2 ∷ [];
+      edges = [];
+      automaton =
+          record {
+            states = 3;
+            actions = 2;
+            transitions =
+                by 0 ∷ by 1 ∷ by 0x40 ∷ by 0x41 ∷ by 0x60 ∷ by 0x61 ∷ record { before = 1; label = 0; after = 1 } ∷ [];
+            initial = [];
+            rejecting = [];
+          };
+    }
+
+-- both actions, the calls of both routines and the returns from them, ascending
+heard-read : readFile (headed heard "45000A") ≡ accepted hearing
+unfolding reading hearing
+heard-read = refl
+
+heard-written : written hearing ≡ headed heard "45000A"
+unfolding hearing written framesOf nodesFrames text hex
+heard-written = refl
+
+-- the first label past the actions, the calls and the returns, and the last before the next kind of label
+third-action : readFile (headed ("54000201" ∷ []) "450004") ≡ refused 5 4
+unfolding reading
+third-action = refl
+
+before-the-calls : readFile (headed ("54003F01" ∷ []) "450004") ≡ refused 5 4
+unfolding reading
+before-the-calls = refl
+
+call-of-a-third : readFile (headed ("54004201" ∷ []) "450004") ≡ refused 5 4
+unfolding reading
+call-of-a-third = refl
+
+before-the-returns : readFile (headed ("54005F01" ∷ []) "450004") ≡ refused 5 4
+unfolding reading
+before-the-returns = refl
+
+return-from-a-third : readFile (headed ("54006201" ∷ []) "450004") ≡ refused 5 4
+unfolding reading
+return-from-a-third = refl
+
+last-label : readFile (headed ("54007F01" ∷ []) "450004") ≡ refused 5 4
+unfolding reading
+last-label = refl
+
+-- an edge calls and does not return
+step-by-a-return : readFile (headed ("5300006002" ∷ []) "450004") ≡ refused 5 4
+unfolding reading
+step-by-a-return = refl
+
+step-by-another-return : readFile (headed ("5300006102" ∷ []) "450004") ≡ refused 5 4
+unfolding reading
+step-by-another-return = refl
+
+call-after-return : readFile (headed ("54006001" ∷ "54004101" ∷ []) "450005") ≡ refused 4 5
+unfolding reading
+call-after-return = refl
+
+action-after-call : readFile (headed ("54004001" ∷ "54000101" ∷ []) "450005") ≡ refused 4 5
+unfolding reading
+action-after-call = refl
+
+-- a table has actions only
+return-after-row : readFile (headed ("55030000000301" ∷ "54006001" ∷ []) "450005") ≡ refused 4 5
+unfolding reading
+return-after-row = refl
+
 -- ---- files with rows: two states and two actions
 
 -- one routine, these lines, and the end frame with this count
@@ -110,8 +196,8 @@ tabled =
             states = 2;
             actions = 2;
             transitions =
-                record { before = 0; action = 0; after = 1 } ∷ record { before = 0; action = 1; after = 0 }
-                ∷ record { before = 1; action = 0; after = 1 } ∷ record { before = 1; action = 1; after = 1 } ∷ [];
+                record { before = 0; label = 0; after = 1 } ∷ record { before = 0; label = 1; after = 0 }
+                ∷ record { before = 1; label = 0; after = 1 } ∷ record { before = 1; label = 1; after = 1 } ∷ [];
             initial = [];
             rejecting = [];
           };

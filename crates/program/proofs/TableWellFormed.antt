@@ -52,9 +52,9 @@ module _ (p : Program) (w : WellFormed p) (rs : List TableRow) (fit : All (rowFi
       (λ r m. ltb-true (r .next) states (both (noBitFrom states (r .states) && noBitFrom actions (r .actions)) _ (all-in (rowFits (p .automaton)) rs fit m) .1))
       (some .0)
 
-  table-fits : All (transitionFits (p .automaton)) (tableTransitions rs (pairsOf p))
+  table-fits : All (transitionFits p) (tableTransitions rs (pairsOf p))
   table-fits =
-      all-mapped (transitionFits (p .automaton)) (transitionFor rs) (pairsOf p)
+      all-mapped (transitionFits p) (transitionFor rs) (pairsOf p)
       (λ x m. let f = pair-fits states actions m in rw (lt-ltb (x .state) states (f .0), lt-ltb (x .action) actions (f .1), lt-ltb (transitionFor rs x .after) states (next-small x)))
 
   abbrev key : Pair → ℕ

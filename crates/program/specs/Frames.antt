@@ -54,7 +54,7 @@ abbrev pub edgeFrame : Edge → List ℕ
 edgeFrame e = 0x53 ∷ e .routine ∷ e .source ∷ e .label ∷ e .target ∷ []
 
 abbrev pub transitionFrame : Transition → List ℕ
-transitionFrame t = 0x54 ∷ t .before ∷ t .action ∷ t .after ∷ []
+transitionFrame t = 0x54 ∷ t .before ∷ t .label ∷ t .after ∷ []
 
 abbrev pub initialFrame : ℕ → List ℕ
 initialFrame q = 0x49 ∷ q ∷ []
@@ -71,7 +71,7 @@ abbrev pub edgeKey : Edge → ℕ
 edgeKey e = keyOf 3 (packed (e .routine) (e .source) (e .label) (e .target)) 0
 
 abbrev pub transitionKey : Transition → ℕ
-transitionKey t = keyOf 4 (packed (t .before) (t .action) (t .after) 0) 0
+transitionKey t = keyOf 4 (packed (t .before) (t .label) (t .after) 0) 0
 
 abbrev pub initialKey : ℕ → ℕ
 initialKey q = keyOf 6 (packed q 0 0 0) 0

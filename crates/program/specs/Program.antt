@@ -1,12 +1,12 @@
 -- A measuring program, as lists.
-use Prim.Native.Nat.{ℕ, _+_, _-_}
+use Prim.Native.Nat.{ℕ, _-_}
 use mathlib.Core.Bool.{Bool, _&&_, _||_, not}
 use mathlib.Core.List.{List, []}
 use lib.Dec.{ltb, leb, eqb}
 use lib.ListN.{getD}
-use Rattle.automaton.specs.Sizes.{maxStates, maxActions}
-use Rattle.automaton.specs.Automaton.{Transition, Automaton}
-use Rattle.program.specs.Sizes.{maxRoutines, maxNodes, firstCall}
+use Rattle.automaton.specs.Sizes.{maxStates, maxActions, firstCall, firstReturn}
+use Rattle.automaton.specs.Automaton.{Transition, Automaton, callOf, returnOf}
+use Rattle.program.specs.Sizes.{maxRoutines, maxNodes}
 
 -- an edge leads from one node of a routine to another (paper: a step from place to place);
 -- its label is the number of an action, or 40 + f (hexadecimal) for a call of routine f
@@ -33,7 +33,7 @@ noProgram =
       automaton = record { states = 0; actions = 0; transitions = []; initial = []; rejecting = [] };
     }
 
--- ---- labels: the number of an action, or 40 + f (hexadecimal) for a call of routine f
+-- ---- labels of edges: the number of an action, or 40 + f (hexadecimal) for a call of routine f
 
 abbrev pub isAction : ℕ → Bool
 isAction a = ltb a firstCall
@@ -45,10 +45,6 @@ isCall a = leb firstCall a
 abbrev pub calledBy : ℕ → ℕ
 calledBy a = a - firstCall
 
--- the label of a call of f
-abbrev pub callOf : ℕ → ℕ
-callOf f = firstCall + f
-
 -- ---- ranges
 
 abbrev pub within : ℕ → ℕ → ℕ → Bool
@@ -58,9 +54,14 @@ within lo hi x = leb lo x && leb x hi
 abbrev pub countsFit : ℕ → ℕ → ℕ → Bool
 countsFit r q a = within 1 maxRoutines r && within 1 maxStates q && within 1 maxActions a
 
--- a label is an action or a call of a routine
+-- an edge's label (paper: a step's label): an action or a call of a routine, never a return
 abbrev pub labelFits : ℕ → ℕ → ℕ → Bool
 labelFits routines actions a = ltb a actions || (isCall a && ltb a (callOf routines))
+
+-- a transition's label (paper: a rule line's label): an action, a call of a routine or a return from one
+abbrev pub eventFits : ℕ → ℕ → ℕ → Bool
+eventFits routines actions l =
+    labelFits routines actions l || (leb firstReturn l && ltb l (returnOf routines))
 
 -- how many nodes a routine may have: an entry and an exit at least
 abbrev pub nodesFit : ℕ → Bool
@@ -75,5 +76,7 @@ edgeFits p e =
     ltb (e .routine) (p .routines) && placed (getD (p .nodes) (e .routine) 0) (e .source) (e .target)
     && labelFits (p .routines) (p .automaton .actions) (e .label)
 
-abbrev pub transitionFits : Automaton → Transition → Bool
-transitionFits r t = ltb (t .before) (r .states) && ltb (t .action) (r .actions) && ltb (t .after) (r .states)
+abbrev pub transitionFits : Program → Transition → Bool
+transitionFits p t =
+    ltb (t .before) (p .automaton .states) && eventFits (p .routines) (p .automaton .actions) (t .label)
+    && ltb (t .after) (p .automaton .states)

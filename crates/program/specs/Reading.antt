@@ -54,7 +54,7 @@ abbrev pub edgeIn : Line → Edge
 edgeIn l = record { routine = num l 1; source = num l 2; label = num l 3; target = num l 4 }
 
 abbrev pub transitionIn : Line → Transition
-transitionIn l = record { before = num l 1; action = num l 2; after = num l 3 }
+transitionIn l = record { before = num l 1; label = num l 2; after = num l 3 }
 
 -- a row (paper: a frame 55): one number of state bits, four of action bits, high first, and the next state
 abbrev pub rowIn : Line → TableRow
@@ -66,7 +66,7 @@ ranged p k l =
     (eqb k 1 && countsFit (num l 1) (num l 2) (num l 3))
     || (eqb k 2 && ltb (num l 1) (p .routines) && nodesFit (num l 2))
     || (eqb k 3 && edgeFits p (edgeIn l))
-    || (eqb k 4 && transitionFits (p .automaton) (transitionIn l))
+    || (eqb k 4 && transitionFits p (transitionIn l))
     || (eqb k 5 && rowFits (p .automaton) (rowIn l))
     || (within 6 7 k && ltb (num l 1) (p .automaton .states))
     || eqb k 8

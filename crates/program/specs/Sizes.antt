@@ -16,10 +16,6 @@ maxEdges = 256
 abbrev pub maxFrames : ℕ
 maxFrames = 1 + maxRoutines + maxEdges + maxTransitions + maxStates + maxStates
 
--- the label of a call of routine 0; below it are the actions
-abbrev pub firstCall : ℕ
-firstCall = 0x40
-
 -- a byte for each configuration (paper: the sheet): 16 routines, 16 nodes, 8 roots and 8 states
 abbrev pub marksSize : ℕ
 marksSize = 16384

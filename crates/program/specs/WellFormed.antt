@@ -23,7 +23,7 @@ pub record WellFormed (p : Program) : Type 0 where
   pub edges-fit : All (edgeFits p) (p .edges)
   pub edges-ascend : Ascending 0 (map edgeKey (p .edges))
   pub edges-limited : length (p .edges) ≤ maxEdges
-  pub transitions-fit : All (transitionFits (p .automaton)) (p .automaton .transitions)
+  pub transitions-fit : All (transitionFits p) (p .automaton .transitions)
   pub transitions-ascend : Ascending 0 (map transitionKey (p .automaton .transitions))
   pub transitions-limited : length (p .automaton .transitions) ≤ maxTransitions
   pub initial-fit : All (λ q. ltb q (p .automaton .states)) (p .automaton .initial)

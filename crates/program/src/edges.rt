@@ -1,8 +1,8 @@
 // The table of edges, the keys that they are kept as, and the labels that call: nothing else makes an edge's key or
 // takes one apart.
 use crate::frames::pack;
-use crate::sizes::FIRST_CALL;
 use crate::sizes::MAX_EDGES;
+use automaton::sizes::FIRST_CALL;
 ghost use mathlib.Core.Path.{_≡_};
 ghost use mathlib.Core.Bool.{true};
 ghost use mathlib.Core.List.{[]};
@@ -57,7 +57,7 @@ pub fn first_key(f: u32) -> u64
     f as u64 * 0x1000000
 }
 
-// Whether a label is that of a call.
+// Whether the label of an edge is that of a call.
 pub fn is_call(label: u8) -> bool
     ensures { λ r. ⌜ r ≡ isCall label ⌝ }
 {

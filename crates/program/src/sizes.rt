@@ -7,9 +7,6 @@ pub const MAX_NODES: usize = 16;
 
 pub const MAX_EDGES: usize = 256;
 
-// The label of a call of routine 0; below it are the actions.
-pub const FIRST_CALL: u8 = 0x40;
-
 // A byte for each configuration: its routine, its node, its root and its state.
 pub const MARKS_SIZE: usize = MAX_ROUTINES * MAX_NODES * MAX_STATES * MAX_STATES;
 

@@ -9,7 +9,7 @@ abbrev row : ℕ → ℕ → ℕ → TableRow
 row states actions next = record { states = states; actions = actions; next = next }
 
 abbrev go : ℕ → ℕ → ℕ → Transition
-go before action after = record { before = before; action = action; after = after }
+go before action after = record { before = before; label = action; after = after }
 
 -- each state goes to the other, whatever the action
 abbrev complete : List TableRow

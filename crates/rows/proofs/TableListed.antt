@@ -34,8 +34,8 @@ listed-pair rs (p ∷ ps) q a s e =
         let d : _≡_ {A = Pair} (record { state = q; action = a }) p = λ i. record { state = sym e i; action = sym f i } in
         (List·Memᴰ·head d, ap (λ (w : Pair). nextState w rs) d ∙ eqb-true (nextState p rs) s (x .1))
 
-goes-itself : (t : Transition) → goes (t .before) (t .action) (t .after) t ≡ true
-goes-itself t = rw (eq-eqb (t .before) (t .before) refl, eq-eqb (t .action) (t .action) refl, eq-eqb (t .after) (t .after) refl)
+goes-itself : (t : Transition) → goes (t .before) (t .label) (t .after) t ≡ true
+goes-itself t = rw (eq-eqb (t .before) (t .before) refl, eq-eqb (t .label) (t .label) refl, eq-eqb (t .after) (t .after) refl)
 
 pair-listed : (rs : List TableRow) (ps : List Pair) {p : Pair} → List·Memᴰ p ps
     → listed (p .state) (p .action) (nextState p rs) (tableTransitions rs ps) ≡ true

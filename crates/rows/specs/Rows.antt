@@ -83,7 +83,7 @@ nextState p (r ∷ rs) = cond (meets p r) (r .next) (nextState p rs)
 
 -- a pair's transition
 abbrev pub transitionFor : List TableRow → Pair → Transition
-transitionFor rs p = record { before = p .state; action = p .action; after = nextState p rs }
+transitionFor rs p = record { before = p .state; label = p .action; after = nextState p rs }
 
 -- one transition for each pair
 abbrev pub tableTransitions : List TableRow → List Pair → List Transition

@@ -1,6 +1,6 @@
 -- Frames written one after the other.
 use mathlib.Core.Path.{_≡_, refl, sym, ap, _∙_}
-use mathlib.Core.Bool.{Bool, true, false, cond, _&&_}
+use mathlib.Core.Bool.{Bool, true, false, cond}
 use mathlib.Core.List.{List, [], _∷_, _++_, map, map-map, append-nil}
 use Prim.Native.Nat.{ℕ, zero, suc, min, _+_, _*_, _%_, _<_, _≤_}
 use native.Mathlib.Nat.{zero-add, add-zero}
@@ -9,21 +9,21 @@ use native.Mathlib.Omega.{arith}
 use lib.Dec.{eqb}
 use lib.ListN.{length, take, drop, getD, length-append, length-map, length-take, take-append-drop, List·getD-map}
 use lib.Seq.{sets, length-sets, sets-eq, take-suc, take-all, getD-take}
-use borrow.Author.Tests.{ltb-true}
+use borrow.Author.Tests.{ltb-true, lt-ltb}
 use Rattle.text.specs.Hex.{hexLine}
 use Rattle.text.specs.Lines.{pad, maxNumbers, lineOf}
 use Rattle.text.specs.declared.Line.{Line}
 use Rattle.text.proofs.RoundTrip.{length-hex}
 use Rattle.text.proofs.NumbersStored.{sets-append}
-use Rattle.automaton.specs.Automaton.{Automaton}
+use Rattle.automaton.specs.Automaton.{Transition, Automaton}
 use Rattle.automaton.specs.Decoded.{transitionOf}
 use Rattle.program.specs.Program.{Program, transitionFits}
 use Rattle.program.specs.Frames.{headerFrame, nodesFrame, edgeFrame, transitionFrame, endFrame}
-use Rattle.program.proofs.ProgramLimits.{text-append}
+use Rattle.program.proofs.ProgramLimits.{transition-fits, text-append}
 use Rattle.program.specs.Writing.{nodesFrames, framesOf, text, written}
 use Rattle.program.specs.WellFormed.{All}
 use Rattle.program.specs.Decoded.{edgeOf}
-use Rattle.writer.specs.Parts.{lowerByte, keyFrame, byteFrame, byteFrames, automatonFrames, RoomFor, Put}
+use Rattle.writer.specs.Parts.{lowerByte, startsWithin, keyFrame, byteFrame, byteFrames, automatonFrames, RoomFor, Put}
 
 -- ---- the text of frames
 
@@ -62,19 +62,21 @@ key-short kind k = go (eqb kind 0x53)
 pub edge-frames : (ks : List ℕ) → map (keyFrame 0x53) ks ≡ map edgeFrame (map edgeOf ks)
 edge-frames ks = sym (map-map edgeFrame edgeOf ks)
 
-first : (t u : Bool) → t && u ≡ true → t ≡ true
-first true u e = refl
-first false u e = e
+-- a transition that fits begins in a state of the automaton
+pub starts-within : (p : Program) (ts : List Transition) → All (transitionFits p) ts → All (startsWithin (p .automaton)) ts
+unfolding All
+starts-within p [] fit = tt
+starts-within p (t ∷ ts) fit = (lt-ltb (t .before) (p .automaton .states) (transition-fits p t (fit .0) .0), starts-within p ts (fit .1))
 
--- nothing of a transition that fits is lost
-pub transition-frames : (r : Automaton) (ks : List ℕ) → r .states < 256 → All (transitionFits r) (map transitionOf ks)
+-- nothing of a transition is lost that begins in a state of the automaton
+pub transition-frames : (r : Automaton) (ks : List ℕ) → r .states < 256 → All (startsWithin r) (map transitionOf ks)
     → map (keyFrame 0x54) ks ≡ map transitionFrame (map transitionOf ks)
 unfolding All
-transition-frames r [] h fit = refl
-transition-frames r (k ∷ ks) h fit =
-    let b : transitionOf k .before < r .states = ltb-true _ _ (first _ _ (first _ _ (fit .0))) in
+transition-frames r [] h within = refl
+transition-frames r (k ∷ ks) h within =
+    let b = ltb-true (transitionOf k .before) (r .states) (within .0) in
     let e : transitionOf k .before % 256 ≡ transitionOf k .before = omega arith in
-    rw (e, transition-frames r ks h (fit .1))
+    rw (e, transition-frames r ks h (within .1))
 
 -- ---- what was written
 

@@ -1,9 +1,9 @@
 -- What the writer's private functions ask and promise of each other; nothing here has to be believed.
 use Prim.Native.Nat.{ℕ, _+_, _%_, _≤_}
 use mathlib.Core.Path.{_≡_}
-use mathlib.Core.Bool.{cond}
+use mathlib.Core.Bool.{Bool, cond}
 use mathlib.Core.List.{List, [], _∷_, _++_, map}
-use lib.Dec.{eqb}
+use lib.Dec.{ltb, eqb}
 use lib.ListN.{length}
 use lib.Seq.{sets}
 use Rattle.automaton.specs.Automaton.{Transition, Automaton}
@@ -14,7 +14,11 @@ use Rattle.program.specs.Decoded.{edgeOf}
 
 -- two digits hold the lower byte of a state
 abbrev pub lowerByte : Transition → Transition
-lowerByte t = record { before = t .before % 256; action = t .action; after = t .after }
+lowerByte t = record { before = t .before % 256; label = t .label; after = t .after }
+
+-- the state before a transition is one of the automaton's
+abbrev pub startsWithin : Automaton → Transition → Bool
+startsWithin r t = ltb (t .before) (r .states)
 
 -- the frame of a key: of an edge, kind 53, or of a transition
 abbrev pub keyFrame : ℕ → ℕ → List ℕ

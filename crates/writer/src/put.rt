@@ -22,7 +22,8 @@ ghost use Rattle.program.specs.Writing.{framesOf, written};
 ghost use Rattle.program.specs.WellFormed.{All};
 ghost use Rattle.program.specs.Program.{transitionFits};
 ghost use Rattle.program.specs.Decoded.{edgeOf, programOf};
-ghost use Rattle.writer.specs.Parts.{lowerByte, keyFrame, byteFrame, byteFrames, automatonFrames, RoomFor, Put};
+ghost use Rattle.writer.specs.Parts.{lowerByte, startsWithin, keyFrame, byteFrame, byteFrames};
+ghost use Rattle.writer.specs.Parts.{automatonFrames, RoomFor, Put};
 
 fn header_line(routines: u8, states: u8, actions: u8) -> Line
     ensures { λ r. ⌜ r ≡ lineOf (headerFrame routines states actions) ⌝ }
@@ -77,7 +78,7 @@ fn transition_line(key: u32) -> Line
     let numbers = [
         0x54,
         (t.before % 256) as u8,
-        t.action as u8,
+        t.label as u8,
         t.after as u8,
         0,
         0,
@@ -132,9 +133,9 @@ fn put_keys(out: &mut [u8], at: usize, kind: u8, keys: &[u32], count: usize) -> 
     pos
 }
 
-// The frames of the automaton. A transition that fits has only numbers below 256, so that nothing of it is lost.
+// The frames of the automaton. Two digits hold the number of any of its states: hence the first `requires`.
 fn put_automaton(out: &mut [u8], at: usize, r: DecodedAutomaton) -> usize
-    requires fits { ⌜ All (transitionFits (automatonOf r)) (automatonOf r .transitions) ⌝ }
+    requires within { ⌜ All (startsWithin (automatonOf r)) (automatonOf r .transitions) ⌝ }
     requires room { ⌜ RoomFor (automatonFrames (automatonOf r)) (now out) at ⌝ }
     ensures { λ next. ⌜ Put (automatonFrames (automatonOf r)) (now (out .entry)) (now (out .exit)) at next ⌝ }
 {
@@ -162,7 +163,7 @@ fn frame_count(p: DecodedProgram) -> usize
 // (refusal 10), and no program that the reader accepts is longer; nor has it a transition that does not fit, whose
 // numbers two digits could not hold: hence the two `requires`.
 pub fn write_program(out: &mut [u8], p: DecodedProgram) -> usize
-    requires fits { ⌜ All (transitionFits (programOf p .automaton)) (programOf p .automaton .transitions) ⌝ }
+    requires fits { ⌜ All (transitionFits (programOf p)) (programOf p .automaton .transitions) ⌝ }
     requires room { ⌜ length (written (programOf p)) ≤ length (now out) ⌝ }
     ensures { λ r. ⌜ (r ≡ length (written (programOf p)))
         × (now (out .exit) ≡ written (programOf p) ++ drop (length (written (programOf p))) (now (out .entry))) ⌝ }

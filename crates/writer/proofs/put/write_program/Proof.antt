@@ -11,7 +11,7 @@ use Rattle.program.specs.Sizes.{maxRoutines}
 use Rattle.program.specs.Writing.{nodesFrames, text}
 use Rattle.program.specs.Decoded.{nodesOf, edgeKeysOf, programOf}
 use Rattle.writer.specs.Parts.{keyFrame, automatonFrames}
-use Rattle.writer.proofs.FramesPut.{edge-frames, put-one, file-long, file-put}
+use Rattle.writer.proofs.FramesPut.{edge-frames, starts-within, put-one, file-long, file-put}
 use Rattle.writer.proofs.put.write_program.Statement.{statement}
 use Rattle.writer.proofs.put.write_program.Tie as tie
 
@@ -64,7 +64,8 @@ put-automaton-requires c κs =
     let l = line n in
     let h = header l in
     let r = room h in
-    (start h .pre .0, omega (arith, k .put-keys .ensures .past, n .put-bytes .ensures .past, l .put-line .ensures .0))
+    let w = starts-within (programOf (start h .args .p)) _ (start h .pre .0) in
+    (w, omega (arith, k .put-keys .ensures .past, n .put-bytes .ensures .past, l .put-line .ensures .0))
 
 put-line-requires-2 : tie.Need-put-line-requires-2
 put-line-requires-2 c κs =
