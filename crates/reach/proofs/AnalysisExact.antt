@@ -8,6 +8,7 @@ use lib.ListN.{getD, length-replicate}
 use lib.Seq.{ext-getD}
 use Rattle.program.specs.Program.{Program}
 use Rattle.program.specs.WellFormed.{WellFormed}
+use Rattle.reach.specs.Sizes.{enoughIterations}
 use Rattle.reach.specs.Configurations.{Set, none-set}
 use Rattle.reach.specs.Reachable.{Derivable, Initial, Any, Reachable}
 use Rattle.reach.specs.Worklist.{Worklist, lowest, work, opened, blank, analysis}
@@ -30,16 +31,18 @@ module _ (p : Program) (w : WellFormed p) (S : Set) (h : Proper p S) (s : Workli
       let x = follows-exact p S (sizes p w) h (work k p (lowest (s .pending) 0) s) (work-follows p S (sizes p w) h k s v) e f n r q in
       (λ c. x .0 (c .0, record { on = c .1 }), λ d. let c = x .1 d in (c .0, c .1 .on))
 
-  -- 129 iterations a configuration are enough from a settled one
-  pub follow-exact-ended : Settled s → (f n r q : ℕ) → Marked (work 2113536 p (lowest (s .pending) 0) s .marks) f n r q ↔ Derivable p S Any f n r q
-  follow-exact-ended c = follow-exact 2113536 (follow-ends p S (sizes p w) h s v c)
+  -- 1,025 iterations a configuration are enough from a settled one
+  pub follow-exact-ended : Settled s → (f n r q : ℕ)
+      → Marked (work enoughIterations p (lowest (s .pending) 0) s .marks) f n r q ↔ Derivable p S Any f n r q
+  follow-exact-ended c = follow-exact enoughIterations (follow-ends p S (sizes p w) h s v c)
 
   -- and the bytes of what is pending are all 0
-  pub follow-clear : Settled s → work 2113536 p (lowest (s .pending) 0) s .pending ≡ none-set
+  pub follow-clear : Settled s → work enoughIterations p (lowest (s .pending) 0) s .pending ≡ none-set
   unfolding none-set
   follow-clear c =
-      let l = work 2113536 p (lowest (s .pending) 0) s .pending in
-      ext-getD 0 l none-set (work-shape 2113536 p (lowest (s .pending) 0) s refl (v .shape) .pending-length ∙ sym (length-replicate {A = ℕ} 16384 0))
+      let l = work enoughIterations p (lowest (s .pending) 0) s .pending in
+      let z = work-shape enoughIterations p (lowest (s .pending) 0) s refl (v .shape) in
+      ext-getD 0 l none-set (z .pending-length ∙ sym (length-replicate {A = ℕ} 16384 0))
       (λ i b.
       elim (ℕ-discrete (getD l i 0) 0) [
         | yes e ↦ e ∙ sym (zeros 16384 i)
@@ -53,7 +56,7 @@ module _ (p : Program) (w : WellFormed p) where
   unfolding analysis
   analysis-follows =
       let z = sizes p w in
-      work-follows p (Initial p) z (initial-proper p z) 2113536 (opened (p .automaton .initial) blank) (opened-follows p z)
+      work-follows p (Initial p) z (initial-proper p z) enoughIterations (opened (p .automaton .initial) blank) (opened-follows p z)
 
   pub analysis-exact : (f n r q : ℕ) → Marked (analysis p .marks) f n r q ↔ Reachable p f n r q
   unfolding analysis

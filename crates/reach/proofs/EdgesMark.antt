@@ -15,12 +15,13 @@ use Rattle.program.specs.Program.{Program}
 use Rattle.base.proofs.Bools.{both}
 use Rattle.reach.specs.Configurations.{number}
 use Rattle.reach.specs.Runs.{Step, stepsOf, HasStep, Moves}
-use Rattle.reach.specs.Worklist.{Worklist, Shape, mark, markWhen, summary, isKnown, onAction, onReturns, onLabel, labelWhen, onSteps, opened}
+use Rattle.reach.specs.Worklist.{Worklist, Shape, mark, markWhen, summary, isKnown, opened}
+use Rattle.reach.specs.Worklist.{onEvent, eventWhen, onReturns, rootWhen, onCall, onLabel, labelWhen, onSteps}
 use Rattle.reach.proofs.Numbers.{number-fits}
 use Rattle.reach.proofs.ProgramInSizes.{Sizes}
 use Rattle.base.specs.Flags.{On}
 use Rattle.base.proofs.SetFlags.{eqb-on, eqb-off, on-eqb, set-on, on-set, set-inv}
-use Rattle.reach.proofs.ShapeKept.{mark-by, when-kept, label-when-kept, shape-kept}
+use Rattle.reach.proofs.ShapeKept.{mark-by, when-kept, event-when-kept, root-when-kept, label-when-kept, shape-kept}
 
 -- t is s with the numbers A marked; those that are new are pending
 pub record Marks (A : ℕ → Type 0) (s t : Worklist) : Type 0 where
@@ -89,115 +90,172 @@ mark-one i s h z =
       known = refl;
     })
 
-mark-when : (b : Bool) (i : ℕ) (s : Worklist) → i < 16384 → Shape s → Marks (λ j. (b ≡ true) × (j ≡ i)) s (markWhen b i s)
+-- ---- by a test
+
+-- A holds of j, and the test is passed
+abbrev pub When : Bool → (ℕ → Type 0) → ℕ → Type 0
+When b A j = (b ≡ true) × A j
+
+pub when-false : (A : ℕ → Type 0) (j : ℕ) → ¬ (When false A j)
+when-false A j c = let w : _≡_ {A = ℕ} 0 1 = cc (c .0) in omega arith
+
+marks-if : {A : ℕ → Type 0} {s t : Worklist} → Marks A s t → Marks (When true A) s t
+marks-if a = marks-same (λ j c. c .1) (λ j c. (refl, c)) a
+
+marks-unless : {A : ℕ → Type 0} (s : Worklist) → Marks (When false A) s s
+marks-unless {A} s = marks-none (when-false A) s
+
+mark-when : (b : Bool) (i : ℕ) (s : Worklist) → i < 16384 → Shape s → Marks (When b (λ j. j ≡ i)) s (markWhen b i s)
 unfolding markWhen
-mark-when true i s h z = marks-same (λ j c. c .1) (λ j c. (refl, c)) (mark-one i s h z)
-mark-when false i s h z = marks-none (λ j c. let w : _≡_ {A = ℕ} 0 1 = cc (c .0) in omega arith) s
+mark-when true i s h z = marks-if (mark-one i s h z)
+mark-when false i s h z = marks-unless s
 
--- ---- k numbers, from that of x on
+-- ---- by a loop over states
 
--- j is the number at some y of lo, .., lo + k - 1 that passes
-pub record Within (lo k : ℕ) (ok : ℕ → Type 0) (place : ℕ → ℕ) (j : ℕ) : Type 0 where
+-- A holds of j at some x of lo, .., lo + k - 1
+pub record Within (lo k : ℕ) (A : ℕ → ℕ → Type 0) (j : ℕ) : Type 0 where
   pub at : ℕ
   pub low : lo ≤ at
   pub high : at < lo + k
-  pub passes : ok at
-  pub is : j ≡ place at
+  pub holds : A at j
 
-module _ {ok : ℕ → Type 0} {place : ℕ → ℕ} {j : ℕ} where
-  pub within-none : (lo : ℕ) → ¬ (Within lo 0 ok place j)
+module _ {A : ℕ → ℕ → Type 0} {j : ℕ} where
+  pub within-none : (lo : ℕ) → ¬ (Within lo 0 A j)
   within-none lo c = let l = c .low in let u = c .high in omega arith
 
-  pub within-split : {lo k : ℕ} → Within lo (suc k) ok place j → (ok lo × (j ≡ place lo)) ⊎ Within (suc lo) k ok place j
+  pub within-split : {lo k : ℕ} → Within lo (suc k) A j → A lo j ⊎ Within (suc lo) k A j
   within-split {lo} c =
       let l = c .low in
       let u = c .high in
       elim (ℕ-discrete (c .at) lo) [
-        | yes e ↦ inl (subst ok e (c .passes), c .is ∙ ap place e)
-        | no ne ↦ inr (record { at = c .at; low = omega arith; high = omega arith; passes = c .passes; is = c .is })
+        | yes e ↦ inl (subst (λ (x : ℕ). A x j) e (c .holds))
+        | no ne ↦ inr (record { at = c .at; low = omega arith; high = omega arith; holds = c .holds })
       ]
 
-  pub within-here : {lo k : ℕ} → ok lo → j ≡ place lo → Within lo (suc k) ok place j
-  within-here {lo} h e = record { at = lo; low = omega arith; high = omega arith; passes = h; is = e }
+  pub within-here : {lo k : ℕ} → A lo j → Within lo (suc k) A j
+  within-here {lo} h = record { at = lo; low = omega arith; high = omega arith; holds = h }
 
-  pub within-there : {lo k : ℕ} → Within (suc lo) k ok place j → Within lo (suc k) ok place j
-  within-there c = let l = c .low in let u = c .high in record { at = c .at; low = omega arith; high = omega arith; passes = c .passes; is = c .is }
+  pub within-there : {lo k : ℕ} → Within (suc lo) k A j → Within lo (suc k) A j
+  within-there c = let l = c .low in let u = c .high in record { at = c .at; low = omega arith; high = omega arith; holds = c .holds }
+
+  pub within-at : {k : ℕ} (x : ℕ) → x < k → A x j → Within 0 k A j
+  within-at x l h = record { at = x; low = omega arith; high = omega arith; holds = h }
+
+-- one turn of a loop
+marks-turn : {A : ℕ → ℕ → Type 0} {x k : ℕ} {s t u : Worklist} → Marks (A x) s t → Marks (Within (suc x) k A) t u → Marks (Within x (suc k) A) s u
+marks-turn a b = marks-join (λ j. within-split) (λ j. within-here) (λ j. within-there) a b
+
+-- ---- an event
 
 -- a node of a routine, and a root
-pub record Small (f m r : ℕ) : Type 0 where
-  pub routine : f < 16
-  pub node : m < 16
-  pub root : r < 8
+record Small (f m r : ℕ) : Type 0 where
+  routine : f < 16
+  node : m < 16
+  root : r < 8
 
-pub small-fits : {f m r : ℕ} → Small f m r → (x : ℕ) → x < 8 → number f m r x < 16384
+small-fits : {f m r : ℕ} → Small f m r → (x : ℕ) → x < 8 → number f m r x < 16384
 small-fits b x h = number-fits (record { routine = b .routine; node = b .node; root = b .root; state = h })
 
--- what a step by an action marks
-on-action : (k x : ℕ) (p : Program) (f m r q a : ℕ) (s : Worklist) → Small f m r → x + k ≤ 8 → Shape s
-    → Marks (Within x k (λ y. Moves p q (Action a) y) (number f m r)) s (onAction k x p f m r q a s)
-unfolding onAction
-on-action zero x p f m r q a s b h z = marks-none (λ j. within-none x) s
-on-action (suc k) x p f m r q a s b h z =
-    let t = moves (p .automaton) q (Action a) x in
+-- the event leads from q to x, and j is the number there
+abbrev pub Result : Program → ℕ → ℕ → ℕ → ℕ → Event → ℕ → ℕ → Type 0
+Result p f m r q e x j = Moves p q e x × (j ≡ number f m r x)
+
+on-event : (k x : ℕ) (p : Program) (f m r q : ℕ) (e : Event) (s : Worklist) → Small f m r → x + k ≤ 8 → Shape s
+    → Marks (Within x k (Result p f m r q e)) s (onEvent k x p f m r q e s)
+unfolding onEvent
+on-event zero x p f m r q e s b h z = marks-none (λ j. within-none x) s
+on-event (suc k) x p f m r q e s b h z =
+    let t = moves (p .automaton) q e x in
     let i = number f m r x in
-    marks-join (λ j. within-split) (λ j c. within-here (c .0) (c .1)) (λ j. within-there)
-    (mark-when t i s (small-fits b x (omega arith)) z)
-    (on-action k (suc x) p f m r q a (markWhen t i s) b (omega arith) (when-kept shape-kept t i s z))
+    marks-turn (mark-when t i s (small-fits b x (omega arith)) z)
+    (on-event k (suc x) p f m r q e (markWhen t i s) b (omega arith) (when-kept shape-kept t i s z))
 
-is-known : (s : Worklist) (g q x : ℕ) → On (s .known) (summary g q x) → isKnown s g q x ≡ true
-is-known s g q x h = ap not (on-eqb (s .known) (summary g q x) h)
+event-when : (b : Bool) (p : Program) (f m r q : ℕ) (e : Event) (s : Worklist) → Small f m r → Shape s
+    → Marks (When b (Within 0 8 (Result p f m r q e))) s (eventWhen b p f m r q e s)
+unfolding eventWhen
+event-when true p f m r q e s b z = marks-if (on-event 8 0 p f m r q e s b (omega arith) z)
+event-when false p f m r q e s b z = marks-unless s
 
-known-is : (s : Worklist) (g q x : ℕ) → isKnown s g q x ≡ true → On (s .known) (summary g q x)
-known-is s g q x h = eqb-on (s .known) (summary g q x) (not-true _ h)
+-- ---- a call
 
--- what a call marks by the known summaries
-on-returns : (k x f m r q g : ℕ) (s : Worklist) (ks : List ℕ) → s .known ≡ ks → Small f m r → x + k ≤ 8 → Shape s
-    → Marks (Within x k (λ y. On ks (summary g q y)) (number f m r)) s (onReturns k x f m r q g s)
+is-known : (s : Worklist) (g r q : ℕ) → On (s .known) (summary g r q) → isKnown s g r q ≡ true
+is-known s g r q h = ap not (on-eqb (s .known) (summary g r q) h)
+
+known-is : (s : Worklist) (g r q : ℕ) → isKnown s g r q ≡ true → On (s .known) (summary g r q)
+known-is s g r q h = eqb-on (s .known) (summary g r q) (not-true _ h)
+
+-- the summary (y, x) of g is known, and j is a number that the return from x gives
+abbrev pub Back : Program → List ℕ → ℕ → ℕ → ℕ → ℕ → ℕ → ℕ → ℕ → Type 0
+Back p ks f m r g y x j = On ks (summary g y x) × Within 0 8 (Result p f m r x (Return g)) j
+
+-- what is known stays the same while numbers are marked
+on-returns : (k x : ℕ) (p : Program) (f m r g y : ℕ) (s : Worklist) (ks : List ℕ) → s .known ≡ ks → Small f m r → x + k ≤ 8 → Shape s
+    → Marks (Within x k (Back p ks f m r g y)) s (onReturns k x p f m r g y s)
 unfolding onReturns
-on-returns zero x f m r q g s ks e b h z = marks-none (λ j. within-none x) s
-on-returns (suc k) x f m r q g s ks e b h z =
-    let t = isKnown s g q x in
-    let i = number f m r x in
-    let d = mark-when t i s (small-fits b x (omega arith)) z in
-    marks-join
-    (λ j c. elim (within-split c) [ inl y ↦ inl (is-known s g q x (rw e (y .0)), y .1) | inr y ↦ inr y ])
-    (λ j c. within-here (rw e at (known-is s g q x (c .0))) (c .1)) (λ j. within-there) d
-    (on-returns k (suc x) f m r q g (markWhen t i s) ks (d .known ∙ e) b (omega arith) (when-kept shape-kept t i s z))
+on-returns zero x p f m r g y s ks e b h z = marks-none (λ j. within-none x) s
+on-returns (suc k) x p f m r g y s ks e b h z =
+    let t = isKnown s g y x in
+    let d = event-when t p f m r x (Return g) s b z in
+    marks-turn
+    (marks-same (λ j c. (is-known s g y x (rw e (c .0)), c .1)) (λ j c. (rw e at (known-is s g y x (c .0)), c .1)) d)
+    (on-returns k (suc x) p f m r g y (eventWhen t p f m r x (Return g) s) ks (d .known ∙ e) b (omega arith)
+    (event-when-kept shape-kept t p f m r x (Return g) s z))
+
+-- j is a number that a call of g gives by root y
+pub data ByRoot (p : Program) (ks : List ℕ) (f m r g y j : ℕ) : Type 0 where
+  by-entry : j ≡ number g 0 y y → ByRoot p ks f m r g y j
+  by-summary : Within 0 8 (Back p ks f m r g y) j → ByRoot p ks f m r g y j
+
+root-when : (b : Bool) (p : Program) (f m r g y : ℕ) (s : Worklist) (ks : List ℕ) → s .known ≡ ks → Small f m r → g < 16 → y < 8 → Shape s
+    → Marks (When b (ByRoot p ks f m r g y)) s (rootWhen b p f m r g y s)
+unfolding rootWhen
+root-when true p f m r g y s ks e b hg hy z =
+    let i = number g 0 y y in
+    let d = mark-one i s (number-fits (record { routine = hg; node = omega arith; root = hy; state = hy })) z in
+    marks-if (marks-join split (λ j. by-entry) (λ j. by-summary) d
+    (on-returns 8 0 p f m r g y (mark i s) ks (d .known ∙ e) b (omega arith) (shape-kept .by-mark i s z)))
+  where
+    split : (j : ℕ) → ByRoot p ks f m r g y j → (j ≡ number g 0 y y) ⊎ Within 0 8 (Back p ks f m r g y) j
+    split j (by-entry c) = inl c
+    split j (by-summary c) = inr c
+root-when false p f m r g y s ks e b hg hy z = marks-unless s
+
+-- the call leads from q to root y, and j is a number that it gives by that root
+abbrev pub Entering : Program → List ℕ → ℕ → ℕ → ℕ → ℕ → ℕ → ℕ → ℕ → Type 0
+Entering p ks f m r q g y j = Moves p q (Call g) y × ByRoot p ks f m r g y j
+
+on-call : (k y : ℕ) (p : Program) (f m r q g : ℕ) (s : Worklist) (ks : List ℕ) → s .known ≡ ks → Small f m r → g < 16 → y + k ≤ 8 → Shape s
+    → Marks (Within y k (Entering p ks f m r q g)) s (onCall k y p f m r q g s)
+unfolding onCall
+on-call zero y p f m r q g s ks e b hg h z = marks-none (λ j. within-none y) s
+on-call (suc k) y p f m r q g s ks e b hg h z =
+    let t = moves (p .automaton) q (Call g) y in
+    let d = root-when t p f m r g y s ks e b hg (omega arith) z in
+    marks-turn d
+    (on-call k (suc y) p f m r q g (rootWhen t p f m r g y s) ks (d .known ∙ e) b hg (omega arith) (root-when-kept shape-kept t p f m r g y s z))
 
 -- ---- a label, and all the steps
 
-pub data ByLabel (p : Program) (ks : List ℕ) (f m r q : ℕ) : Event → ℕ → Type 0 where
-  by-move : {a j : ℕ} → Within 0 8 (λ y. Moves p q (Action a) y) (number f m r) j → ByLabel p ks f m r q (Action a) j
-  by-entry : {g j : ℕ} → j ≡ number g 0 q q → ByLabel p ks f m r q (Call g) j
-  by-summary : {g j : ℕ} → Within 0 8 (λ y. On ks (summary g q y)) (number f m r) j → ByLabel p ks f m r q (Call g) j
+-- j is a number that a step by this label marks; a return is no step
+abbrev pub ByLabel : Program → List ℕ → ℕ → ℕ → ℕ → ℕ → Event → ℕ → Type 0
+ByLabel p ks f m r q (Action a) j = Within 0 8 (Result p f m r q (Action a)) j
+ByLabel p ks f m r q (Call g) j = Within 0 8 (Entering p ks f m r q g) j
+ByLabel p ks f m r q (Return g) j = ⊥
 
-on-label : (p : Program) (f m r q : ℕ) (l : Event) (n : ℕ) (s : Worklist) → Sizes p → HasStep p f n l m → r < 8 → q < 8 → Shape s
-    → Marks (ByLabel p (s .known) f m r q l) s (onLabel p f m r q l s)
+on-label : (p : Program) (f m r q : ℕ) (l : Event) (n : ℕ) (s : Worklist) (ks : List ℕ) → s .known ≡ ks → Sizes p → HasStep p f n l m
+    → r < 8 → Shape s → Marks (ByLabel p ks f m r q l) s (onLabel p f m r q l s)
 unfolding onLabel
-on-label p f m r q (Action a) n s i e hr hq z =
-    marks-same (λ j. back j) (λ j c. by-move c)
-    (on-action 8 0 p f m r q a s (record { routine = i .routine e; node = i .target e; root = hr }) (omega arith) z)
-  where
-    back : (j : ℕ) → ByLabel p (s .known) f m r q (Action a) j → Within 0 8 (λ y. Moves p q (Action a) y) (number f m r) j
-    back j (by-move c) = c
-on-label p f m r q (Call g) n s i e hr hq z =
-    let d = mark-one (number g 0 q q) s (number-fits (record { routine = i .called e; node = omega arith; root = hq; state = hq })) z in
-    marks-join split (λ j c. by-entry c) (λ j c. by-summary c) d
-    (on-returns 8 0 f m r q g (mark (number g 0 q q) s) (s .known) (d .known) (record { routine = i .routine e; node = i .target e; root = hr })
-    (omega arith) (shape-kept .by-mark (number g 0 q q) s z))
-  where
-    split : (j : ℕ) → ByLabel p (s .known) f m r q (Call g) j → (j ≡ number g 0 q q) ⊎ Within 0 8 (λ y. On (s .known) (summary g q y)) (number f m r) j
-    split j (by-entry c) = inl c
-    split j (by-summary c) = inr c
-on-label p f m r q (Return g) n s i e hr hq z = marks-none (λ j c. elim c [ ]) s
+on-label p f m r q (Action a) n s ks k i e hr z =
+    on-event 8 0 p f m r q (Action a) s (record { routine = i .routine e; node = i .target e; root = hr }) (omega arith) z
+on-label p f m r q (Call g) n s ks k i e hr z =
+    on-call 8 0 p f m r q g s ks k (record { routine = i .routine e; node = i .target e; root = hr }) (i .called e) (omega arith) z
+on-label p f m r q (Return g) n s ks k i e hr z = marks-none (λ j c. c) s
 
 label-when : (b : Bool) (p : Program) (f m r q : ℕ) (l : Event) (n : ℕ) (s : Worklist) (ks : List ℕ) → s .known ≡ ks → Sizes p
-    → (b ≡ true → HasStep p f n l m) → r < 8 → q < 8 → Shape s → Marks (λ j. (b ≡ true) × ByLabel p ks f m r q l j) s (labelWhen b p f m r q l s)
+    → (b ≡ true → HasStep p f n l m) → r < 8 → Shape s → Marks (When b (ByLabel p ks f m r q l)) s (labelWhen b p f m r q l s)
 unfolding labelWhen
-label-when true p f m r q l n s ks k i e hr hq z =
-    marks-same (λ j c. c .1) (λ j c. (refl, c))
-    (subst (λ (y : List ℕ). Marks (ByLabel p y f m r q l) s (onLabel p f m r q l s)) k (on-label p f m r q l n s i (e refl) hr hq z))
-label-when false p f m r q l n s ks k i e hr hq z = marks-none (λ j c. let w : _≡_ {A = ℕ} 0 1 = cc (c .0) in omega arith) s
+label-when true p f m r q l n s ks k i e hr z = marks-if (on-label p f m r q l n s ks k i (e refl) hr z)
+label-when false p f m r q l n s ks k i e hr z = marks-unless s
 
 abbrev pub step : ℕ → ℕ → Event → ℕ → Step
 step f n l m = record { routine = f; source = n; label = l; target = m }
@@ -209,42 +267,42 @@ pub record ByStep (p : Program) (ks : List ℕ) (es : List Step) (f n r q j : �
   pub member : List·Memᴰ (step f n label target) es
   pub does : ByLabel p ks f target r q label j
 
-abbrev pub fromHere : Step → ℕ → ℕ → Bool
+abbrev fromHere : Step → ℕ → ℕ → Bool
 fromHere e f n = eqb (e .routine) f && eqb (e .source) n
 
-pub is-step : (e : Step) (f n : ℕ) → fromHere e f n ≡ true → step f n (e .label) (e .target) ≡ e
+is-step : (e : Step) (f n : ℕ) → fromHere e f n ≡ true → step f n (e .label) (e .target) ≡ e
 is-step e f n t =
     let c = both (eqb (e .routine) f) (eqb (e .source) n) t in
     let a = eqb-true (e .routine) f (c .0) in
     let b = eqb-true (e .source) n (c .1) in
     λ i. step (sym a i) (sym b i) (e .label) (e .target)
 
-pub step-is : (e : Step) (f n : ℕ) (l : Event) (m : ℕ) → step f n l m ≡ e → fromHere e f n ≡ true
+step-is : (e : Step) (f n : ℕ) (l : Event) (m : ℕ) → step f n l m ≡ e → fromHere e f n ≡ true
 step-is e f n l m h =
     rw (eq-eqb (e .routine) f (sym (ap (λ (x : Step). x .routine) h)), eq-eqb (e .source) n (sym (ap (λ (x : Step). x .source) h)))
 
 pub on-steps : (p : Program) (es : List Step) (f n r q : ℕ) (s : Worklist) (ks : List ℕ) → s .known ≡ ks → Sizes p
-    → ((e : Step) → List·Memᴰ e es → List·Memᴰ e (stepsOf p)) → r < 8 → q < 8 → Shape s
+    → ((e : Step) → List·Memᴰ e es → List·Memᴰ e (stepsOf p)) → r < 8 → Shape s
     → Marks (ByStep p ks es f n r q) s (onSteps p es f n r q s)
 unfolding onSteps
-on-steps p [] f n r q s ks k i sub hr hq z = marks-none (λ j c. elim (c .member) [ ]) s
-on-steps p (e ∷ es) f n r q s ks k i sub hr hq z =
+on-steps p [] f n r q s ks k i sub hr z = marks-none (λ j c. elim (c .member) [ ]) s
+on-steps p (e ∷ es) f n r q s ks k i sub hr z =
     let t = fromHere e f n in
-    let d = label-when t p f (e .target) r q (e .label) n s ks k i (λ y. sub _ (List·Memᴰ·head (is-step e f n y))) hr hq z in
+    let d = label-when t p f (e .target) r q (e .label) n s ks k i (λ y. sub _ (List·Memᴰ·head (is-step e f n y))) hr z in
     marks-join split here there d
-    (on-steps p es f n r q (labelWhen t p f (e .target) r q (e .label) s) ks (d .known ∙ k) i (λ x y. sub x (List·Memᴰ·tail y)) hr hq
+    (on-steps p es f n r q (labelWhen t p f (e .target) r q (e .label) s) ks (d .known ∙ k) i (λ x y. sub x (List·Memᴰ·tail y)) hr
     (label-when-kept shape-kept t p f (e .target) r q (e .label) s z))
   where
-    split : (j : ℕ) → ByStep p ks (e ∷ es) f n r q j → ((fromHere e f n ≡ true) × ByLabel p ks f (e .target) r q (e .label) j) ⊎ ByStep p ks es f n r q j
+    split : (j : ℕ) → ByStep p ks (e ∷ es) f n r q j → When (fromHere e f n) (ByLabel p ks f (e .target) r q (e .label)) j ⊎ ByStep p ks es f n r q j
     split j c = go (c .member)
       where
         go : List·Memᴰ (step f n (c .label) (c .target)) (e ∷ es)
-            → ((fromHere e f n ≡ true) × ByLabel p ks f (e .target) r q (e .label) j) ⊎ ByStep p ks es f n r q j
+            → When (fromHere e f n) (ByLabel p ks f (e .target) r q (e .label)) j ⊎ ByStep p ks es f n r q j
         go (List·Memᴰ·head y) =
             inl (step-is e f n (c .label) (c .target) y, subst (λ (x : Step). ByLabel p ks f (x .target) r q (x .label) j) y (c .does))
         go (List·Memᴰ·tail y) = inr (record { label = c .label; target = c .target; member = y; does = c .does })
 
-    here : (j : ℕ) → (fromHere e f n ≡ true) × ByLabel p ks f (e .target) r q (e .label) j → ByStep p ks (e ∷ es) f n r q j
+    here : (j : ℕ) → When (fromHere e f n) (ByLabel p ks f (e .target) r q (e .label)) j → ByStep p ks (e ∷ es) f n r q j
     here j c = record { label = e .label; target = e .target; member = List·Memᴰ·head (is-step e f n (c .0)); does = c .1 }
 
     there : (j : ℕ) → ByStep p ks es f n r q j → ByStep p ks (e ∷ es) f n r q j

@@ -1,5 +1,5 @@
 -- An exit whose summary is known is not pending, so it is never taken again.
-use mathlib.Core.Path.{_≡_, sym, ap, _∙_}
+use mathlib.Core.Path.{_≡_, sym, _∙_}
 use mathlib.Core.Logic.{inl, inr}
 use Prim.Native.Nat.{ℕ, _<_}
 use native.Mathlib.Omega.{arith}
@@ -8,13 +8,13 @@ use lib.ListN.{set}
 use Rattle.program.specs.Program.{Program}
 use Rattle.reach.specs.Configurations.{Set, number, nodeOf, rootOf, stateOf, routineOf}
 use Rattle.reach.specs.Worklist.{Worklist, summary, learn, takeAt, opened, blank}
-use Rattle.reach.proofs.Numbers.{node-of, root-small, exit-number}
+use Rattle.reach.proofs.Numbers.{node-of, exit-number}
 use Rattle.reach.proofs.ProgramInSizes.{Sizes}
 use Rattle.base.specs.Flags.{On}
 use Rattle.base.proofs.SetFlags.{set-inv, clear-off, clear-inv, none-on}
 use Rattle.reach.proofs.ShapeKept.{blank-shape}
 use Rattle.reach.proofs.EdgesMark.{on-opened}
-use Rattle.reach.proofs.SummariesWake.{caller-in-range}
+use Rattle.reach.proofs.SummariesWake.{caller-node}
 use Rattle.reach.proofs.OneTaking.{Marking, Waking, take-elsewhere, take-exit}
 use Rattle.reach.proofs.WorklistInvariant.{Follows}
 
@@ -50,10 +50,7 @@ module _ (p : Program) (S : Set) (z : Sizes p) (i : ℕ) (s : Worklist) (v : Fol
       exit-waits j e o =
           elim (k .waits o) [
             | inl x ↦ x
-            | inr x ↦
-                let c = x .0 in
-                let m = node-of (caller-in-range z (root-small i) c) in
-                absurd (z .no-exit (c .member) (sym m ∙ ap nodeOf (sym (c .is)) ∙ e))
+            | inr x ↦ absurd (z .no-exit (x .0 .member) (sym (caller-node z (x .0)) ∙ e))
           ]
 
   pub take-settled : Settled (takeAt p i s)

@@ -8,12 +8,13 @@ use native.Mathlib.Omega.{arith}
 use native.Mathlib.Decide.{ℕ-discrete}
 use Rattle.program.specs.Program.{Program}
 use Rattle.program.specs.WellFormed.{WellFormed}
+use Rattle.reach.specs.Sizes.{enoughIterations}
 use Rattle.reach.specs.Configurations.{number, routineOf, nodeOf, rootOf, stateOf, none-set, At}
 use Rattle.reach.specs.Reachable.{Derivable, seeded, Any}
 use Rattle.reach.specs.Worklist.{Worklist, Shape, lowest, summary, work}
 use Rattle.reach.specs.Marks.{Marked, Shows, Between, ClosedBut}
 use Rattle.reach.proofs.Numbers.{number-of, node-of, parts-in-range}
-use Rattle.reach.proofs.ProgramInSizes.{sizes, Proper, may-call, may-return}
+use Rattle.reach.proofs.ProgramInSizes.{sizes, after-small, Proper}
 use Rattle.base.specs.Flags.{On}
 use Rattle.base.proofs.SetFlags.{on-lt}
 use Rattle.reach.proofs.ShapeKept.{work-shape}
@@ -64,25 +65,24 @@ module _ (p : Program) (w : WellFormed p) (low high : ℕ) (s : Worklist) (h : C
       record {
         exit = at-exit o;
         acts = λ x y v. absurd (z .no-exit y e);
-        calls = λ y. absurd (z .no-exit y e);
-        returns = λ x hx y v. absurd (z .no-exit y e);
+        calls = λ x y v. absurd (z .no-exit y e);
+        returns = λ r x t hx y v o v′. absurd (z .no-exit y e);
       }
 
   -- outside the numbers what follows is marked
   outside-done : {j : ℕ} → On (s .marks) j → ¬ (Between low high j) → At (Closed p s) j
   outside-done {j} o ne =
-      let m = marked-at o in
-      let q = stateOf j in
-      let c = h .closed m (subst (λ (i : ℕ). ¬ (Between low high i)) (sym (number-of j)) ne) in
+      let c = h .closed (marked-at o) (subst (λ (i : ℕ). ¬ (Between low high i)) (sym (number-of j)) ne) in
       record {
         exit = at-exit o;
         acts = λ x e v. record { on = c .acts e v .1 };
-        calls = λ {g = g} e. record { on = c .calls e (may-call p q g (h .states m)) .1 };
-        returns = λ {g = g} x hx e v.
-            let hg = sizes p w .called e in
-            let y : Marked (s .marks) g 1 q x =
-            (record { routine = hg; node = omega arith; root = m .0 .state; state = hx }, k .known g q x hg (m .0 .state) hx v .on) in
-            record { on = c .returns e (may-call p q g (h .states m)) y (may-return p x g (h .states y)) .1 };
+        calls = λ x e v. record { on = c .calls e v .1 };
+        returns = λ {g = g} r x t hx e v o v′.
+            let z = sizes p w in
+            let hg = z .called e in
+            let hr = after-small z _ _ _ v in
+            let y : Marked (s .marks) g 1 r x = (record { routine = hg; node = omega arith; root = hr; state = hx }, k .known g r x hg hr hx o .on) in
+            record { on = c .returns e v y v′ .1 };
       }
 
   awaits-follows : Follows p (Marked (s .marks)) s
@@ -109,13 +109,13 @@ module _ (p : Program) (w : WellFormed p) (low high : ℕ) (s : Worklist) (h : C
 
   -- ---- so following ends with what follows from the marks
 
-  pub awaits-ends : lowest (work 2113536 p (lowest (s .pending) 0) s .pending) 0 ≡ none
+  pub awaits-ends : lowest (work enoughIterations p (lowest (s .pending) 0) s .pending) 0 ≡ none
   awaits-ends = follow-ends p (Marked (s .marks)) (sizes p w) proper s awaits-follows awaits-settled
 
-  pub awaits-shows : Shows (Derivable p (Marked (s .marks)) Any) (work 2113536 p (lowest (s .pending) 0) s .marks)
+  pub awaits-shows : Shows (Derivable p (Marked (s .marks)) Any) (work enoughIterations p (lowest (s .pending) 0) s .marks)
   awaits-shows =
-      let z = work-shape 2113536 p (lowest (s .pending) 0) s refl (k .shape) in
+      let z = work-shape enoughIterations p (lowest (s .pending) 0) s refl (k .shape) in
       shows-marked (z .marks-length) (z .marks-bits) (follow-exact-ended p w (Marked (s .marks)) proper s awaits-follows awaits-settled)
 
-  pub awaits-clear : work 2113536 p (lowest (s .pending) 0) s .pending ≡ none-set
+  pub awaits-clear : work enoughIterations p (lowest (s .pending) 0) s .pending ≡ none-set
   awaits-clear = follow-clear p w (Marked (s .marks)) proper s awaits-follows awaits-settled

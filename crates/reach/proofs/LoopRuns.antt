@@ -4,6 +4,7 @@ use mathlib.Core.Option.{none, some, Option·none-ne-some}
 use Prim.Native.Nat.{ℕ, zero, suc, _+_, _<_}
 use native.Mathlib.Omega.{arith}
 use Rattle.program.specs.Program.{Program}
+use Rattle.reach.specs.Sizes.{enoughIterations}
 use Rattle.reach.specs.Worklist.{Worklist, Shape, lowest, takeAt, work, opened, blank, analysis}
 use Rattle.reach.proofs.ShapeKept.{opened-shape, take-shape, take-iterations, opened-iterations, work-step, work-done}
 
@@ -11,11 +12,11 @@ use Rattle.reach.proofs.ShapeKept.{opened-shape, take-shape, take-itera
 pub record Running (p : Program) (t s : Worklist) : Type 0 where
   pub shape : Shape s
   pub left : ℕ
-  pub counted : left + s .iterations ≡ 2113536
+  pub counted : left + s .iterations ≡ enoughIterations
   pub gives : work left p (lowest (s .pending) 0) s ≡ t
 
-pub running-from : (p : Program) (s : Worklist) → Shape s → s .iterations ≡ 0 → Running p (work 2113536 p (lowest (s .pending) 0) s) s
-running-from p s z e = record { shape = z; left = 2113536; counted = omega arith; gives = refl }
+pub running-from : (p : Program) (s : Worklist) → Shape s → s .iterations ≡ 0 → Running p (work enoughIterations p (lowest (s .pending) 0) s) s
+running-from p s z e = record { shape = z; left = enoughIterations; counted = omega arith; gives = refl }
 
 pub running-start : (p : Program) → Running p (analysis p) (opened (p .automaton .initial) blank)
 unfolding analysis
@@ -27,7 +28,8 @@ running-end {p} {t} {s} v e = sym (work-done (v .left) p s e) ∙ v .gives
 
 -- some number is pending, and in the result none is: the iterations are not used up, and the loop goes on
 module _ {p : Program} {t s : Worklist} (v : Running p t s) (ends : lowest (t .pending) 0 ≡ none) (i : ℕ) (e : lowest (s .pending) 0 ≡ some i) where
-  go-on : (k : ℕ) → k + s .iterations ≡ 2113536 → work k p (lowest (s .pending) 0) s ≡ t → (s .iterations < 2113536) × Running p t (takeAt p i s)
+  go-on : (k : ℕ) → k + s .iterations ≡ enoughIterations → work k p (lowest (s .pending) 0) s ≡ t
+      → (s .iterations < enoughIterations) × Running p t (takeAt p i s)
   unfolding work
   go-on zero c g = absurd (Option·none-ne-some i (sym (rw (← g) at ends) ∙ e))
   go-on (suc k) c g = (
@@ -40,7 +42,7 @@ module _ {p : Program} {t s : Worklist} (v : Running p t s) (ends : lowest (t .p
     },
   )
 
-  pub running-more : s .iterations < 2113536
+  pub running-more : s .iterations < enoughIterations
   running-more = go-on (v .left) (v .counted) (v .gives) .0
 
   pub running-turn : Running p t (takeAt p i s)

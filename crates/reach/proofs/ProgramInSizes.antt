@@ -7,8 +7,9 @@ use Prim.Native.Nat.{ℕ, _+_, _-_, _≤_, _<_}
 use native.Mathlib.Omega.{arith}
 use lib.Dec.{ltb, leb, eqb}
 use lib.ListN.{getD}
-use borrow.Author.Tests.{ltb-true, ltb-false, eqb-true, eqb-false, not-true, lt-ltb, eq-eqb}
-use Rattle.automaton.specs.Automaton.{Transition, goes, listed, moves}
+use borrow.Author.Tests.{ltb-true, ltb-false, eqb-true, eqb-false, not-true}
+use Rattle.automaton.specs.Automaton.{listed, heard, stays, moves, callOf, returnOf}
+use Rattle.automaton.proofs.EventsHeard.{listed-in}
 use Rattle.automaton.specs.declared.Event.{Event}
 use Rattle.automaton.specs.declared.Event.the-variants.{Action, Call, Return}
 use Rattle.program.specs.Program.{Edge, Program, within, labelFits, placed, edgeFits, transitionFits}
@@ -16,25 +17,10 @@ use Rattle.program.specs.WellFormed.{WellFormed}
 use Rattle.program.proofs.SectionsAscend.{all-at, all-in}
 use Rattle.program.proofs.LinesJudged.{at-most}
 use Rattle.base.proofs.Bools.{both, either}
-use Rattle.program.proofs.ProgramLimits.{well-formed-limits}
+use Rattle.program.proofs.ProgramLimits.{transition-fits, well-formed-limits}
 use Rattle.reach.specs.Configurations.{Set, InRange}
-use Rattle.reach.specs.Runs.{Step, labelOf, stepOf, HasStep, Moves}
+use Rattle.reach.specs.Runs.{Step, eventOf, stepOf, HasStep, Moves}
 use Rattle.reach.specs.Reachable.{Derivable, seeded, by-action, by-call, by-return, Initial, initial, Reachable}
-
--- a listed move is one of a transition
-pub listed-in : (q a s : ℕ) (ts : List Transition) → listed q a s ts ≡ true → List·Memᴰ (record { before = q; action = a; after = s }) ts
-unfolding listed
-listed-in q a s [] h = absurd (let z : _≡_ {A = ℕ} 0 1 = cc in omega arith)
-listed-in q a s (t ∷ ts) h =
-    either (goes q a s t) (listed q a s ts) h
-    (λ e.
-    let c = both (eqb (t .before) q && eqb (t .action) a) (eqb (t .after) s) e in
-    let d = both (eqb (t .before) q) (eqb (t .action) a) (c .0) in
-    let x = eqb-true (t .before) q (d .0) in
-    let y = eqb-true (t .action) a (d .1) in
-    let z = eqb-true (t .after) s (c .1) in
-    List·Memᴰ·head (λ i. record { before = sym x i; action = sym y i; after = sym z i }))
-    (λ e. List·Memᴰ·tail (listed-in q a s ts e))
 
 -- ---- the steps
 
@@ -62,40 +48,25 @@ pub record Sizes (p : Program) : Type 0 where
   pub called : {f n m g : ℕ} → HasStep p f n (Call g) m → g < 16
   pub no-exit : {f n m : ℕ} {l : Event} → HasStep p f n l m → n ≢ 1
   pub states : p .automaton .states ≤ 8
-  pub after : (q a s : ℕ) → Moves p q (Action a) s → s < p .automaton .states
+  pub after : (q : ℕ) (e : Event) (s : ℕ) → Moves p q e s → s < p .automaton .states
   pub begun : {q : ℕ} → List·Memᴰ q (p .automaton .initial) → q < p .automaton .states
 
--- ---- moves
-
-pub call-stays : (p : Program) (q g s : ℕ) → Moves p q (Call g) s → s ≡ q
-unfolding moves
-call-stays p q g s h = sym (eqb-true q s (both (ltb q (p .automaton .states)) (eqb q s) h .1))
-
-pub return-stays : (p : Program) (q g s : ℕ) → Moves p q (Return g) s → s ≡ q
-unfolding moves
-return-stays p q g s h = sym (eqb-true q s (both (ltb q (p .automaton .states)) (eqb q s) h .1))
-
-pub may-call : (p : Program) (q g : ℕ) → q < p .automaton .states → Moves p q (Call g) q
-unfolding moves
-may-call p q g h = rw (lt-ltb q (p .automaton .states) h) (eq-eqb q q refl)
-
-pub may-return : (p : Program) (q g : ℕ) → q < p .automaton .states → Moves p q (Return g) q
-unfolding moves
-may-return p q g h = rw (lt-ltb q (p .automaton .states) h) (eq-eqb q q refl)
+pub after-small : {p : Program} → Sizes p → (q : ℕ) (e : Event) (s : ℕ) → Moves p q e s → s < 8
+after-small z q e s m = omega (arith, z .states, z .after q e s m)
 
 -- ---- a well-formed program has the ranges
 
 -- the facts of a step's edge
 record Edged (p : Program) (f n : ℕ) (l : Event) (m : ℕ) : Type 0 where
   label : ℕ
-  is : l ≡ labelOf label
+  is : l ≡ eventOf label
   routine : f < 16
   source : n < 16
   target : m < 16
   no-exit : n ≢ 1
   small : label < 0x40 + 16
 
-edge-fits : (p : Program) → WellFormed p → (e : Edge) → edgeFits p e ≡ true → Edged p (e .routine) (e .source) (labelOf (e .label)) (e .target)
+edge-fits : (p : Program) → WellFormed p → (e : Edge) → edgeFits p e ≡ true → Edged p (e .routine) (e .source) (eventOf (e .label)) (e .target)
 edge-fits p w e h =
     let f = e .routine in let n = e .source in let m = e .target in let a = e .label in
     let ns = getD (p .nodes) f 0 in
@@ -126,8 +97,27 @@ edged p w h =
     subst (λ (x : Step). Edged p (x .routine) (x .source) (x .label) (x .target)) (sym (z .is))
     (edge-fits p w (z .from) (all-in (edgeFits p) (p .edges) (w .edges-fit) (z .member)))
 
+-- a move leads to a state of the automaton
+module _ (p : Program) (w : WellFormed p) where
+  listed-after : (q l s : ℕ) → listed q l s (p .automaton .transitions) ≡ true → s < p .automaton .states
+  listed-after q l s h =
+      let ts = p .automaton .transitions in
+      transition-fits p _ (all-in (transitionFits p) ts (w .transitions-fit) (listed-in q l s ts h)) .2
+
+  label-after : (b : Bool) (q l s : ℕ) → cond b (listed q l s (p .automaton .transitions)) (stays (p .automaton) q s) ≡ true
+      → s < p .automaton .states
+  label-after true q l s h = listed-after q l s h
+  label-after false q l s h =
+      let c = both (ltb q (p .automaton .states)) (eqb q s) h in
+      omega (arith, ltb-true q (p .automaton .states) (c .0), eqb-true q s (c .1))
+
+  move-after : (q : ℕ) (e : Event) (s : ℕ) → Moves p q e s → s < p .automaton .states
+  unfolding moves
+  move-after q (Action a) s h = listed-after q a s h
+  move-after q (Call f) s h = label-after (heard (callOf f) (p .automaton .transitions)) q (callOf f) s h
+  move-after q (Return f) s h = label-after (heard (returnOf f) (p .automaton .transitions)) q (returnOf f) s h
+
 pub sizes : (p : Program) → WellFormed p → Sizes p
-unfolding moves
 sizes p w =
     record {
       routine = λ h. edged p w h .routine;
@@ -141,10 +131,7 @@ sizes p w =
           omega (arith, c .1);
       no-exit = λ h. edged p w h .no-exit;
       states = well-formed-limits p w .states;
-      after = λ q a s h.
-          let r = p .automaton in
-          let c = all-in (transitionFits r) (r .transitions) (w .transitions-fit) (listed-in q a s (r .transitions) h) in
-          ltb-true s (r .states) (both (ltb q (r .states) && ltb a (r .actions)) (ltb s (r .states)) c .1);
+      after = move-after p w;
       begun = λ {q} m. ltb-true q (p .automaton .states) (all-in (λ q. ltb q (p .automaton .states)) (p .automaton .initial) (w .initial-fit) m);
     }
 
@@ -167,24 +154,20 @@ initial-proper p z = record { in-range = in-range; state = state }
 module _ {p : Program} {S W : Set} (z : Sizes p) (h : Proper p S) where
   pub derivable-state : {f n r q : ℕ} → Derivable p S W f n r q → q < p .automaton .states
   derivable-state (seeded x w) = h .state x
-  derivable-state (by-action {q = q} {a = a} {s = s} d e m w) = z .after q a s m
-  derivable-state (by-call {q = q} {g = g} {s = s} d e m w) = rw (call-stays p q g s m) (derivable-state d)
-  derivable-state (by-return {g = g} {x = x} {t = t} d e m d′ m′ w) = rw (return-stays p x g t m′) (derivable-state d′)
+  derivable-state (by-action d e m w) = z .after _ _ _ m
+  derivable-state (by-call d e m w) = z .after _ _ _ m
+  derivable-state (by-return d e m d′ m′ w) = z .after _ _ _ m′
 
   pub derivable-in-range : {f n r q : ℕ} → Derivable p S W f n r q → InRange f n r q
   derivable-in-range (seeded x w) = h .in-range x
-  derivable-in-range (by-action {q = q} {a = a} {s = s} d e m w) =
+  derivable-in-range (by-action d e m w) =
       let c = derivable-in-range d in
-      let b = z .states in
-      let u = z .after q a s m in
-      record { routine = c .routine; node = z .target e; root = c .root; state = omega arith }
-  derivable-in-range (by-call {q = q} {g = g} {s = s} d e m w) =
+      record { routine = c .routine; node = z .target e; root = c .root; state = after-small z _ _ _ m }
+  derivable-in-range (by-call d e m w) =
+      record { routine = z .called e; node = omega arith; root = after-small z _ _ _ m; state = after-small z _ _ _ m }
+  derivable-in-range (by-return d e m d′ m′ w) =
       let c = derivable-in-range d in
-      let u : s < 8 = rw (call-stays p q g s m) (c .state) in
-      record { routine = z .called e; node = omega arith; root = u; state = u }
-  derivable-in-range (by-return {g = g} {x = x} {t = t} d e m d′ m′ w) =
-      let c = derivable-in-range d in
-      record { routine = c .routine; node = z .target e; root = c .root; state = rw (return-stays p x g t m′) (derivable-in-range d′ .state) }
+      record { routine = c .routine; node = z .target e; root = c .root; state = after-small z _ _ _ m′ }
 
 -- every reachable configuration is in range, its root and state are states of the automaton
 module _ (p : Program) (w : WellFormed p) where
@@ -197,5 +180,5 @@ module _ (p : Program) (w : WellFormed p) where
   pub reachable-root : {f n r q : ℕ} → Reachable p f n r q → r < p .automaton .states
   reachable-root (seeded (initial m) x) = sizes p w .begun m
   reachable-root (by-action d e m x) = reachable-root d
-  reachable-root (by-call {q = q} {g = g} {s = s} d e m x) = rw (call-stays p q g s m) (reachable-state d)
+  reachable-root (by-call d e m x) = sizes p w .after _ _ _ m
   reachable-root (by-return d e m d′ m′ x) = reachable-root d

@@ -11,9 +11,12 @@ use Rattle.automaton.specs.Automaton.{moves}
 use Rattle.automaton.specs.declared.Event.{Event}
 use Rattle.automaton.specs.declared.Event.the-variants.{Action, Call, Return}
 use Rattle.program.specs.Program.{Program}
+use Rattle.reach.specs.Sizes.{enoughIterations}
 use Rattle.reach.specs.Configurations.{number, routineOf, nodeOf, rootOf, stateOf, none-set}
 use Rattle.reach.specs.Runs.{Step, stepsOf}
-use Rattle.reach.specs.Worklist.{Worklist, Shape, lowest, mark, wake, markWhen, isKnown, onAction, onReturns, onLabel, labelWhen, onSteps, wakeRoots, calls, wakeWhen, wakeCallers, learn, takeFrom, takeAt, work, opened, blank, analysis}
+use Rattle.reach.specs.Worklist.{Worklist, Shape, lowest, mark, wake, learn, takeFrom, takeAt, work, opened, blank, analysis}
+use Rattle.reach.specs.Worklist.{markWhen, isKnown, onEvent, eventWhen, onReturns, rootWhen, onCall, onLabel, labelWhen, onSteps}
+use Rattle.reach.specs.Worklist.{wakeRoots, calls, wakeWhen, wakeStates, callerWhen, wakeCallers}
 use Rattle.base.proofs.SetFlags.{set-bits, zeros}
 
 -- number i is pending no more
@@ -58,20 +61,35 @@ module _ {P : Worklist → Type 0} (k : Kept P) where
   when-kept true j s h = k .by-mark j s h
   when-kept false j s h = h
 
-  action-kept : (c x : ℕ) (p : Program) (f m r q a : ℕ) (s : Worklist) → P s → P (onAction c x p f m r q a s)
-  unfolding onAction
-  action-kept zero x p f m r q a s h = h
-  action-kept (suc c) x p f m r q a s h = action-kept c (suc x) p f m r q a _ (when-kept (moves (p .automaton) q (Action a) x) (number f m r x) s h)
+  event-kept : (c x : ℕ) (p : Program) (f m r q : ℕ) (e : Event) (s : Worklist) → P s → P (onEvent c x p f m r q e s)
+  unfolding onEvent
+  event-kept zero x p f m r q e s h = h
+  event-kept (suc c) x p f m r q e s h = event-kept c (suc x) p f m r q e _ (when-kept (moves (p .automaton) q e x) (number f m r x) s h)
 
-  returns-kept : (c x f m r q g : ℕ) (s : Worklist) → P s → P (onReturns c x f m r q g s)
+  pub event-when-kept : (b : Bool) (p : Program) (f m r q : ℕ) (e : Event) (s : Worklist) → P s → P (eventWhen b p f m r q e s)
+  unfolding eventWhen
+  event-when-kept true p f m r q e s h = event-kept 8 0 p f m r q e s h
+  event-when-kept false p f m r q e s h = h
+
+  returns-kept : (c x : ℕ) (p : Program) (f m r g y : ℕ) (s : Worklist) → P s → P (onReturns c x p f m r g y s)
   unfolding onReturns
-  returns-kept zero x f m r q g s h = h
-  returns-kept (suc c) x f m r q g s h = returns-kept c (suc x) f m r q g _ (when-kept (isKnown s g q x) (number f m r x) s h)
+  returns-kept zero x p f m r g y s h = h
+  returns-kept (suc c) x p f m r g y s h = returns-kept c (suc x) p f m r g y _ (event-when-kept (isKnown s g y x) p f m r x (Return g) s h)
+
+  pub root-when-kept : (b : Bool) (p : Program) (f m r g y : ℕ) (s : Worklist) → P s → P (rootWhen b p f m r g y s)
+  unfolding rootWhen
+  root-when-kept true p f m r g y s h = returns-kept 8 0 p f m r g y _ (k .by-mark (number g 0 y y) s h)
+  root-when-kept false p f m r g y s h = h
+
+  call-kept : (c y : ℕ) (p : Program) (f m r q g : ℕ) (s : Worklist) → P s → P (onCall c y p f m r q g s)
+  unfolding onCall
+  call-kept zero y p f m r q g s h = h
+  call-kept (suc c) y p f m r q g s h = call-kept c (suc y) p f m r q g _ (root-when-kept (moves (p .automaton) q (Call g) y) p f m r g y s h)
 
   label-kept : (p : Program) (f m r q : ℕ) (l : Event) (s : Worklist) → P s → P (onLabel p f m r q l s)
   unfolding onLabel
-  label-kept p f m r q (Action a) s h = action-kept 8 0 p f m r q a s h
-  label-kept p f m r q (Call g) s h = returns-kept 8 0 f m r q g _ (k .by-mark (number g 0 q q) s h)
+  label-kept p f m r q (Action a) s h = event-kept 8 0 p f m r q (Action a) s h
+  label-kept p f m r q (Call g) s h = call-kept 8 0 p f m r q g s h
   label-kept p f m r q (Return g) s h = h
 
   pub label-when-kept : (b : Bool) (p : Program) (f m r q : ℕ) (l : Event) (s : Worklist) → P s → P (labelWhen b p f m r q l s)
@@ -90,19 +108,29 @@ module _ {P : Worklist → Type 0} (k : Kept P) where
   roots-kept zero x g n q s h = h
   roots-kept (suc c) x g n q s h = roots-kept c (suc x) g n q _ (k .by-wake (number g n x q) s h)
 
-  pub wake-when-kept : (b : Bool) (g n r : ℕ) (s : Worklist) → P s → P (wakeWhen b g n r s)
+  pub wake-when-kept : (b : Bool) (g n q : ℕ) (s : Worklist) → P s → P (wakeWhen b g n q s)
   unfolding wakeWhen
-  wake-when-kept true g n r s h = roots-kept 8 0 g n r s h
-  wake-when-kept false g n r s h = h
+  wake-when-kept true g n q s h = roots-kept 8 0 g n q s h
+  wake-when-kept false g n q s h = h
 
-  callers-kept : (es : List Step) (f r : ℕ) (s : Worklist) → P s → P (wakeCallers es f r s)
+  states-kept : (c x : ℕ) (p : Program) (f r g n : ℕ) (s : Worklist) → P s → P (wakeStates c x p f r g n s)
+  unfolding wakeStates
+  states-kept zero x p f r g n s h = h
+  states-kept (suc c) x p f r g n s h = states-kept c (suc x) p f r g n _ (wake-when-kept (moves (p .automaton) x (Call f) r) g n x s h)
+
+  pub caller-when-kept : (b : Bool) (p : Program) (f r g n : ℕ) (s : Worklist) → P s → P (callerWhen b p f r g n s)
+  unfolding callerWhen
+  caller-when-kept true p f r g n s h = states-kept 8 0 p f r g n s h
+  caller-when-kept false p f r g n s h = h
+
+  callers-kept : (p : Program) (es : List Step) (f r : ℕ) (s : Worklist) → P s → P (wakeCallers p es f r s)
   unfolding wakeCallers
-  callers-kept [] f r s h = h
-  callers-kept (e ∷ es) f r s h = callers-kept es f r _ (wake-when-kept (calls f (e .label)) (e .routine) (e .source) r s h)
+  callers-kept p [] f r s h = h
+  callers-kept p (e ∷ es) f r s h = callers-kept p es f r _ (caller-when-kept (calls f (e .label)) p f r (e .routine) (e .source) s h)
 
   from-kept : (b : Bool) (p : Program) (f n r q : ℕ) (s : Worklist) → P s → P (takeFrom b p f n r q s)
   unfolding takeFrom
-  from-kept true p f n r q s h = callers-kept (stepsOf p) f r _ (k .by-learn f r q s h)
+  from-kept true p f n r q s h = callers-kept p (stepsOf p) f r _ (k .by-learn f r q s h)
   from-kept false p f n r q s h = steps-kept p (stepsOf p) f n r q s h
 
   pub take-kept : (p : Program) (i : ℕ) (s : Worklist) → P (taking i s) → P (takeAt p i s)
@@ -198,7 +226,7 @@ work-shape k p o s e z = work-kept p (λ i t h. take-shape p i t) k o s e z
 
 pub analysis-shape : (p : Program) → Shape (analysis p)
 unfolding analysis
-analysis-shape p = work-shape 2113536 p _ (opened (p .automaton .initial) blank) refl (opened-shape (p .automaton .initial))
+analysis-shape p = work-shape enoughIterations p _ (opened (p .automaton .initial) blank) refl (opened-shape (p .automaton .initial))
 
 pub marks-length : (p : Program) → length (analysis p .marks) ≡ 16384
 marks-length p = analysis-shape p .marks-length

@@ -1,23 +1,26 @@
 -- What a new summary wakes.
-use mathlib.Core.Path.{_≡_, refl, sym, ap, _∙_}
+use mathlib.Core.Path.{_≡_, refl, sym, ap, subst, _∙_}
 use mathlib.Core.Logic.{_⊎_, inl, inr}
 use mathlib.Core.Bool.{Bool, true, false}
 use mathlib.Core.List.{List, [], _∷_, List·Memᴰ, List·Memᴰ·head, List·Memᴰ·tail}
 use Prim.Native.Nat.{ℕ, zero, suc, _+_, _≤_, _<_}
 use native.Mathlib.Omega.{arith}
 use borrow.Author.Tests.{eqb-true, eq-eqb}
+use Rattle.automaton.specs.Automaton.{moves}
 use Rattle.automaton.specs.declared.Event.{Event}
 use Rattle.automaton.specs.declared.Event.the-variants.{Action, Call, Return}
 use Rattle.program.specs.Program.{Program}
-use Rattle.reach.specs.Configurations.{InRange, number}
-use Rattle.reach.specs.Runs.{Step, stepsOf, HasStep}
-use Rattle.reach.specs.Worklist.{Worklist, Shape, wake, wakeRoots, calls, wakeWhen, wakeCallers}
-use Rattle.reach.proofs.Numbers.{number-fits}
+use Rattle.reach.specs.Configurations.{number, nodeOf}
+use Rattle.reach.specs.Runs.{Step, stepsOf, HasStep, Moves}
+use Rattle.reach.specs.Worklist.{Worklist, Shape, wake, wakeRoots, calls, wakeWhen, wakeStates, callerWhen, wakeCallers}
+use Rattle.reach.proofs.Numbers.{node-of, number-fits}
 use Rattle.reach.proofs.ProgramInSizes.{Sizes}
 use Rattle.base.specs.Flags.{On}
 use Rattle.base.proofs.SetFlags.{eqb-on, eqb-off, set-on, on-set, set-inv}
-use Rattle.reach.proofs.ShapeKept.{wake-by, wake-when-kept, shape-kept}
-use Rattle.reach.proofs.EdgesMark.{Within, within-none, within-split, within-here, within-there, step}
+use Rattle.reach.proofs.ShapeKept.{wake-by, wake-when-kept, caller-when-kept, shape-kept}
+use Rattle.reach.proofs.EdgesMark.{When, when-false, Within, within-none, within-split, within-here, within-there, step}
+
+-- ---- marked numbers become pending
 
 -- t is s with those of the numbers A that are marked pending
 pub record Wakes (A : ℕ → Type 0) (s t : Worklist) : Type 0 where
@@ -57,86 +60,122 @@ wake-one i s h z =
       waits = λ {j} x. elim (set-inv (s .pending) i j x) [ inl y ↦ inr (y, rw y (eqb-on (s .marks) i e)) | inr y ↦ inl y ];
     })
 
--- j is the number of a configuration at node n of g in state q
-abbrev pub Roots : ℕ → ℕ → ℕ → ℕ → ℕ → ℕ → Type 0
-Roots lo k g n q = Within lo k (λ x. Unit {0}) (λ x. number g n x q)
+wakes-if : {A : ℕ → Type 0} {s t : Worklist} → Wakes A s t → Wakes (When true A) s t
+wakes-if a =
+    record {
+      marks = a .marks;
+      known = a .known;
+      wait = a .wait;
+      woken = λ x h. a .woken (x .1) h;
+      waits = λ h. elim (a .waits h) [ inl x ↦ inl x | inr x ↦ inr ((refl, x .0), x .1) ];
+    }
 
-wake-roots : (k x g n q : ℕ) (s : Worklist) → g < 16 → n < 16 → q < 8 → x + k ≤ 8 → Shape s → Wakes (Roots x k g n q) s (wakeRoots k x g n q s)
+wakes-unless : {A : ℕ → Type 0} (s : Worklist) → Wakes (When false A) s s
+wakes-unless {A} s = wakes-none (when-false A) s
+
+wakes-turn : {A : ℕ → ℕ → Type 0} {x k : ℕ} {s t u : Worklist} → Wakes (A x) s t → Wakes (Within (suc x) k A) t u → Wakes (Within x (suc k) A) s u
+wakes-turn a b = wakes-join (λ j. within-split) (λ j. within-here) (λ j. within-there) a b
+
+-- ---- a node
+
+-- j is the number of the configuration at node n of g in state q with root x
+abbrev pub InState : ℕ → ℕ → ℕ → ℕ → ℕ → Type 0
+InState g n q x j = j ≡ number g n x q
+
+wake-roots : (k x g n q : ℕ) (s : Worklist) → g < 16 → n < 16 → q < 8 → x + k ≤ 8 → Shape s
+    → Wakes (Within x k (InState g n q)) s (wakeRoots k x g n q s)
 unfolding wakeRoots
 wake-roots zero x g n q s hg hn hq h z = wakes-none (λ j. within-none x) s
 wake-roots (suc k) x g n q s hg hn hq h z =
     let i = number g n x q in
-    wakes-join (λ j c. elim (within-split c) [ inl y ↦ inl (y .1) | inr y ↦ inr y ]) (λ j c. within-here tt c) (λ j. within-there)
-    (wake-one i s (number-fits (record { routine = hg; node = hn; root = omega arith; state = hq })) z)
+    wakes-turn (wake-one i s (number-fits (record { routine = hg; node = hn; root = omega arith; state = hq })) z)
     (wake-roots k (suc x) g n q (wake i s) hg hn hq (omega arith) (shape-kept .by-wake i s z))
 
-wake-when : (b : Bool) (g n r : ℕ) (s : Worklist) → g < 16 → n < 16 → r < 8 → Shape s → Wakes (λ j. (b ≡ true) × Roots 0 8 g n r j) s (wakeWhen b g n r s)
+wake-when : (b : Bool) (g n q : ℕ) (s : Worklist) → g < 16 → n < 16 → q < 8 → Shape s
+    → Wakes (When b (Within 0 8 (InState g n q))) s (wakeWhen b g n q s)
 unfolding wakeWhen
-wake-when true g n r s hg hn hr z =
-    wakes-join (λ j c. inr (c .1)) (λ j c. absurd c) (λ j c. (refl, c)) (wakes-none {A = λ j. ⊥} (λ j c. c) s) (wake-roots 8 0 g n r s hg hn hr (omega arith) z)
-wake-when false g n r s hg hn hr z = wakes-none (λ j c. let w : _≡_ {A = ℕ} 0 1 = cc (c .0) in omega arith) s
+wake-when true g n q s hg hn hq z = wakes-if (wake-roots 8 0 g n q s hg hn hq (omega arith) z)
+wake-when false g n q s hg hn hq z = wakes-unless s
 
-pub it-calls : (f : ℕ) (l : Event) → calls f l ≡ true → l ≡ Call f
+-- a call of f leads from q to root r, and j is the number of a configuration at node n of g in state q
+abbrev pub Gives : Program → ℕ → ℕ → ℕ → ℕ → ℕ → ℕ → Type 0
+Gives p f r g n q j = Moves p q (Call f) r × Within 0 8 (InState g n q) j
+
+wake-states : (k x : ℕ) (p : Program) (f r g n : ℕ) (s : Worklist) → g < 16 → n < 16 → x + k ≤ 8 → Shape s
+    → Wakes (Within x k (Gives p f r g n)) s (wakeStates k x p f r g n s)
+unfolding wakeStates
+wake-states zero x p f r g n s hg hn h z = wakes-none (λ j. within-none x) s
+wake-states (suc k) x p f r g n s hg hn h z =
+    let t = moves (p .automaton) x (Call f) r in
+    wakes-turn (wake-when t g n x s hg hn (omega arith) z)
+    (wake-states k (suc x) p f r g n (wakeWhen t g n x s) hg hn (omega arith) (wake-when-kept shape-kept t g n x s z))
+
+caller-when : (b : Bool) (p : Program) (f r g n : ℕ) (s : Worklist) → g < 16 → n < 16 → Shape s
+    → Wakes (When b (Within 0 8 (Gives p f r g n))) s (callerWhen b p f r g n s)
+unfolding callerWhen
+caller-when true p f r g n s hg hn z = wakes-if (wake-states 8 0 p f r g n s hg hn (omega arith) z)
+caller-when false p f r g n s hg hn z = wakes-unless s
+
+-- ---- all the steps
+
+it-calls : (f : ℕ) (l : Event) → calls f l ≡ true → l ≡ Call f
 unfolding calls
 it-calls f (Action a) t = absurd (let w : _≡_ {A = ℕ} 0 1 = cc in omega arith)
 it-calls f (Call g) t = ap Call (eqb-true g f t)
 it-calls f (Return g) t = absurd (let w : _≡_ {A = ℕ} 0 1 = cc in omega arith)
 
-pub calls-it : (f : ℕ) (l : Event) → l ≡ Call f → calls f l ≡ true
+calls-it : (f : ℕ) (l : Event) → l ≡ Call f → calls f l ≡ true
 unfolding calls
 calls-it f l e = rw e (eq-eqb f f refl)
 
--- j is the number of a configuration in state r from which a step calls f
-pub record Caller (es : List Step) (f r j : ℕ) : Type 0 where
+-- j is the number of a configuration from which a step calls f and can give root r
+pub record Caller (p : Program) (es : List Step) (f r j : ℕ) : Type 0 where
   pub routine : ℕ
   pub node : ℕ
   pub target : ℕ
-  pub root : ℕ
-  pub small : root < 8
   pub member : List·Memᴰ (step routine node (Call f) target) es
-  pub is : j ≡ number routine node root r
+  pub gives : Within 0 8 (Gives p f r routine node) j
 
-pub caller-in-range : {p : Program} {f r j : ℕ} → Sizes p → r < 8 → (c : Caller (stepsOf p) f r j) → InRange (c .routine) (c .node) (c .root) r
-caller-in-range z h c = record { routine = z .routine (c .member); node = z .source (c .member); root = c .small; state = h }
+pub caller-node : {p : Program} {f r j : ℕ} → Sizes p → (c : Caller p (stepsOf p) f r j) → nodeOf j ≡ c .node
+caller-node z c =
+    let q = c .gives in
+    let x = q .holds .1 in
+    let hq = q .high in
+    let hx = x .high in
+    ap nodeOf (x .holds) ∙ node-of (record { routine = z .routine (c .member); node = z .source (c .member); root = omega arith; state = omega arith })
 
-pub wake-callers : (p : Program) (es : List Step) (f r : ℕ) (s : Worklist) → Sizes p → ((e : Step) → List·Memᴰ e es → List·Memᴰ e (stepsOf p)) → r < 8
-    → Shape s → Wakes (Caller es f r) s (wakeCallers es f r s)
+pub wake-callers : (p : Program) (es : List Step) (f r : ℕ) (s : Worklist) → Sizes p → ((e : Step) → List·Memᴰ e es → List·Memᴰ e (stepsOf p))
+    → Shape s → Wakes (Caller p es f r) s (wakeCallers p es f r s)
 unfolding wakeCallers
-wake-callers p [] f r s i sub hr z = wakes-none (λ j c. elim (c .member) [ ]) s
-wake-callers p (e ∷ es) f r s i sub hr z =
+wake-callers p [] f r s i sub z = wakes-none (λ j c. elim (c .member) [ ]) s
+wake-callers p (e ∷ es) f r s i sub z =
     let x : HasStep p (e .routine) (e .source) (e .label) (e .target) = sub e (List·Memᴰ·head refl) in
     let t = calls f (e .label) in
-    wakes-join split here there (wake-when t (e .routine) (e .source) r s (i .routine x) (i .source x) hr z)
-    (wake-callers p es f r (wakeWhen t (e .routine) (e .source) r s) i (λ x y. sub x (List·Memᴰ·tail y)) hr
-    (wake-when-kept shape-kept t (e .routine) (e .source) r s z))
+    wakes-join split here there (caller-when t p f r (e .routine) (e .source) s (i .routine x) (i .source x) z)
+    (wake-callers p es f r (callerWhen t p f r (e .routine) (e .source) s) i (λ x y. sub x (List·Memᴰ·tail y))
+    (caller-when-kept shape-kept t p f r (e .routine) (e .source) s z))
   where
-    here : (j : ℕ) → (calls f (e .label) ≡ true) × Roots 0 8 (e .routine) (e .source) r j → Caller (e ∷ es) f r j
+    here : (j : ℕ) → When (calls f (e .label)) (Within 0 8 (Gives p f r (e .routine) (e .source))) j → Caller p (e ∷ es) f r j
     here j c =
-        let u = c .1 .high in
         let l = it-calls f (e .label) (c .0) in
         record {
           routine = e .routine;
           node = e .source;
           target = e .target;
-          root = c .1 .at;
-          small = omega arith;
           member = List·Memᴰ·head (λ i. step (e .routine) (e .source) (sym l i) (e .target));
-          is = c .1 .is;
+          gives = c .1;
         }
 
-    there : (j : ℕ) → Caller es f r j → Caller (e ∷ es) f r j
-    there j c =
-        record { routine = c .routine; node = c .node; target = c .target; root = c .root; small = c .small; member = List·Memᴰ·tail (c .member); is = c .is }
+    there : (j : ℕ) → Caller p es f r j → Caller p (e ∷ es) f r j
+    there j c = record { routine = c .routine; node = c .node; target = c .target; member = List·Memᴰ·tail (c .member); gives = c .gives }
 
-    split : (j : ℕ) → Caller (e ∷ es) f r j → ((calls f (e .label) ≡ true) × Roots 0 8 (e .routine) (e .source) r j) ⊎ Caller es f r j
+    split : (j : ℕ) → Caller p (e ∷ es) f r j
+        → When (calls f (e .label)) (Within 0 8 (Gives p f r (e .routine) (e .source))) j ⊎ Caller p es f r j
     split j c = go (c .member)
       where
         go : List·Memᴰ (step (c .routine) (c .node) (Call f) (c .target)) (e ∷ es)
-            → ((calls f (e .label) ≡ true) × Roots 0 8 (e .routine) (e .source) r j) ⊎ Caller es f r j
+            → When (calls f (e .label)) (Within 0 8 (Gives p f r (e .routine) (e .source))) j ⊎ Caller p es f r j
         go (List·Memᴰ·head y) =
-            let small = c .small in
-            let same = ap (λ (x : Step). number (x .routine) (x .source) (c .root) r) y in
             let it = calls-it f (e .label) (sym (ap (λ (x : Step). x .label) y)) in
-            inl (it, record { at = c .root; low = omega arith; high = omega arith; passes = tt; is = c .is ∙ same })
-        go (List·Memᴰ·tail y) =
-            inr (record { routine = c .routine; node = c .node; target = c .target; root = c .root; small = c .small; member = y; is = c .is })
+            inl (it, subst (λ (x : Step). Within 0 8 (Gives p f r (x .routine) (x .source)) j) y (c .gives))
+        go (List·Memᴰ·tail y) = inr (record { routine = c .routine; node = c .node; target = c .target; member = y; gives = c .gives })

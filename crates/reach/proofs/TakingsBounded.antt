@@ -1,6 +1,6 @@
--- No configuration is taken more than 129 times, so 129 times 16384 iterations are enough: once newly marked, and once for each summary
--- that wakes it, 8 for each of 16 routines.
-use mathlib.Core.Path.{_≡_, refl, sym, ap, _∙_}
+-- No configuration is taken more than 1,025 times, so 1,025 times 16,384 iterations are enough: once newly marked, and once for each
+-- summary that becomes known, 1,024 of them.
+use mathlib.Core.Path.{_≡_, refl, sym, ap}
 use mathlib.Core.Logic.{_⊎_, inl, inr, _≢_}
 use mathlib.Core.Option.{Option, none, some}
 use mathlib.Core.List.{List, [], _∷_, List·Memᴰ, List·Memᴰ·head, List·Memᴰ·tail}
@@ -11,22 +11,22 @@ use lib.ListN.{length, set}
 use borrow.Author.Tests.{eq-eqb, ne-eqb}
 use Rattle.program.specs.Program.{Program}
 use Rattle.program.specs.WellFormed.{WellFormed}
+use Rattle.reach.specs.Sizes.{enoughIterations}
 use Rattle.reach.specs.Configurations.{Set, number, routineOf, nodeOf, rootOf, stateOf}
-use Rattle.reach.specs.Runs.{stepsOf}
 use Rattle.reach.specs.Reachable.{Initial}
 use Rattle.reach.specs.Worklist.{Worklist, lowest, summary, learn, takeAt, work, opened, blank, analysis}
 use Rattle.reach.specs.Takings.{taken, takenIn, times}
-use Rattle.reach.proofs.Numbers.{number-of, routine-of, node-of, state-of, root-small, state-small, routine-small, summary-fits}
+use Rattle.reach.proofs.Numbers.{number-of, root-small, state-small, routine-small, summary-fits}
 use Rattle.reach.proofs.ProgramInSizes.{Sizes, sizes, Proper, initial-proper}
 use Rattle.base.specs.Flags.{On}
 use Rattle.base.proofs.SetFlags.{dec-on, on-lt, set-on, on-set, clear-off, clear-inv}
 use Rattle.reach.proofs.LowestPending.{lowest-on}
 use Rattle.reach.proofs.ShapeKept.{take-iterations, opened-iterations, work-iterations}
-use Rattle.reach.proofs.SummariesWake.{Caller, caller-in-range}
 use Rattle.reach.proofs.OneTaking.{Marking, Waking, take-elsewhere, take-exit}
 use Rattle.reach.proofs.WorklistInvariant.{Follows, take-follows, opened-follows}
 use Rattle.reach.proofs.ExitsSettled.{Settled, take-settled, opened-settled}
-use Rattle.reach.proofs.SummariesCounted.{sumTo, sum-most, sum-more, flag, flag-on, flag-off, flag-bit, flag-mono, woken, woken-most, woken-mono, woken-more}
+use Rattle.reach.proofs.SummariesCounted.{sumTo, sum-most, sum-more, flag, flag-on, flag-off, flag-bit, flag-mono}
+use Rattle.reach.proofs.SummariesCounted.{knownCount, known-most, known-mono, known-more}
 
 -- ---- how often a number is taken
 
@@ -44,11 +44,14 @@ times-mono j i is = omega arith
 
 -- ---- the bound, while the loop runs
 
--- tr has what was taken so far
+-- tr has what was taken so far: j was taken or is pending at most once because it was newly marked, and once for each known summary
+abbrev pub Bound : List ℕ → Worklist → ℕ → Type 0
+Bound tr s j = times j tr + flag (s .pending) j ≤ flag (s .marks) j + knownCount (s .known)
+
 pub record Bounded (p : Program) (S : Set) (tr : List ℕ) (s : Worklist) : Type 0 where
   pub follows : Follows p S s
   pub settled : Settled s
-  pub bound : (j : ℕ) → times j tr + flag (s .pending) j ≤ flag (s .marks) j + woken p (s .known) j
+  pub bound : (j : ℕ) → Bound tr s j
   pub below : (j : ℕ) → List·Memᴰ j tr → j < 16384
 
 module _ (p : Program) (S : Set) (z : Sizes p) (h : Proper p S) (i : ℕ) (tr : List ℕ) (s : Worklist) (v : Bounded p S tr s) (hi : On (s .pending) i) where
@@ -61,39 +64,40 @@ module _ (p : Program) (S : Set) (z : Sizes p) (h : Proper p S) (i : ℕ) (tr : 
 
   -- what is pending was so before, or is newly marked, or is woken by one summary more
   abbrev Grows : Worklist → ℕ → Type 0
-  Grows t j = On (set (s .pending) i 0) j ⊎ (flag (s .marks) j + woken p (s .known) j + 1 ≤ flag (t .marks) j + woken p (t .known) j)
+  Grows t j = On (set (s .pending) i 0) j ⊎ (flag (s .marks) j + knownCount (s .known) + 1 ≤ flag (t .marks) j + knownCount (t .known))
 
-  grown : (t : Worklist) → ((j : ℕ) → flag (s .marks) j ≤ flag (t .marks) j) → ((j : ℕ) → woken p (s .known) j ≤ woken p (t .known) j)
-      → ((j : ℕ) → On (t .pending) j → Grows t j) → (j : ℕ) → times j (i ∷ tr) + flag (t .pending) j ≤ flag (t .marks) j + woken p (t .known) j
+  grown : (t : Worklist) → ((j : ℕ) → flag (s .marks) j ≤ flag (t .marks) j) → knownCount (s .known) ≤ knownCount (t .known)
+      → ((j : ℕ) → On (t .pending) j → Grows t j) → (j : ℕ) → Bound (i ∷ tr) t j
   grown t marks known grows j =
       elim (dec-on (t .pending) j) [
-        | no w ↦ omega (arith, flag-off (t .pending) j w, times-one j, marks j, known j, v .bound j)
+        | no w ↦ omega (arith, flag-off (t .pending) j w, times-one j, marks j, known, v .bound j)
         | yes w ↦
             elim (grows j w) [
               | inl x ↦
                   let ne : j ≢ i = λ e. clear-off (s .pending) i (rw e at x) in
-                  omega (arith, times-other j i tr ne, flag-bit (t .pending) j, flag-on (s .pending) j (clear-inv (s .pending) i j x), marks j, known j, v .bound j)
+                  let o = clear-inv (s .pending) i j x in
+                  omega (arith, times-other j i tr ne, flag-bit (t .pending) j, flag-on (s .pending) j o, marks j, known, v .bound j)
               | inr x ↦ omega (arith, times-one j, flag-bit (t .pending) j, v .bound j)
             ]
       ]
 
-  elsewhere : (t : Worklist) → Marking p i s t → (j : ℕ) → times j (i ∷ tr) + flag (t .pending) j ≤ flag (t .marks) j + woken p (t .known) j
+  elsewhere : (t : Worklist) → Marking p i s t → (j : ℕ) → Bound (i ∷ tr) t j
   elsewhere t k =
-      grown t (λ j. flag-mono (s .marks) (t .marks) j (λ o. k .keep o)) (λ j. omega (arith, same j))
+      grown t (λ j. flag-mono (s .marks) (t .marks) j (λ o. k .keep o)) (omega (arith, same))
       (λ j w.
       elim (k .waits w) [
         | inl x ↦ inl x
-        | inr x ↦ inr (omega (arith, same j, flag-on (t .marks) j (x .0), flag-off (s .marks) j (x .1)))
+        | inr x ↦ inr (omega (arith, same, flag-on (t .marks) j (x .0), flag-off (s .marks) j (x .1)))
       ])
     where
-      same : (j : ℕ) → woken p (t .known) j ≡ woken p (s .known) j
-      same j = ap (λ (l : List ℕ). woken p l j) (k .known)
+      same : knownCount (t .known) ≡ knownCount (s .known)
+      same = ap knownCount (k .known)
 
-  at-exit : nodeOf i ≡ 1 → (t : Worklist) → Waking p i s t → (j : ℕ) → times j (i ∷ tr) + flag (t .pending) j ≤ flag (t .marks) j + woken p (t .known) j
+  at-exit : nodeOf i ≡ 1 → (t : Worklist) → Waking p i s t → (j : ℕ) → Bound (i ∷ tr) t j
   unfolding learn
   at-exit is-exit t k =
-      grown t (λ j. omega (arith, ap (λ (l : List ℕ). flag l j) (k .marks))) (λ j. woken-mono p (s .known) (t .known) mono j)
-      (λ j w. elim (k .waits w) [ inl x ↦ inl x | inr x ↦ inr (omega (arith, ap (λ (l : List ℕ). flag l j) (k .marks), woke j (x .0))) ])
+      grown t (λ j. omega (arith, ap (λ (l : List ℕ). flag l j) (k .marks))) (known-mono (s .known) (t .known) mono)
+      (λ j w. elim (k .waits w) [ inl x ↦ inl x | inr x ↦ inr (omega (arith, ap (λ (l : List ℕ). flag l j) (k .marks), more)) ])
     where
       here : ℕ
       here = summary (routineOf i) (rootOf i) (stateOf i)
@@ -110,19 +114,11 @@ module _ (p : Program) (S : Set) (z : Sizes p) (h : Proper p S) (i : ℕ) (tr : 
           let e : number (routineOf i) 1 (rootOf i) (stateOf i) ≡ i = rw (← is-exit) (number-of i) in
           v .settled .not-pending (routineOf i) (rootOf i) (stateOf i) small (root-small i) (state-small i) o (rw e hi)
 
-      known-here : On (t .known) here
-      known-here =
+      more : knownCount (s .known) + 1 ≤ knownCount (t .known)
+      more =
           let low = summary-fits (routineOf i) (rootOf i) (stateOf i) small (root-small i) (state-small i) in
-          rw (k .known) (set-on (s .known) here (omega (arith, v .follows .shape .known-length)))
-
-      woke : (j : ℕ) → Caller (stepsOf p) (routineOf i) (rootOf i) j → woken p (s .known) j + 1 ≤ woken p (t .known) j
-      woke j c =
-          let r = caller-in-range z (root-small i) c in
-          let f : routineOf j ≡ c .routine = ap routineOf (c .is) ∙ routine-of r in
-          let n : nodeOf j ≡ c .node = ap nodeOf (c .is) ∙ node-of r in
-          let q : stateOf j ≡ rootOf i = ap stateOf (c .is) ∙ state-of r in
-          woken-more p (s .known) (t .known) mono j (routineOf i) (c .target) (stateOf i) small (state-small i) (rw (f, n) (c .member))
-          (λ o. not-yet (rw q at o)) (rw q known-here)
+          known-more (s .known) (t .known) mono here low not-yet
+          (rw (k .known) (set-on (s .known) here (omega (arith, v .follows .shape .known-length))))
 
   more-below : (j : ℕ) → List·Memᴰ j (i ∷ tr) → j < 16384
   more-below j (List·Memᴰ·head e) = rw e (omega (arith, v .follows .shape .pending-length, on-lt (s .pending) i hi))
@@ -142,8 +138,8 @@ module _ (p : Program) (S : Set) (z : Sizes p) (h : Proper p S) (i : ℕ) (tr : 
 
 -- ---- the bounds
 
-at-most-129 : {p : Program} {S : Set} {tr : List ℕ} {s : Worklist} → Bounded p S tr s → (j : ℕ) → times j tr ≤ 129
-at-most-129 {p} {S} {tr} {s} v j = omega (arith, v .bound j, flag-bit (s .marks) j, woken-most p (s .known) j)
+few-times : {p : Program} {S : Set} {tr : List ℕ} {s : Worklist} → Bounded p S tr s → (j : ℕ) → times j tr ≤ 1025
+few-times {p} {S} {tr} {s} v j = omega (arith, v .bound j, flag-bit (s .marks) j, known-most (s .known))
 
 length-times : (n : ℕ) (tr : List ℕ) → ((j : ℕ) → List·Memᴰ j tr → j < n) → length tr ≤ sumTo n (λ j. times j tr)
 length-times n [] h = omega arith
@@ -154,8 +150,8 @@ length-times n (i ∷ tr) h =
       sum-more n (λ j. times j tr) (λ j. times j (i ∷ tr)) i (λ j. times-mono j i tr) (h i (List·Memᴰ·head refl)) (omega (arith, times-same i tr)),
     )
 
-few-taken : {p : Program} {S : Set} {tr : List ℕ} {s : Worklist} → Bounded p S tr s → length tr ≤ 2113536
-few-taken {tr = tr} v = omega (arith, length-times 16384 tr (v .below), sum-most 16384 129 (λ j. times j tr) (at-most-129 v))
+few-taken : {p : Program} {S : Set} {tr : List ℕ} {s : Worklist} → Bounded p S tr s → length tr ≤ enoughIterations
+few-taken {tr = tr} v = omega (arith, length-times 16384 tr (v .below), sum-most 16384 1025 (λ j. times j tr) (few-times v))
 
 -- nothing was taken yet
 none-taken : (p : Program) (S : Set) (s : Worklist) → Follows p S s → Settled s → Bounded p S [] s
@@ -169,8 +165,8 @@ none-taken p S s v w =
     }
 
 module _ (p : Program) (S : Set) (z : Sizes p) (h : Proper p S) where
-  ends : (k : ℕ) (o : Option ℕ) (s : Worklist) (tr : List ℕ) → lowest (s .pending) 0 ≡ o → Bounded p S tr s → 2113536 ≤ length tr + k
-      → lowest (work k p o s .pending) 0 ≡ none
+  ends : (k : ℕ) (o : Option ℕ) (s : Worklist) (tr : List ℕ) → lowest (s .pending) 0 ≡ o → Bounded p S tr s
+      → enoughIterations ≤ length tr + k → lowest (work k p o s .pending) 0 ≡ none
   unfolding work
   ends zero none s tr e v l = e
   ends zero (some i) s tr e v l = absurd (omega (arith, few-taken (take-bounded p S z h i tr s v (lowest-on (s .pending) i e))))
@@ -179,19 +175,19 @@ module _ (p : Program) (S : Set) (z : Sizes p) (h : Proper p S) where
       ends k (lowest (takeAt p i s .pending) 0) (takeAt p i s) (i ∷ tr) refl (take-bounded p S z h i tr s v (lowest-on (s .pending) i e)) (omega arith)
 
   often : (k : ℕ) (o : Option ℕ) (s : Worklist) (tr : List ℕ) → lowest (s .pending) 0 ≡ o → Bounded p S tr s
-      → (j : ℕ) → times j (taken k p o s) + times j tr ≤ 129
+      → (j : ℕ) → times j (taken k p o s) + times j tr ≤ 1025
   unfolding taken times
-  often zero o s tr e v j = omega (arith, at-most-129 v j)
-  often (suc k) none s tr e v j = omega (arith, at-most-129 v j)
+  often zero o s tr e v j = omega (arith, few-times v j)
+  often (suc k) none s tr e v j = omega (arith, few-times v j)
   often (suc k) (some i) s tr e v j =
       omega (arith, often k (lowest (takeAt p i s .pending) 0) (takeAt p i s) (i ∷ tr) refl (take-bounded p S z h i tr s v (lowest-on (s .pending) i e)) j)
 
   -- from any settled worklist that follows from seeds: so many iterations are enough, and no number is taken more often
   module _ (s : Worklist) (v : Follows p S s) (w : Settled s) where
-    pub follow-ends : lowest (work 2113536 p (lowest (s .pending) 0) s .pending) 0 ≡ none
-    follow-ends = ends 2113536 (lowest (s .pending) 0) s [] refl (none-taken p S s v w) (omega arith)
+    pub follow-ends : lowest (work enoughIterations p (lowest (s .pending) 0) s .pending) 0 ≡ none
+    follow-ends = ends enoughIterations (lowest (s .pending) 0) s [] refl (none-taken p S s v w) (omega arith)
 
-    pub follow-times : (k j : ℕ) → times j (taken k p (lowest (s .pending) 0) s) ≤ 129
+    pub follow-times : (k j : ℕ) → times j (taken k p (lowest (s .pending) 0) s) ≤ 1025
     follow-times k j = omega (arith, often k (lowest (s .pending) 0) s [] refl (none-taken p S s v w) j)
 
 -- ---- the full analysis
@@ -207,20 +203,20 @@ pub iterations-taken : (p : Program) → analysis p .iterations ≡ length (take
 unfolding analysis takenIn
 iterations-taken p =
     let s = opened (p .automaton .initial) blank in
-    omega (arith, taken-count 2113536 p (lowest (s .pending) 0) s, opened-iterations (p .automaton .initial))
+    omega (arith, taken-count enoughIterations p (lowest (s .pending) 0) s, opened-iterations (p .automaton .initial))
 
 pub analysis-ends : (p : Program) → WellFormed p → lowest (analysis p .pending) 0 ≡ none
 unfolding analysis
 analysis-ends p w = let z = sizes p w in follow-ends p (Initial p) z (initial-proper p z) (opened (p .automaton .initial) blank) (opened-follows p z) (opened-settled p z)
 
-pub most-times : (p : Program) → WellFormed p → (j : ℕ) → times j (takenIn p) ≤ 129
+pub most-times : (p : Program) → WellFormed p → (j : ℕ) → times j (takenIn p) ≤ 1025
 unfolding takenIn
 most-times p w j =
     let z = sizes p w in
-    follow-times p (Initial p) z (initial-proper p z) (opened (p .automaton .initial) blank) (opened-follows p z) (opened-settled p z) 2113536 j
+    follow-times p (Initial p) z (initial-proper p z) (opened (p .automaton .initial) blank) (opened-follows p z) (opened-settled p z) enoughIterations j
 
-pub iterations-bound : (p : Program) → WellFormed p → analysis p .iterations ≤ 2113536
+pub iterations-bound : (p : Program) → WellFormed p → analysis p .iterations ≤ enoughIterations
 unfolding analysis
 iterations-bound p w =
     let s = opened (p .automaton .initial) blank in
-    omega (arith, work-iterations 2113536 p (lowest (s .pending) 0) s, opened-iterations (p .automaton .initial))
+    omega (arith, work-iterations enoughIterations p (lowest (s .pending) 0) s, opened-iterations (p .automaton .initial))

@@ -1,6 +1,6 @@
 -- The invariant of the worklist, from any seeds: what is marked is derivable, and what is marked and not pending has led to all that
 -- follows from it by the known summaries. Once nothing is pending, exactly what is derivable is marked.
-use mathlib.Core.Path.{_≡_, refl, sym, ap, subst, _∙_}
+use mathlib.Core.Path.{_≡_, refl, sym, subst}
 use mathlib.Core.Logic.{_⊎_, inl, inr, _↔_, _≢_}
 use mathlib.Core.Option.{none}
 use mathlib.Core.List.{List·Memᴰ}
@@ -14,21 +14,23 @@ use Rattle.reach.specs.Configurations.{Set, InRange, number, routineOf, 
 use Rattle.reach.specs.Runs.{HasStep, Moves}
 use Rattle.reach.specs.Reachable.{Derivable, seeded, by-action, by-call, by-return, Initial, initial, Any, Reachable}
 use Rattle.reach.specs.Worklist.{Worklist, Shape, lowest, summary, learn, takeAt, work, opened, blank}
-use Rattle.reach.proofs.Numbers.{number-of, root-small, state-small, routine-small, to-number, from-number, summary-fits, summary-apart, exit-number}
-use Rattle.reach.proofs.ProgramInSizes.{Sizes, call-stays, return-stays, may-call, may-return, Proper, initial-proper, derivable-state, derivable-in-range}
+use Rattle.reach.proofs.Numbers.{number-of, root-small, state-small, routine-small, to-number, from-number}
+use Rattle.reach.proofs.Numbers.{summary-fits, summary-apart, exit-number}
+use Rattle.reach.proofs.ProgramInSizes.{Sizes, after-small, Proper, initial-proper, derivable-in-range}
 use Rattle.base.specs.Flags.{On}
 use Rattle.base.proofs.SetFlags.{dec-on, on-lt, set-on, on-set, set-inv, clear-keep, clear-inv, none-on}
 use Rattle.reach.proofs.LowestPending.{lowest-on, lowest-none}
 use Rattle.reach.proofs.ShapeKept.{take-shape, work-kept, blank-shape, opened-shape}
-use Rattle.reach.proofs.EdgesMark.{Marks, ByLabel, by-move, by-entry, by-summary, Opening, on-opened}
+use Rattle.reach.proofs.EdgesMark.{Marks, within-at, ByRoot, by-entry, by-summary, ByLabel, Opening, on-opened}
 use Rattle.reach.proofs.OneTaking.{Marking, Waking, take-elsewhere, take-exit}
 
 -- what follows from a configuration at once, by the known summaries, is marked
 pub record Closed (p : Program) (s : Worklist) (f n r q : ℕ) : Type 0 where
   pub exit : n ≡ 1 → On (s .known) (summary f r q)
   pub acts : {a m : ℕ} (x : ℕ) → HasStep p f n (Action a) m → Moves p q (Action a) x → On (s .marks) (number f m r x)
-  pub calls : {g m : ℕ} → HasStep p f n (Call g) m → On (s .marks) (number g 0 q q)
-  pub returns : {g m : ℕ} (x : ℕ) → x < 8 → HasStep p f n (Call g) m → On (s .known) (summary g q x) → On (s .marks) (number f m r x)
+  pub calls : {g m : ℕ} (y : ℕ) → HasStep p f n (Call g) m → Moves p q (Call g) y → On (s .marks) (number g 0 y y)
+  pub returns : {g m : ℕ} (y x t : ℕ) → x < 8 → HasStep p f n (Call g) m → Moves p q (Call g) y → On (s .known) (summary g y x)
+      → Moves p x (Return g) t → On (s .marks) (number f m r t)
 
 pub record Follows (p : Program) (S : Set) (s : Worklist) : Type 0 where
   pub shape : Shape s
@@ -44,30 +46,32 @@ closed-more i e z =
     record {
       exit = λ h. rw e (z .exit h);
       acts = λ x y m. i _ (z .acts x y m);
-      calls = λ y. i _ (z .calls y);
-      returns = λ x h y o. i _ (z .returns x h y (rw e at o));
+      calls = λ x y m. i _ (z .calls x y m);
+      returns = λ y x t h w m o v. i _ (z .returns y x t h w m (rw e at o) v);
     }
 
 module _ (p : Program) (S : Set) (z : Sizes p) (h : Proper p S) where
   -- ---- what a step marks is derivable
+  at-number : {f n r q : ℕ} → Derivable p S Any f n r q → At (Derivable p S Any) (number f n r q)
+  at-number d = to-number (Derivable p S Any) (derivable-in-range z h d) d
+
+  root-sound : (s : Worklist) → Follows p S s → {f n m r q g y j : ℕ} → Derivable p S Any f n r q → HasStep p f n (Call g) m → Moves p q (Call g) y
+      → ByRoot p (s .known) f m r g y j → At (Derivable p S Any) j
+  root-sound s v d e k (by-entry c) = rw c (at-number (by-call d e k tt))
+  root-sound s v {g = g} {y = y} d e k (by-summary c) =
+      let x = c .at in
+      let hx : x < 8 = omega (arith, c .high) in
+      let o = v .sound (v .known g y x (z .called e) (after-small z _ _ _ k) hx (c .holds .0)) in
+      let d′ : Derivable p S Any g 1 y x =
+      from-number (Derivable p S Any) (record { routine = z .called e; node = omega arith; root = after-small z _ _ _ k; state = hx }) o in
+      let t = c .holds .1 .holds in
+      rw (t .1) (at-number (by-return d e k d′ (t .0) tt))
+
   label-sound : (s : Worklist) → Follows p S s → (f n m r q : ℕ) (l : Event) (j : ℕ) → Derivable p S Any f n r q → HasStep p f n l m
       → ByLabel p (s .known) f m r q l j → At (Derivable p S Any) j
-  label-sound s v f n m r q (Action a) j d e (by-move c) =
-      let x = by-action d e (c .passes) tt in
-      rw (c .is) (to-number (Derivable p S Any) (derivable-in-range z h x) x)
-  label-sound s v f n m r q (Call g) j d e (by-entry c) =
-      let x : Derivable p S Any g 0 q q = by-call d e (may-call p q g (derivable-state z h d)) tt in
-      rw c (to-number (Derivable p S Any) (derivable-in-range z h x) x)
-  label-sound s v f n m r q (Call g) j d e (by-summary c) =
-      let hx : c .at < 8 = omega (arith, c .high) in
-      let hq = derivable-in-range z h d .state in
-      let k = v .known g q (c .at) (z .called e) hq hx (c .passes) in
-      let d′ : Derivable p S Any g 1 q (c .at) =
-      from-number (Derivable p S Any) (record { routine = z .called e; node = omega arith; root = hq; state = hx }) (v .sound k) in
-      let x : Derivable p S Any f m r (c .at) =
-      by-return d e (may-call p q g (derivable-state z h d)) d′ (may-return p (c .at) g (derivable-state z h d′)) tt in
-      rw (c .is) (to-number (Derivable p S Any) (derivable-in-range z h x) x)
-  label-sound s v f n m r q (Return g) j d e c = elim c [ ]
+  label-sound s v f n m r q (Action a) j d e c = rw (c .holds .1) (at-number (by-action d e (c .holds .0) tt))
+  label-sound s v f n m r q (Call g) j d e c = root-sound s v d e (c .holds .0) (c .holds .1)
+  label-sound s v f n m r q (Return g) j d e c = absurd c
 
   -- ---- one iteration
   module _ (i : ℕ) (s : Worklist) (v : Follows p S s) (hi : On (s .pending) i) where
@@ -93,24 +97,16 @@ module _ (p : Program) (S : Set) (z : Sizes p) (h : Proper p S) where
         done =
             record {
               exit = λ e. absurd (ne e);
-              acts = λ {a} {m} x e y.
-                  let hs = z .states in
-                  let hx = z .after (stateOf i) a x y in
-                  k .all (record {
-                    label = Action a;
-                    target = m;
-                    member = e;
-                    does = by-move (record { at = x; low = omega arith; high = omega arith; passes = y; is = refl });
-                  });
-              calls = λ {g} {m} e. k .all (record { label = Call g; target = m; member = e; does = by-entry refl });
-              returns = λ {g} {m} x hx e y.
-                  k .all (record {
-                    label = Call g;
-                    target = m;
-                    member = e;
-                    does = by-summary (record { at = x; low = omega arith; high = omega arith; passes = rw (k .known) at y; is = refl });
-                  });
+              acts = λ {a} {m} x e c.
+                  k .all (record { label = Action a; target = m; member = e; does = within-at x (after-small z _ _ _ c) (c, refl) });
+              calls = λ {g} {m} y e c. rooted g m y e c (by-entry refl);
+              returns = λ {g} {m} y x t hx e c o c′.
+                  rooted g m y e c (by-summary (within-at x hx (rw (k .known) at o, within-at t (after-small z _ _ _ c′) (c′, refl))));
             }
+          where
+            rooted : (g m y : ℕ) → HasStep p (routineOf i) (nodeOf i) (Call g) m → Moves p (stateOf i) (Call g) y → {j : ℕ}
+                → ByRoot p (s .known) (routineOf i) m (rootOf i) g y j → On (t .marks) j
+            rooted g m y e c x = k .all (record { label = Call g; target = m; member = e; does = within-at y (after-small z _ _ _ c) (c, x) })
 
         old : (j : ℕ) → On (s .pending) j ⊎ At (Closed p s) j → On (t .pending) j ⊎ At (Closed p t) j
         old j (inl x) = elim (clear-keep (s .pending) i j x) [ inl e ↦ inr (subst (At (Closed p t)) (sym e) done) | inr y ↦ inl (k .wait y) ]
@@ -153,27 +149,27 @@ module _ (p : Program) (S : Set) (z : Sizes p) (h : Proper p S) where
             record {
               exit = λ e. known-here;
               acts = λ x e y. absurd (z .no-exit e is-exit);
-              calls = λ e. absurd (z .no-exit e is-exit);
-              returns = λ x hx e y. absurd (z .no-exit e is-exit);
+              calls = λ y e c. absurd (z .no-exit e is-exit);
+              returns = λ y x t hx e c o c′. absurd (z .no-exit e is-exit);
             }
 
         -- what the new summary adds to is pending
-        new-returns : (j : ℕ) → On (s .marks) j → ¬ (On (t .pending) j) → At (Closed p s) j → (g m x : ℕ) → x < 8
-            → HasStep p (routineOf j) (nodeOf j) (Call g) m → On (t .known) (summary g (stateOf j) x) → On (s .marks) (number (routineOf j) m (rootOf j) x)
-        new-returns j o not-pending c g m x hx e y =
-            elim (set-inv (s .known) here (summary g (stateOf j) x) (rw (k .known) at y)) [
+        new-returns : (j : ℕ) → On (s .marks) j → ¬ (On (t .pending) j) → At (Closed p s) j → (g m y x a : ℕ) → x < 8
+            → HasStep p (routineOf j) (nodeOf j) (Call g) m → Moves p (stateOf j) (Call g) y → On (t .known) (summary g y x) → Moves p x (Return g) a
+            → On (s .marks) (number (routineOf j) m (rootOf j) a)
+        new-returns j o not-pending c g m y x a hx e b l b′ =
+            elim (set-inv (s .known) here (summary g y x) (rw (k .known) at l)) [
               | inl w ↦
-                  let u = summary-apart g (stateOf j) x (routineOf i) (rootOf i) (stateOf i) (state-small j) hx (root-small i) (state-small i) w in
+                  let u = summary-apart g y x (routineOf i) (rootOf i) (stateOf i) (after-small z _ _ _ b) hx (root-small i) (state-small i) w in
                   absurd (not-pending (k .woken (record {
                     routine = routineOf j;
                     node = nodeOf j;
                     target = m;
-                    root = rootOf j;
-                    small = root-small j;
-                    member = subst (λ (y : ℕ). HasStep p (routineOf j) (nodeOf j) (Call y) m) (u .0) e;
-                    is = sym (number-of j) ∙ ap (number (routineOf j) (nodeOf j) (rootOf j)) (u .1);
+                    member = subst (λ (g : ℕ). HasStep p (routineOf j) (nodeOf j) (Call g) m) (u .0) e;
+                    gives = within-at (stateOf j) (state-small j)
+                        (rw (← (u .0), ← (u .1)) b, within-at (rootOf j) (root-small j) (sym (number-of j)));
                   }) o))
-              | inr w ↦ c .returns x hx e w
+              | inr w ↦ c .returns y x a hx e b w b′
             ]
 
         still : (j : ℕ) → On (s .marks) j → At (Closed p s) j → On (t .pending) j ⊎ At (Closed p t) j
@@ -183,8 +179,8 @@ module _ (p : Program) (S : Set) (z : Sizes p) (h : Proper p S) where
               | no w ↦ inr (record {
                 exit = λ e. rw (k .known) (on-set (s .known) here (summary (routineOf j) (rootOf j) (stateOf j)) (c .exit e));
                 acts = λ x e y. to-t _ (c .acts x e y);
-                calls = λ e. to-t _ (c .calls e);
-                returns = λ {g} {m} x hx e y. to-t _ (new-returns j o w c g m x hx e y);
+                calls = λ y e b. to-t _ (c .calls y e b);
+                returns = λ {g} {m} y x a hx e b l b′. to-t _ (new-returns j o w c g m y x a hx e b l b′);
               })
             ]
 
@@ -212,12 +208,10 @@ module _ (p : Program) (S : Set) (z : Sizes p) (h : Proper p S) where
     derivable-marked : {f n r q : ℕ} → Derivable p S Any f n r q → On (s .marks) (number f n r q)
     derivable-marked (seeded x w) = v .seeds x
     derivable-marked (by-action {s = x} d e m w) = closed-at (derivable-in-range z h d) (derivable-marked d) .acts x e m
-    derivable-marked (by-call {q = q} {g = g} {s = x} d e m w) =
-        rw (call-stays p q g x m) (closed-at (derivable-in-range z h d) (derivable-marked d) .calls e)
-    derivable-marked (by-return {q = q} {g = g} {s = y} {x = x} {t = t} d e m d′ m′ w) =
+    derivable-marked (by-call {s = y} d e m w) = closed-at (derivable-in-range z h d) (derivable-marked d) .calls y e m
+    derivable-marked (by-return {s = y} {x = x} {t = t} d e m d′ m′ w) =
         let i = derivable-in-range z h d′ in
-        let o : On (s .known) (summary g q x) = rw (call-stays p q g y m) at (closed-at i (derivable-marked d′) .exit refl) in
-        rw (return-stays p x g t m′) (closed-at (derivable-in-range z h d) (derivable-marked d) .returns x (i .state) e o)
+        closed-at (derivable-in-range z h d) (derivable-marked d) .returns y x t (i .state) e m (closed-at i (derivable-marked d′) .exit refl) m′
 
     -- exactly what is derivable is marked
     pub follows-exact : (f n r q : ℕ) → (InRange f n r q × On (s .marks) (number f n r q)) ↔ Derivable p S Any f n r q

@@ -2,7 +2,7 @@
 -- Edwards).
 use Prim.Native.Nat.{ℕ}
 use mathlib.Core.Path.{_≡_}
-use mathlib.Core.Bool.{Bool, true, cond}
+use mathlib.Core.Bool.{true, cond}
 use mathlib.Core.List.{List, [], _∷_, map, List·Memᴰ}
 use Rattle.automaton.specs.Automaton.{moves}
 use Rattle.automaton.specs.declared.Event.{Event}
@@ -10,8 +10,8 @@ use Rattle.automaton.specs.declared.Event.the-variants.{Action, Call, Return}
 use Rattle.program.specs.Program.{Edge, Program, isAction, calledBy}
 
 -- the event of an edge, by its label
-abbrev pub labelOf : ℕ → Event
-labelOf a = cond (isAction a) (Action a) (Call (calledBy a))
+abbrev pub eventOf : ℕ → Event
+eventOf a = cond (isAction a) (Action a) (Call (calledBy a))
 
 pub record Step : Type 0 where
   pub routine : ℕ
@@ -20,7 +20,7 @@ pub record Step : Type 0 where
   pub target : ℕ
 
 abbrev pub stepOf : Edge → Step
-stepOf e = record { routine = e .routine; source = e .source; label = labelOf (e .label); target = e .target }
+stepOf e = record { routine = e .routine; source = e .source; label = eventOf (e .label); target = e .target }
 
 abbrev pub stepsOf : Program → List Step
 stepsOf p = map stepOf (p .edges)
@@ -41,7 +41,7 @@ pub record Activation : Type 0 where
 
 -- a run that has arrived at node n of an activation of f with root r, over the activations k, the automaton in state q:
 -- it begins at the main routine's entry in an initial state, and goes on by an action, by a call, whose activation has
--- as its root the state at that call, or by a return to the activation that made the call
+-- as its root the state after the call's move, or by a return to the activation that made the call
 pub data Run (p : Program) : ℕ → ℕ → ℕ → List Activation → ℕ → Type 0 where
   begin : {q : ℕ} → List·Memᴰ q (p .automaton .initial) → Run p 0 0 q [] q
   act : {f n r : ℕ} {k : List Activation} {q a m s : ℕ} → Run p f n r k q → HasStep p f n (Action a) m

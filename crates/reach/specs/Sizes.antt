@@ -21,6 +21,6 @@ rootsSize = maxRoutines * maxStates
 abbrev pub summariesSize : ℕ
 summariesSize = 1024
 
--- 129 iterations (paper: takings) for each of the 16,384 configurations are always enough
+-- 1,025 iterations (paper: takings) for each of the 16,384 configurations are always enough
 abbrev pub enoughIterations : ℕ
-enoughIterations = 2113536
+enoughIterations = 16793600

@@ -74,21 +74,37 @@ summary f r q = (f * maxStates + r) * maxStates + q
 abbrev pub isKnown : Worklist → ℕ → ℕ → ℕ → Bool
 isKnown s f r q = not (eqb (getD (s .known) (summary f r q) 0) 0)
 
--- an action: every result that the automaton allows, k states from x on
-unfoldable pub onAction : ℕ → ℕ → Program → ℕ → ℕ → ℕ → ℕ → ℕ → Worklist → Worklist
-onAction zero x p f m r q a s = s
-onAction (suc k) x p f m r q a s =
-    onAction k (suc x) p f m r q a (markWhen (moves (p .automaton) q (Action a) x) (number f m r x) s)
+-- what an event may lead to: every result that the automaton allows, k states from x on
+unfoldable pub onEvent : ℕ → ℕ → Program → ℕ → ℕ → ℕ → ℕ → Event → Worklist → Worklist
+onEvent zero x p f m r q e s = s
+onEvent (suc k) x p f m r q e s =
+    onEvent k (suc x) p f m r q e (markWhen (moves (p .automaton) q e x) (number f m r x) s)
 
--- a call of g that returns: every known summary (q, x) of g, k states from x on
-unfoldable pub onReturns : ℕ → ℕ → ℕ → ℕ → ℕ → ℕ → ℕ → Worklist → Worklist
-onReturns zero x f m r q g s = s
-onReturns (suc k) x f m r q g s = onReturns k (suc x) f m r q g (markWhen (isKnown s g q x) (number f m r x) s)
+unfoldable pub eventWhen : Bool → Program → ℕ → ℕ → ℕ → ℕ → Event → Worklist → Worklist
+eventWhen true p f m r q e s = onEvent maxStates 0 p f m r q e s
+eventWhen false p f m r q e s = s
 
--- a call of g: its entry, and what its known summaries give
+-- a call of g that has given root y: its return from every known summary (y, x) of g, k states from x on; the summary
+-- ends before the return's move
+unfoldable pub onReturns : ℕ → ℕ → Program → ℕ → ℕ → ℕ → ℕ → ℕ → Worklist → Worklist
+onReturns zero x p f m r g y s = s
+onReturns (suc k) x p f m r g y s = onReturns k (suc x) p f m r g y (eventWhen (isKnown s g y x) p f m r x (Return g) s)
+
+-- it gives root y, or not: the entry with that root, and what its known summaries give
+unfoldable pub rootWhen : Bool → Program → ℕ → ℕ → ℕ → ℕ → ℕ → Worklist → Worklist
+rootWhen true p f m r g y s = onReturns maxStates 0 p f m r g y (mark (number g 0 y y) s)
+rootWhen false p f m r g y s = s
+
+-- a call of g: every root that the call's move gives, k states from y on
+unfoldable pub onCall : ℕ → ℕ → Program → ℕ → ℕ → ℕ → ℕ → ℕ → Worklist → Worklist
+onCall zero y p f m r q g s = s
+onCall (suc k) y p f m r q g s =
+    onCall k (suc y) p f m r q g (rootWhen (moves (p .automaton) q (Call g) y) p f m r g y s)
+
+-- what a step's label leads to, from (f, n, r, q) to node m
 unfoldable pub onLabel : Program → ℕ → ℕ → ℕ → ℕ → Event → Worklist → Worklist
-onLabel p f m r q (Action a) s = onAction maxStates 0 p f m r q a s
-onLabel p f m r q (Call g) s = onReturns maxStates 0 f m r q g (mark (number g 0 q q) s)
+onLabel p f m r q (Action a) s = onEvent maxStates 0 p f m r q (Action a) s
+onLabel p f m r q (Call g) s = onCall maxStates 0 p f m r q g s
 onLabel p f m r q (Return g) s = s
 
 unfoldable pub labelWhen : Bool → Program → ℕ → ℕ → ℕ → ℕ → Event → Worklist → Worklist
@@ -112,13 +128,23 @@ calls f (Call g) = eqb g f
 calls f (Return g) = false
 
 unfoldable pub wakeWhen : Bool → ℕ → ℕ → ℕ → Worklist → Worklist
-wakeWhen true g n r s = wakeRoots maxStates 0 g n r s
-wakeWhen false g n r s = s
+wakeWhen true g n q s = wakeRoots maxStates 0 g n q s
+wakeWhen false g n q s = s
+
+-- the marked configurations at a node from which a call of f can give root r become pending, k states from x on
+unfoldable pub wakeStates : ℕ → ℕ → Program → ℕ → ℕ → ℕ → ℕ → Worklist → Worklist
+wakeStates zero x p f r g n s = s
+wakeStates (suc k) x p f r g n s =
+    wakeStates k (suc x) p f r g n (wakeWhen (moves (p .automaton) x (Call f) r) g n x s)
+
+unfoldable pub callerWhen : Bool → Program → ℕ → ℕ → ℕ → ℕ → Worklist → Worklist
+callerWhen true p f r g n s = wakeStates maxStates 0 p f r g n s
+callerWhen false p f r g n s = s
 
 -- every step that calls f
-unfoldable pub wakeCallers : List Step → ℕ → ℕ → Worklist → Worklist
-wakeCallers [] f r s = s
-wakeCallers (e ∷ es) f r s = wakeCallers es f r (wakeWhen (calls f (e .label)) (e .routine) (e .source) r s)
+unfoldable pub wakeCallers : Program → List Step → ℕ → ℕ → Worklist → Worklist
+wakeCallers p [] f r s = s
+wakeCallers p (e ∷ es) f r s = wakeCallers p es f r (callerWhen (calls f (e .label)) p f r (e .routine) (e .source) s)
 
 unfoldable pub learn : ℕ → ℕ → ℕ → Worklist → Worklist
 learn f r q s = record {
@@ -128,9 +154,10 @@ learn f r q s = record {
   iterations = s .iterations;
 }
 
--- at an exit the summary is known and its callers become pending; elsewhere every step is followed
+-- at an exit (f, 1, r, q) the summary (r, q) of f is known, and each marked configuration from which a call of f can
+-- give root r becomes pending; elsewhere every step is followed
 unfoldable pub takeFrom : Bool → Program → ℕ → ℕ → ℕ → ℕ → Worklist → Worklist
-takeFrom true p f n r q s = wakeCallers (stepsOf p) f r (learn f r q s)
+takeFrom true p f n r q s = wakeCallers p (stepsOf p) f r (learn f r q s)
 takeFrom false p f n r q s = onSteps p (stepsOf p) f n r q s
 
 -- one iteration: the configuration of number i is taken, and is pending no more
@@ -153,6 +180,6 @@ opened (q ∷ qs) s = opened qs (mark (number 0 0 q q) s)
 abbrev pub blank : Worklist
 blank = record { marks = none-set; pending = none-set; known = replicate summariesSize 0; iterations = 0 }
 
--- 129 iterations a configuration are enough
+-- 1,025 iterations a configuration are enough
 unfoldable pub analysis : Program → Worklist
 analysis p = let s = opened (p .automaton .initial) blank in work enoughIterations p (lowest (s .pending) 0) s

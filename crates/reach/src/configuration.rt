@@ -5,7 +5,7 @@ use crate::spans::ROUTINE_SPAN;
 use automaton::sizes::MAX_STATES;
 use program::sizes::MAX_NODES;
 ghost use mathlib.Core.Path.{_≡_};
-ghost use Prim.Native.Nat.{_<_, _≤_, _+_, _*_};
+ghost use Prim.Native.Nat.{_<_, _+_, _*_};
 ghost use Rattle.automaton.specs.Sizes.{maxStates};
 ghost use Rattle.program.specs.Sizes.{marksSize};
 ghost use Rattle.reach.specs.Sizes.{rootsSize, summariesSize};
