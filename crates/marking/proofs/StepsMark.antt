@@ -1,6 +1,6 @@
 -- One configuration marked or set pending, and the lower bound of what is pending.
-use Prim.Native.Nat.{ℕ, zero, suc, _≤_, _<_, _+_, _-_}
-use mathlib.Core.Path.{_≡_, refl, sym, ap, _∙_}
+use Prim.Native.Nat.{ℕ, suc, _≤_, _<_, _+_, _-_}
+use mathlib.Core.Path.{_≡_, sym, ap, _∙_}
 use mathlib.Core.List.{List}
 use native.Mathlib.Omega.{arith}
 use native.Mathlib.Nat.{sub-zero}
@@ -10,7 +10,7 @@ use lib.Seq.{set-out, getD-set-other}
 use borrow.Author.Tests.{eq-eqb, ne-eqb}
 use Rattle.program.specs.Sizes.{marksSize}
 use Rattle.reach.specs.Worklist.{Worklist, mark, wake}
-use Rattle.marking.specs.Parts.{worklist, Becomes, NoneBelow, Lowers, each}
+use Rattle.marking.specs.Parts.{worklist, Becomes, Lowers, each}
 
 module _ (m w : List ℕ) (at : ℕ) where
   pub mark-new : getD m at 0 ≡ 0 → Becomes (mark at) m w (set m at 1) (set w at 1)

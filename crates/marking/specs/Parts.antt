@@ -5,7 +5,8 @@ use mathlib.Core.Bool.{cond, _&&_}
 use mathlib.Core.List.{List, map}
 use lib.Dec.{eqb, ltb}
 use lib.ListN.{getD, take}
-use Rattle.automaton.specs.Sizes.{maxStates, maxActions}
+use Rattle.automaton.specs.Sizes.{maxStates}
+use Rattle.automaton.specs.Automaton.{callOf, returnOf}
 use Rattle.automaton.specs.Flags.{nextPlace, Answers}
 use Rattle.base.specs.Flags.{isSet}
 use Rattle.program.specs.Sizes.{maxRoutines}
@@ -51,25 +52,46 @@ wakeAt base x s = wake (base + rootSpan * x) s
 abbrev pub stepsIn : List ℕ → ℕ → List Step
 stepsIn keys n = map stepOf (map edgeOf (take n keys))
 
--- a call of g in state q marks its entry, and what its known summaries give
-abbrev pub callStep : List ℕ → ℕ → ℕ → ℕ → Worklist → Worklist
-callStep known base g q s = each (markFlag known (summary g q 0) base) maxStates 0 (mark (number g 0 q q) s)
+-- the results of label l in state q are marked
+abbrev pub moveStep : List ℕ → ℕ → ℕ → ℕ → Worklist → Worklist
+moveStep next base q l s = each (markFlag next (nextPlace q l 0) base) maxStates 0 s
+
+-- where the summary (y, x) of g is known, the results of its return are marked
+abbrev pub summaryStep : List ℕ → List ℕ → ℕ → ℕ → ℕ → ℕ → Worklist → Worklist
+summaryStep next known base g y x s = cond (isSet known (summary g y 0 + x)) (moveStep next base x (returnOf g) s) s
+
+-- a call of g that gives root y marks the entry with that root, and what its known summaries give
+abbrev pub entryStep : List ℕ → List ℕ → ℕ → ℕ → ℕ → Worklist → Worklist
+entryStep next known base g y s = each (summaryStep next known base g y) maxStates 0 (mark (number g 0 y y) s)
+
+-- where a call of g can lead from state q to root y, it gives that root
+abbrev pub rootStep : List ℕ → List ℕ → ℕ → ℕ → ℕ → ℕ → Worklist → Worklist
+rootStep next known base g q y s =
+    cond (isSet next (nextPlace q (callOf g) 0 + y)) (entryStep next known base g y s) s
+
+-- a call of g in state q: every root in turn
+abbrev pub callStep : List ℕ → List ℕ → ℕ → ℕ → ℕ → Worklist → Worklist
+callStep next known base g q s = each (rootStep next known base g q) maxStates 0 s
 
 -- what an edge's label marks: the results of an action, or those of a call
 unfoldable pub labelStep : List ℕ → List ℕ → ℕ → ℕ → ℕ → Worklist → Worklist
 labelStep next known base q label s =
-    cond (isCall label) (cond (ltb (calledBy label) maxRoutines) (callStep known base (calledBy label) q s) s)
-    (cond (ltb label maxActions) (each (markFlag next (nextPlace q label 0) base) maxStates 0 s) s)
+    cond (isCall label) (cond (ltb (calledBy label) maxRoutines) (callStep next known base (calledBy label) q s) s)
+    (moveStep next base q label s)
 
 unfoldable pub edgeStep : List ℕ → List ℕ → ℕ → ℕ → ℕ → ℕ → Edge → Worklist → Worklist
 edgeStep next known f n r q e s =
     cond (eqb (e .routine) f && eqb (e .source) n) (labelStep next known (number f (e .target) r 0) q (e .label) s) s
 
+-- where a call can lead from state x to root r, what is at its node in that state is woken
+abbrev pub stateStep : List ℕ → ℕ → Edge → ℕ → Worklist → Worklist
+stateStep next r e x s =
+    cond (isSet next (nextPlace x (e .label) r)) (each (wakeAt (number (e .routine) (e .source) 0 x)) maxStates 0 s) s
+
 -- what an edge that calls f wakes
-unfoldable pub callerStep : ℕ → ℕ → Edge → Worklist → Worklist
-callerStep f r e s =
-    cond (isCall (e .label))
-    (cond (eqb (calledBy (e .label)) f) (each (wakeAt (number (e .routine) (e .source) 0 r)) maxStates 0 s) s) s
+unfoldable pub callerStep : List ℕ → ℕ → ℕ → Edge → Worklist → Worklist
+callerStep next f r e s =
+    cond (isCall (e .label)) (cond (eqb (calledBy (e .label)) f) (each (stateStep next r e) maxStates 0 s) s) s
 
 -- the tables are those of this program
 pub record Tables (p : Program) (keys : List ℕ) (count : ℕ) (next : List ℕ) : Type 0 where

@@ -38,7 +38,7 @@ pub fn take(
     if c.node == 1 {
         let place = summary_of(c.routine, c.root, c.state);
         known[place] = 1;
-        return wake_callers(keys, count, marks, pending, c.routine, c.root, i + 1);
+        return wake_callers(keys, count, next, marks, pending, c.routine, c.root, i + 1);
     }
     follow_edges(keys, count, next, known, marks, pending, c, i + 1)
 }

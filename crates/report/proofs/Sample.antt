@@ -1,17 +1,16 @@
 -- The paper's sample input and output of `bench`, by the definition.
 use mathlib.Core.Path.{_≡_, refl}
 use mathlib.Core.List.{List, [], _∷_, _++_}
-use Prim.Native.Nat.{ℕ}
 use Prim.Native.String.{String}
 use Rattle.text.specs.Hex.{hex}
 use Rattle.text.specs.Lines.{lines, numbers}
-use Rattle.automaton.specs.Automaton.{listed, moves}
+use Rattle.automaton.specs.Automaton.{listed, heard, moves}
 use Rattle.tables.specs.Keys.{member}
 use Rattle.program.specs.Reading.{judgeAs, judge, afterAs, after, readFrom, readFile}
 use Rattle.program.specs.Writing.{text}
 use Rattle.program.specs.Sample.{bytes, header, edges, transitions}
 use Rattle.reach.specs.Configurations.{number, routineOf, nodeOf, rootOf, stateOf, none-set}
-use Rattle.reach.specs.Worklist.{lowest, mark, wake, markWhen, summary, onAction, onReturns, onLabel, labelWhen, onSteps, wakeRoots, calls, wakeWhen, wakeCallers, learn, takeFrom, takeAt, work, opened, analysis}
+use Rattle.reach.specs.Worklist.{lowest, mark, wake, markWhen, summary, onEvent, eventWhen, onReturns, rootWhen, onCall, onLabel, labelWhen, onSteps, wakeRoots, calls, wakeWhen, wakeStates, callerWhen, wakeCallers, learn, takeFrom, takeAt, work, opened, analysis}
 use Rattle.reach.specs.Marks.{violationsFrom}
 use Rattle.base.specs.Flags.{countSet}
 use Rattle.edit.specs.EditLines.{editFrom, readEdit}
@@ -25,5 +24,5 @@ abbrev output : List String
 output = "5A00050000" ∷ "5800020002" ∷ "5A00060001" ∷ "5A00050000" ∷ "210E" ∷ []
 
 sample : benchText (bytes input) ≡ bytes output
-unfolding hex lines numbers listed moves member judgeAs judge afterAs after readFrom readFile text number routineOf nodeOf rootOf stateOf none-set lowest mark wake markWhen summary onAction onReturns onLabel labelWhen onSteps wakeRoots calls wakeWhen wakeCallers learn takeFrom takeAt work opened analysis countSet violationsFrom editFrom readEdit hasEdge without inserted editedProgram wantedEdit fileSize blockOf editsText benchText
+unfolding hex lines numbers listed heard moves member judgeAs judge afterAs after readFrom readFile text number routineOf nodeOf rootOf stateOf none-set lowest mark wake markWhen summary onEvent eventWhen onReturns rootWhen onCall onLabel labelWhen onSteps wakeRoots calls wakeWhen wakeStates callerWhen wakeCallers learn takeFrom takeAt work opened analysis countSet violationsFrom editFrom readEdit hasEdge without inserted editedProgram wantedEdit fileSize blockOf editsText benchText
 sample = refl

@@ -11,31 +11,32 @@ called-by-requires c κs = sym (c .before .is-call .ensures) ∙ c .if1 .taken
 
 returns : tie.Need-returns
 returns c =
-    let numbered = c .before .before .before .before in
-    let called = numbered .before .before in
-    let z = called .before .before .before .before .before in
-    let e = c .before .before .wake-roots .ensures in (
-      caller-here _ _ (edgeView (z .args .e)) (sym (called .before .before .is-call .ensures) ∙ called .before .if1 .taken)
-          (sym (called .called-by .ensures) ∙ numbered .before .if2 .taken) (rw (numbered .number-of .ensures .0) at (e .0)),
+    let woken = c .before .before in
+    let same = woken .before .before in
+    let called = same .before in
+    let z = called .before .before .before .before .before .before in
+    let e = woken .wake-states .ensures in (
+      caller-here _ _ _ (edgeView (z .args .e)) (sym (called .before .before .is-call .ensures) ∙ called .before .if1 .taken)
+          (sym (called .called-by .ensures) ∙ same .if2 .taken) (e .0),
       e .1,
     )
 
 returns-2 : tie.Need-returns-2
 returns-2 c =
     let called = c .before in
-    let z = called .before .before .before .before .before in (
-      caller-other _ _ (edgeView (z .args .e)) (sym (called .before .before .is-call .ensures) ∙ called .before .if1 .taken)
+    let z = called .before .before .before .before .before .before in (
+      caller-other _ _ _ (edgeView (z .args .e)) (sym (called .before .before .is-call .ensures) ∙ called .before .if1 .taken)
           (λ x. c .if2 .left (called .called-by .ensures ∙ x)),
       λ h. h,
     )
 
 returns-3 : tie.Need-returns-3
 returns-3 c =
-    let z = c .before .before .before .before in
-    (caller-none _ _ (edgeView (z .args .e)) (sym (c .before .is-call .ensures) ∙ c .if1 .left), λ h. h)
+    let z = c .before .before .before .before .before in
+    (caller-none _ _ _ (edgeView (z .args .e)) (sym (c .before .is-call .ensures) ∙ c .if1 .left), λ h. h)
 
 pub wake-caller-spec : {M : Type 1} → statement M
 wake-caller-spec =
     tie.close
-    (tie.spec (λ c κs. search needs) called-by-requires (λ c κs. search needs) (λ c κs. search needs) (λ c. search needs)
+    (tie.spec (λ c κs. search needs) called-by-requires (λ c κs. search needs) (λ c. search needs)
     returns returns-2 returns-3)

@@ -11,14 +11,14 @@ use Rattle.marking.proofs.follow.wake_callers.Statement.{statement}
 use Rattle.marking.proofs.follow.wake_callers.Tie as tie
 
 abbrev Inv-loop : tie.InvT-loop
-Inv-loop keys count marks pending₀ f r low lowest₀ i₀ pending lowest i =
-    Looping (λ i. callerStep f r (edgeOf (getD keys i 0))) count marks pending₀ low i marks pending lowest
+Inv-loop keys count next marks pending₀ f r low lowest₀ i₀ pending lowest i =
+    Looping (λ i. callerStep next f r (edgeOf (getD keys i 0))) count marks pending₀ low i marks pending lowest
 
 abbrev μ-loop : tie.MeasureT-loop
-μ-loop keys count marks pending₀ f r low lowest₀ i₀ pending lowest i = count - i
+μ-loop keys count next marks pending₀ f r low lowest₀ i₀ pending lowest i = count - i
 
 loop-holds : tie.Need-loop-holds Inv-loop μ-loop
-loop-holds c = let z = c .before .before .before in loop-start _ _ _ _ _ (z .pre .1 .0) (z .pre .1 .1)
+loop-holds c = let z = c .before .before .before .before in loop-start _ _ _ _ _ (z .pre .1 .0) (z .pre .1 .1)
 
 wake-caller-requires : tie.Need-wake-caller-requires Inv-loop μ-loop
 wake-caller-requires c κs = let p = c .before .before .before .before in (p .loop .inv .marks-length, p .loop .inv .pending-length)
@@ -28,10 +28,10 @@ loop-again c =
     let taken = c .before .before .before .before in
     let p = taken .before .before .before in
     let w = c .before .before .wake-caller in
-    loop-turn (p .loop .inv) (omega arith) (rw (taken .edge .ensures) at (w .ensures .0)) (w .ensures .1) refl (w .kept .1 .0)
+    loop-turn (p .loop .inv) (omega arith) (rw (taken .edge .ensures) at (w .ensures .0)) (w .ensures .1) refl (w .kept .1 .1 .0)
 
 same-length : tie.Need-same-length Inv-loop μ-loop
-same-length c = let z = c .before .before .before .before .before in c .before .loop .inv .pending-length ∙ sym (z .pre .1 .1)
+same-length c = let z = c .before .before .before .before .before .before in c .before .loop .inv .pending-length ∙ sym (z .pre .1 .1)
 
 returns : tie.Need-returns Inv-loop μ-loop
 returns c = loop-end (c .before .loop .inv) (omega arith)

@@ -16,7 +16,7 @@ slice-write-known c =
     rw (c .summary-of .ensures) (omega (arith, summary-fits _ _ _ (h .routine) (h .root) (h .state), z .pre .0 .3))
 
 same-length-2 : tie.Need-same-length-2
-same-length-2 c = c .before .before .wake-callers .kept .1 .1 .1 .0 ∙ simp length-set
+same-length-2 c = c .before .before .wake-callers .kept .1 .1 .1 .1 .0 ∙ simp length-set
 
 returns : tie.Need-returns
 returns c =
