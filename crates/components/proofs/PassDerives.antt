@@ -20,7 +20,6 @@ use Rattle.reach.specs.Reachable.{seeded, by-action, by-call, by-return}
 use Rattle.reach.specs.Marks.{Marked, Shows}
 use Rattle.reach.proofs.LeastSetLaws.{grows}
 use Rattle.reach.proofs.Numbers.{routine-of, node-of, root-of, state-of, number-fits}
-use Rattle.reach.proofs.ProgramInSizes.{call-stays}
 use Rattle.base.specs.Filled.{Filled}
 use Rattle.base.proofs.BytesFilled.{filled-bits}
 use Rattle.callgraph.specs.Components.{memberOf, Member}
@@ -134,9 +133,9 @@ module _ {p : Program} {members roots marks first : List ℕ} (w : WellFormed p)
   stays : {f n r q : ℕ} → ¬ (Member members f) → ByMembers p members first f n r q → Marked marks f n r q
   stays m (seeded y u) = out-marked m y
   stays {f} m (by-action d s v u) = absurd (m (true-member members f (only-routine (memberOf members) p s)))
-  stays m (by-call {f = f} {q = q} {g = g} {s = s} d e v u) =
+  stays m (by-call {f = f} d e v u) =
       let k = true-member members f (only-routine (memberOf members) p e) in
-      rw (call-stays p q g s v) (a .covered k (to-pass k d) (only-step (memberOf members) p e) m)
+      a .covered k (to-pass k d) (only-step (memberOf members) p e) v m
   stays {f} m (by-return d s v d′ v′ u) = absurd (m (true-member members f (only-routine (memberOf members) p s)))
 
   pub passed : {marks′ : List ℕ} → Shows (ByMembers p members first) marks′ → Passed p members roots marks marks′

@@ -12,7 +12,7 @@ use Rattle.reach.specs.Configurations.{Set, Sub}
 use Rattle.reach.specs.Reachable.{seeded, root, Reachable}
 use Rattle.reach.specs.Marks.{Marked, Shows, freshMarks}
 use Rattle.reach.proofs.LeastSetLaws.{Within, grows}
-use Rattle.reach.proofs.ProgramInSizes.{may-call, reachable-in-range, reachable-state, reachable-root}
+use Rattle.reach.proofs.ProgramInSizes.{reachable-in-range, reachable-state, reachable-root}
 use Rattle.reach.proofs.ShapeKept.{marks-length, marks-bits}
 use Rattle.reach.proofs.AnalysisExact.{analysis-exact}
 use Rattle.reach.proofs.MarksShown.{shows-same, one-list, reachable-shown}
@@ -88,11 +88,10 @@ module _ {p p′ : Program} {edited : ℕ} (h : DropOf p p′ edited) {rank : �
           marks-bits = w .marks-bits;
           states = λ {f = g} {n = n} {r = x} {q = q} m. state (reached g n x q m);
           root-states = λ {f = g} {r = y} z. subst (λ (a : Automaton). y < a .states) (sym (h .automaton)) (reachable-root p (h .old-well-formed) (to-old z));
-          covered = λ {f = g} {n = n} {r = x} {q = q} {g = c} {m = t} m z e y.
+          covered = λ {f = g} {n = n} {r = x} {q = q} {g = c} {m = t} {s = s} m z e v y.
               let a = pass-is g n x q m .0 z in
-              let v = may-call p′ q c (state (anew-old (dropped h) a)) in
               let o = called-old (dropped h) a e v in
-              w .worked c 0 q q (outside-done g c m (record { source = n; target = t; edge = e }) y) .1 (seeded (root o) tt);
+              w .worked c 0 s s (outside-done g c m (record { source = n; target = t; edge = e }) y) .1 (seeded (root o) tt);
         }
       where
         reached : (g n x q : ℕ) → Marked marks g n x q → Reachable p g n x q

@@ -11,7 +11,7 @@ use Rattle.program.specs.Sizes.{marksSize}
 use Rattle.program.specs.Program.{Program}
 use Rattle.program.specs.WellFormed.{WellFormed}
 use Rattle.reach.specs.Configurations.{Set, Sub, routineOf, nodeOf, rootOf, stateOf, rootPlace}
-use Rattle.reach.specs.Runs.{HasStep}
+use Rattle.reach.specs.Runs.{HasStep, Moves}
 use Rattle.reach.specs.Reachable.{Derivable, Any}
 use Rattle.reach.specs.Marks.{Marked}
 use Rattle.callgraph.specs.Components.{memberOf, Member}
@@ -19,14 +19,14 @@ use Rattle.roots.specs.Roots.{RootOf}
 use Rattle.components.specs.Passes.{onlyOf, PassOf}
 
 -- a pass may begin: what is marked and the roots are in states of the automaton, and the entries that the routines call
--- outside are marked
+-- outside, in the states after the calls' moves, are marked
 pub record Passable (p : Program) (members roots marks : List ℕ) : Type 0 where
   pub marks-length : length marks ≡ marksSize
   pub marks-bits : (i : ℕ) → getD marks i 0 ≤ 1
   pub states : {f n r q : ℕ} → Marked marks f n r q → q < p .automaton .states
   pub root-states : {f r : ℕ} → RootOf roots f r → r < p .automaton .states
-  pub covered : {f n r q g m : ℕ} → Member members f → PassOf p members roots marks f n r q → HasStep p f n (Call g) m
-      → ¬ (Member members g) → Marked marks g 0 q q
+  pub covered : {f n r q g m s : ℕ} → Member members f → PassOf p members roots marks f n r q → HasStep p f n (Call g) m
+      → Moves p q (Call g) s → ¬ (Member members g) → Marked marks g 0 s s
 
 -- 1 at the entry of a routine with one of its roots
 abbrev pub rootMark : List ℕ → ℕ → ℕ → ℕ → ℕ → ℕ

@@ -3,17 +3,18 @@ use mathlib.Core.Path.{_≡_, refl}
 use mathlib.Core.Bool.{true, false}
 use mathlib.Core.List.{List}
 use Prim.Native.Nat.{ℕ}
-use lib.ListN.{take}
+use lib.ListN.{length, take}
 use Rattle.program.specs.Program.{Edge}
 use Rattle.reach.specs.Configurations.{number}
 use Rattle.prune.specs.Parts.{anyKey, callSupports, transitionSupports, transitionsToTry, actionSupports, edgeSupports}
 
-module _ (kept transitions : List ℕ) (k f n r q : ℕ) (e : Edge) where
-  pub edge-calls : callSupports kept e f n r q ≡ true → edgeSupports kept transitions k f n r q e ≡ true
+module _ (transitions next kept : List ℕ) (f n r q : ℕ) (e : Edge) where
+  pub edge-calls : callSupports next kept e f n r q ≡ true → edgeSupports transitions next kept f n r q e ≡ true
   unfolding edgeSupports
   edge-calls h = rw h refl
 
-  pub edge-is : {end base : ℕ} → callSupports kept e f n r q ≡ false → end ≡ transitionsToTry e f n k → base ≡ number f (e .source) r 0
-      → anyKey (transitionSupports kept base (e .label) q) (take end transitions) ≡ edgeSupports kept transitions k f n r q e
+  pub edge-is : {end base : ℕ} → callSupports next kept e f n r q ≡ false → end ≡ transitionsToTry e f n (length transitions)
+      → base ≡ number f (e .source) r 0
+      → anyKey (transitionSupports kept base (e .label) q) (take end transitions) ≡ edgeSupports transitions next kept f n r q e
   unfolding edgeSupports actionSupports
   edge-is h z b = rw (h, z, b) refl

@@ -8,10 +8,13 @@ use Prim.Native.Nat.{ℕ, min, _+_, _≤_, _<_}
 use native.Mathlib.Omega.{arith}
 use native.Mathlib.Nat.{eq-or-lt-of-le}
 use lib.Dec.{eqb}
-use lib.ListN.{length, getD, set, take, drop, replicate, length-set, length-replicate}
+use lib.ListN.{length, getD, set, take, drop, replicate, length-set, length-replicate, length-take}
 use lib.Seq.{take-length, drop-length}
 use borrow.Author.Tests.{eqb-true, eq-eqb, not-false}
 use Rattle.automaton.specs.Automaton.{isInitial}
+use Rattle.automaton.specs.Flags.{Answers}
+use Rattle.automaton.specs.Sizes.{maxTransitions}
+use Rattle.program.specs.Sizes.{maxEdges}
 use Rattle.tables.specs.Keys.{member}
 use Rattle.automaton.specs.Decoded.{transitionKeysOf, transitionOf}
 use Rattle.base.specs.Flags.{isSet, On}
@@ -21,14 +24,13 @@ use Rattle.program.specs.Program.{Program}
 use Rattle.program.specs.WellFormed.{WellFormed}
 use Rattle.program.specs.Decoded.{edgeKeysOf, edgeOf}
 use Rattle.base.proofs.Bools.{both, either, never}
+use Rattle.base.proofs.EntriesInUse.{in-use-same}
 use Rattle.reach.specs.Configurations.{Set, InRange, number, routineOf, nodeOf, rootOf, stateOf, none-set, At}
 use Rattle.reach.specs.Reachable.{seeded, by-action, by-call, by-return, initial}
 use Rattle.reach.specs.Marks.{Marked, Shows}
 use Rattle.reach.proofs.Numbers.{number-of, number-fits, routine-of, node-of, root-of, state-of, parts-in-range, to-number, from-number}
-use Rattle.reach.proofs.ProgramInSizes.{Sizes, sizes, initial-proper, derivable-state, call-stays, return-stays, may-call, may-return}
 use Rattle.base.proofs.SetFlags.{set-on, on-set, set-inv, set-bits, zeros, set-byte, byte-set}
 use Rattle.reach.proofs.MarksShown.{shows-marked}
-use Rattle.worklist.proofs.AnalysisBegun.{take-min}
 use Rattle.prune.specs.Pruning.{Kept}
 use Rattle.prune.specs.Parts.{supports, keepsAt, Keeps, same, more, Settled, Tables, Sound, Started}
 use Rattle.prune.proofs.PassesKeep.{keeps-on}
@@ -36,29 +38,29 @@ use Rattle.prune.proofs.SupportFound.{Supported, by-edge, as-called, as
 
 -- ---- what is kept next
 
-module _ (keys : List ℕ) (m : ℕ) (transitions : List ℕ) (k : ℕ) (marks kept : List ℕ) (i : ℕ) where
+module _ (keys transitions next marks kept : List ℕ) (i : ℕ) where
   record Next : Type 0 where
     marked : isSet marks i ≡ true
     free : isSet kept i ≡ false
-    supported : supports keys m transitions k kept (routineOf i) (nodeOf i) (rootOf i) (stateOf i) ≡ true
+    supported : supports keys transitions next kept (routineOf i) (nodeOf i) (rootOf i) (stateOf i) ≡ true
 
-  next : keepsAt keys m transitions k marks kept i ≡ true → Next
+  next-kept : keepsAt keys transitions next marks kept i ≡ true → Next
   unfolding keepsAt
-  next e = go (isSet marks i) refl (isSet kept i) refl e
+  next-kept e = go (isSet marks i) refl (isSet kept i) refl e
     where
       go : (a : Bool) → isSet marks i ≡ a → (b : Bool) → isSet kept i ≡ b
-          → cond a (cond b false (supports keys m transitions k kept (routineOf i) (nodeOf i) (rootOf i) (stateOf i))) false ≡ true → Next
+          → cond a (cond b false (supports keys transitions next kept (routineOf i) (nodeOf i) (rootOf i) (stateOf i))) false ≡ true → Next
       go true x true y e = never e refl
       go true x false y e = record { marked = x; free = y; supported = e }
       go false x b y e = never e refl
 
-  keeps-when : isSet marks i ≡ true → isSet kept i ≡ false → supports keys m transitions k kept (routineOf i) (nodeOf i) (rootOf i) (stateOf i) ≡ true
-      → keepsAt keys m transitions k marks kept i ≡ true
+  keeps-when : isSet marks i ≡ true → isSet kept i ≡ false
+      → supports keys transitions next kept (routineOf i) (nodeOf i) (rootOf i) (stateOf i) ≡ true → keepsAt keys transitions next marks kept i ≡ true
   unfolding keepsAt
   keeps-when a b c = rw (a, b, c) refl
 
-  pub keeps-free : keepsAt keys m transitions k marks kept i ≡ true → getD kept i 0 ≡ 0
-  keeps-free e = eqb-true (getD kept i 0) 0 (not-false (eqb (getD kept i 0) 0) (next e .free))
+  pub keeps-free : keepsAt keys transitions next marks kept i ≡ true → getD kept i 0 ≡ 0
+  keeps-free e = eqb-true (getD kept i 0) 0 (not-false (eqb (getD kept i 0) 0) (next-kept e .free))
 
 -- ---- what is kept has support
 
@@ -86,31 +88,27 @@ module _ {p : Program} {marks kept : List ℕ} (s : Sound p marks kept) where
   kept-is {f} {n} {r} {q} o = from-number (Kept p marks) (o .0) (s .supported (number f n r q) (record { on = o .1 }))
 
   -- a marked configuration that has support in kept ones has support back to a start
-  supported-kept : Sizes p → {f n r q : ℕ} → Marked marks f n r q → Supported p (Marked kept) f n r q → Kept p marks f n r q
-  supported-kept z w (by-edge e v o) = by-action (kept-is o) e v w
-  supported-kept z w (as-called {f = f} {q = q} e o) =
-      let d = kept-is o in by-call d e (may-call p q f (derivable-state z (initial-proper p z) d)) w
-  supported-kept z {q = q} w (as-returned {g = g} {y = y} e o o′) =
-      let d = kept-is o in
-      let d′ = kept-is o′ in
-      by-return d e (may-call p y g (derivable-state z (initial-proper p z) d)) d′ (may-return p q g (derivable-state z (initial-proper p z) d′)) w
+  supported-kept : {f n r q : ℕ} → Marked marks f n r q → Supported p (Marked kept) f n r q → Kept p marks f n r q
+  supported-kept w (by-edge e v o) = by-action (kept-is o) e v w
+  supported-kept w (as-called e v o) = by-call (kept-is o) e v w
+  supported-kept w (as-returned e o v o′ v′) = by-return (kept-is o) e v (kept-is o′) v′ w
 
 marked-at : (marks : List ℕ) (i : ℕ) → i < 16384 → isSet marks i ≡ true → At (Marked marks) i
 marked-at marks i h e = (parts-in-range i h, rw (number-of i) (set-byte marks i e))
 
-module _ {p : Program} {keys : List ℕ} {m : ℕ} {transitions : List ℕ} {k : ℕ} (t : Tables p keys m transitions k) {marks : List ℕ} where
-  pub keeps-sound : {old new : List ℕ} → Sound p marks old → Keeps (keepsAt keys m transitions k marks) old new → Sound p marks new
+module _ {p : Program} {keys transitions next : List ℕ} (t : Tables p keys transitions next) {marks : List ℕ} where
+  pub keeps-sound : {old new : List ℕ} → Sound p marks old → Keeps (keepsAt keys transitions next marks) old new → Sound p marks new
   keeps-sound s same = s
   keeps-sound s (more {kept = kept} l i h e) =
       let s′ = keeps-sound s l in
-      let x = next keys m transitions k marks kept i e in
-      let y = supports-sound p keys m transitions k t kept (parts-in-range i h) (x .supported) in
-      sound-more s′ i (supported-kept s′ (sizes p (t .well-formed)) (marked-at marks i h (x .marked)) y)
+      let x = next-kept keys transitions next marks kept i e in
+      let y = supports-sound p keys transitions next t kept (parts-in-range i h) (x .supported) in
+      sound-more s′ i (supported-kept s′ (marked-at marks i h (x .marked)) y)
 
 -- ---- nothing is left to be kept
 
-module _ {p : Program} {keys : List ℕ} {m : ℕ} {transitions : List ℕ} {k : ℕ} (t : Tables p keys m transitions k) (marks new : List ℕ)
-    (settled : (j : ℕ) → j < 16384 → keepsAt keys m transitions k marks new j ≡ false) where
+module _ {p : Program} {keys transitions next : List ℕ} (t : Tables p keys transitions next) (marks new : List ℕ)
+    (settled : (j : ℕ) → j < 16384 → keepsAt keys transitions next marks new j ≡ false) where
   -- a marked configuration that has support in kept ones is kept
   closed : {f n r q : ℕ} → Marked marks f n r q → Supported p (Marked new) f n r q → On new (number f n r q)
   closed {f} {n} {r} {q} w s = go (isSet new (number f n r q)) refl
@@ -120,24 +118,21 @@ module _ {p : Program} {keys : List ℕ} {m : ℕ} {transitions : List ℕ} {k :
       go false e =
           let i = number f n r q in
           let h = w .0 in
-          let x : supports keys m transitions k new (routineOf i) (nodeOf i) (rootOf i) (stateOf i) ≡ true =
-          rw (routine-of h, node-of h, root-of h, state-of h) (supports-found p keys m transitions k t new s) in
-          never (keeps-when keys m transitions k marks new i (byte-set marks i (w .1)) e x) (settled i (number-fits h))
+          let x : supports keys transitions next new (routineOf i) (nodeOf i) (rootOf i) (stateOf i) ≡ true =
+          rw (routine-of h, node-of h, root-of h, state-of h) (supports-found p keys transitions next t new h s) in
+          never (keeps-when keys transitions next marks new i (byte-set marks i (w .1)) e x) (settled i (number-fits h))
 
   -- so is all that has support back to a start
   module _ (starts : (q : ℕ) → List·Memᴰ q (p .automaton .initial) → Marked marks 0 0 q q → On new (number 0 0 q q)) where
     all-kept : {f n r q : ℕ} → Kept p marks f n r q → Marked new f n r q
     all-kept (seeded (initial {q = q} x) w) = (w .0, starts q x w .on)
     all-kept (by-action d e v w) = (w .0, closed w (by-edge e v (all-kept d)) .on)
-    all-kept (by-call {f = f} {n = n} {r = r} {q = q} {g = g} {s = s} d e v w) =
-        let o : Marked new f n r s = rw (call-stays p q g s v) (all-kept d) in (w .0, closed w (as-called e o) .on)
-    all-kept (by-return {q = q} {g = g} {s = s} {x = x} {t = u} d e v d′ v′ w) =
-        let o : Marked new g 1 q u = rw (return-stays p x g u v′, ← (call-stays p q g s v)) (all-kept d′) in
-        (w .0, closed w (as-returned e (all-kept d) o) .on)
+    all-kept (by-call d e v w) = (w .0, closed w (as-called e v (all-kept d)) .on)
+    all-kept (by-return d e v d′ v′ w) = (w .0, closed w (as-returned e (all-kept d) v (all-kept d′) v′) .on)
 
 -- from the starts, when nothing is left, exactly what has support back to a start is kept
-pub settled-shows : {p : Program} {keys : List ℕ} {m : ℕ} {transitions : List ℕ} {k : ℕ} → Tables p keys m transitions k → (marks : List ℕ) {old new : List ℕ}
-    → Started p marks old 8 → Settled (keepsAt keys m transitions k marks) old new → Shows (Kept p marks) new
+pub settled-shows : {p : Program} {keys transitions next : List ℕ} → Tables p keys transitions next → (marks : List ℕ) {old new : List ℕ}
+    → Started p marks old 8 → Settled (keepsAt keys transitions next marks) old new → Shows (Kept p marks) new
 settled-shows {p} t marks {old} {new} a b =
     let s = keeps-sound t (a .sound) (b .keeps) in
     let starts : (q : ℕ) → List·Memᴰ q (p .automaton .initial) → Marked marks 0 0 q q → On new (number 0 0 q q) =
@@ -200,14 +195,25 @@ module _ {p : Program} {marks kept : List ℕ} (q : ℕ) (s : Started p marks ke
 
 -- ---- the tables of a program
 
-pub its-tables : (p : Program) → WellFormed p → (edges : Edges) (transitions : Transitions) → p .edges ≡ map edgeOf (edgeKeysOf edges)
-    → p .automaton .transitions ≡ map transitionOf (transitionKeysOf transitions) → length (edges .keys) ≡ 256 → length (transitions .keys) ≡ 256
-    → {m k : ℕ} → m ≡ min (edges .count) 256 → k ≡ min (transitions .count) 256 → Tables p (edges .keys) m (transitions .keys) k
-its-tables p w edges transitions e f a b u v =
+-- the keys in use are as many as the count says
+module _ (n : ℕ) (keys : List ℕ) {size u : ℕ} (room : length keys ≡ size) (used : u ≡ min n size) where
+  pub used-fits : u ≤ length keys
+  used-fits = omega arith
+
+  pub used-counted : u ≡ length (take u keys)
+  used-counted = rw (length-take u keys) (omega arith)
+
+pub its-tables : (p : Program) → WellFormed p → (edges : Edges) (transitions : Transitions) {next : List ℕ} → p .edges ≡ map edgeOf (edgeKeysOf edges)
+    → p .automaton .transitions ≡ map transitionOf (transitionKeysOf transitions) → Answers (p .automaton) next
+    → length (edges .keys) ≡ maxEdges → length (transitions .keys) ≡ maxTransitions
+    → {m k : ℕ} → m ≡ min (edges .count) maxEdges → k ≡ min (transitions .count) maxTransitions
+    → Tables p (take m (edges .keys)) (take k (transitions .keys)) next
+its-tables p w edges transitions e f s a b u v =
     record {
       well-formed = w;
-      edges = e ∙ rw u (ap (map edgeOf) (sym (rw a at (take-min (edges .count) (edges .keys)))));
-      transitions = f ∙ rw v (ap (map transitionOf) (sym (rw b at (take-min (transitions .count) (transitions .keys)))));
+      edges = e ∙ ap (map edgeOf) (sym (in-use-same (edges .count) (edges .keys) a u));
+      transitions = f ∙ ap (map transitionOf) (sym (in-use-same (transitions .count) (transitions .keys) b v));
+      answers = s;
     }
 
 -- ---- the bytes of a buffer

@@ -2,6 +2,7 @@ pub mod SearchesAsk
 pub mod EdgeScanned
 pub mod PartSearched
 pub mod PassesKeep
+pub mod CallsFound
 pub mod SupportFound
 pub mod KeptExact
 pub mod PruneAnswers

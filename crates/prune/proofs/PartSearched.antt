@@ -1,6 +1,6 @@
 -- The search over the part of the table that has one routine's edges: it finds what the search over the whole table finds,
 -- unless the configuration can be a called entry.
-use mathlib.Core.Path.{_≡_, refl, ap, subst}
+use mathlib.Core.Path.{_≡_, refl, ap}
 use mathlib.Core.Logic.{_≢_}
 use mathlib.Core.Bool.{Bool, false, _||_, _&&_}
 use mathlib.Core.List.{List, [], _∷_, map}
@@ -15,7 +15,7 @@ use Rattle.program.specs.Frames.{edgeKey}
 use Rattle.tables.specs.Keys.{Ascending}
 use Rattle.program.specs.Decoded.{edgeOf}
 use Rattle.worklist.specs.Parts.{FirstOf}
-use Rattle.worklist.proofs.RoutinePart.{part-starts, part-in-use, part-ends, before-part, after-part}
+use Rattle.worklist.proofs.RoutinePart.{part-starts, before-part, after-part}
 use Rattle.prune.specs.Parts.{anyKey, entrySupports, returnSupports, callSupports, transitionsToTry, actionSupports, edgeSupports, supports, PartOf}
 
 -- ---- the part of a list outside which a test fails
@@ -43,26 +43,26 @@ met-in-part t (k ∷ ks) zero (suc b) l h low high =
 
 -- ---- the part of one routine
 
-pub its-part : {keys : List ℕ} {m f a b : ℕ} → FirstOf keys m f a → FirstOf keys m (f + 1) b → m ≤ length keys
-    → Ascending 0 (map edgeKey (map edgeOf (take m keys))) → PartOf keys m f (take (b - a) (drop a keys))
-its-part {keys} {m} {f} {a} {b} x y fits up =
+pub its-part : {keys : List ℕ} {f a b : ℕ} → FirstOf keys (length keys) f a → FirstOf keys (length keys) (f + 1) b
+    → Ascending 0 (map edgeKey (map edgeOf keys)) → PartOf keys f (take (b - a) (drop a keys))
+its-part {keys} {f} {a} {b} x y up =
+    let all = take-length keys in
+    let fits : length keys ≤ length keys = omega arith in
     record {
       decides = λ t other.
-          let ks = take m keys in
-          subst (λ (l : List ℕ). anyKey t l ≡ anyKey t ks) (part-in-use x y)
-          (met-in-part t ks a b (part-starts x y) (part-ends x y fits) (λ j h. other (getD ks j 0) (before-part x y fits j h))
-          (λ j l h. other (getD ks j 0) (after-part x y fits up j l h)));
+          met-in-part t keys a b (part-starts x y) (y .within) (λ j h. other (getD keys j 0) (rw all at (before-part x y fits j h)))
+          (λ j l h. other (getD keys j 0) (rw all at (after-part x y fits (rw all up) j l (rw all h))));
     }
 
 -- ---- what an edge of another routine supports
 
-module _ (kept transitions : List ℕ) (k f n r q : ℕ) (no-entry : eqb n 0 && eqb r q ≡ false) where
-  other-supports : (key : ℕ) → edgeOf key .routine ≢ f → edgeSupports kept transitions k f n r q (edgeOf key) ≡ false
+module _ (transitions next kept : List ℕ) (f n r q : ℕ) (no-entry : eqb n 0 && eqb r q ≡ false) where
+  other-supports : (key : ℕ) → edgeOf key .routine ≢ f → edgeSupports transitions next kept f n r q (edgeOf key) ≡ false
   unfolding edgeSupports callSupports entrySupports returnSupports actionSupports transitionsToTry anyKey
   other-supports key h = rw (no-entry, ne-eqb (edgeOf key .routine) f h) refl
 
   -- the search over the part and the one over the table find the same
-  pub part-supports : {keys : List ℕ} {m : ℕ} {part : List ℕ} → PartOf keys m f part
-      → supports part (length part) transitions k kept f n r q ≡ supports keys m transitions k kept f n r q
+  pub part-supports : {keys part : List ℕ} → PartOf keys f part
+      → supports part transitions next kept f n r q ≡ supports keys transitions next kept f n r q
   unfolding supports
-  part-supports {part = part} z = rw (take-length part) (z .decides (λ key. edgeSupports kept transitions k f n r q (edgeOf key)) other-supports)
+  part-supports z = z .decides (λ key. edgeSupports transitions next kept f n r q (edgeOf key)) other-supports

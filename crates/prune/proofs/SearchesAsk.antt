@@ -1,15 +1,26 @@
 -- Whether one of several meets a test: a loop tries them in turn, and one that does is there.
 use mathlib.Core.Path.{_≡_, refl, ap}
-use mathlib.Core.Bool.{Bool, true, false, _||_, or-true}
+use mathlib.Core.Bool.{Bool, true, false, _&&_, _||_, or-true}
 use mathlib.Core.List.{List, [], _∷_, map, List·Memᴰ, List·Memᴰ·head, List·Memᴰ·tail}
 use Prim.Native.Nat.{ℕ, zero, suc, _+_, _-_, _≤_, _<_}
 use native.Mathlib.Omega.{arith}
 use native.Mathlib.Decide.{ℕ-discrete}
-use lib.ListN.{length, List·getD-eq-default}
-use Rattle.base.specs.Flags.{isSet}
+use lib.ListN.{length, take}
+use lib.Seq.{take-length}
 use Rattle.base.proofs.EntriesInUse.{Asks}
 use Rattle.base.proofs.Bools.{either, never}
 use Rattle.prune.specs.Parts.{anyFrom, anyKey}
+
+-- ---- a test of two parts: the second is asked only where the first is met
+
+pub both-met : {a b : Bool} → a ≡ true → b ≡ true → a && b ≡ true
+both-met h k = rw (h, k) refl
+
+pub first-fails : {a : Bool} (b : Bool) → a ≡ false → a && b ≡ false
+first-fails b h = rw h refl
+
+pub second-fails : {a b : Bool} → a ≡ true → b ≡ false → a && b ≡ false
+second-fails h k = rw (h, k) refl
 
 -- ---- numbers
 
@@ -66,6 +77,10 @@ any-from t (suc n) j k a b e =
 pub asks-key : (t : ℕ → Bool) → Asks (anyKey t) t
 unfolding anyKey
 asks-key t = record { empty = refl; first = λ x xs. refl }
+
+-- all keys of a list are in use
+pub all-keys : (t : ℕ → Bool) (ks : List ℕ) {b : Bool} → b ≡ anyKey t (take (length ks) ks) → b ≡ anyKey t ks
+all-keys t ks e = rw (take-length ks) at e
 
 pub record FoundKey (t : ℕ → Bool) (ks : List ℕ) : Type 0 where
   pub key : ℕ

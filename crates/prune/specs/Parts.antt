@@ -4,13 +4,15 @@ use mathlib.Core.Path.{_≡_}
 use mathlib.Core.Logic.{_≢_}
 use mathlib.Core.Bool.{Bool, true, false, cond, _&&_, _||_}
 use mathlib.Core.List.{List, [], _∷_, map, List·Memᴰ}
-use lib.Dec.{eqb}
+use lib.Dec.{eqb, ltb}
 use lib.ListN.{length, getD, set, take}
-use Rattle.program.specs.Sizes.{marksSize}
+use Rattle.program.specs.Sizes.{maxRoutines, marksSize}
 use Rattle.automaton.specs.Sizes.{maxStates}
 use Rattle.automaton.specs.Decoded.{transitionOf}
 use Rattle.base.specs.Flags.{isSet, countSet, On}
-use Rattle.program.specs.Program.{Edge, Program, isCall, calledBy, callOf}
+use Rattle.program.specs.Program.{Edge, Program, isCall, calledBy}
+use Rattle.automaton.specs.Automaton.{callOf, returnOf}
+use Rattle.automaton.specs.Flags.{nextPlace, Answers}
 use Rattle.program.specs.WellFormed.{WellFormed}
 use Rattle.program.specs.Decoded.{edgeOf}
 use Rattle.reach.specs.Sizes.{rootSpan}
@@ -30,65 +32,82 @@ unfoldable pub anyKey : (ℕ → Bool) → List ℕ → Bool
 anyKey t [] = false
 anyKey t (k ∷ ks) = t k || anyKey t ks
 
--- ---- what supports a configuration (f, n, r, q), by the kept bytes
+-- ---- what supports a configuration (f, n, r, q), by the kept bytes and the answers of the automaton
 
 -- some root of the configurations from this number on is kept
 unfoldable pub rootKept : List ℕ → ℕ → Bool
 rootKept kept base = anyFrom (λ x. isSet kept (base + rootSpan * x)) maxStates 0
 
--- for some state the caller is kept with it, and the called exit with it as its root
-unfoldable pub returnKept : List ℕ → ℕ → ℕ → Bool
-returnKept kept caller exit = anyFrom (λ y. isSet kept (caller + y) && isSet kept (exit + rootSpan * y)) maxStates 0
+-- from some state the edge's call gives root r, and its source is kept in that state
+unfoldable pub callerKept : List ℕ → List ℕ → Edge → ℕ → Bool
+callerKept next kept e r =
+    anyFrom (λ x. isSet next (nextPlace x (e .label) r) && rootKept kept (number (e .routine) (e .source) 0 x))
+    maxStates 0
 
--- it is an entry, and the edge calls its routine in its state
-unfoldable pub entrySupports : List ℕ → Edge → ℕ → ℕ → ℕ → ℕ → Bool
-entrySupports kept e f n r q =
-    cond (eqb n 0 && eqb r q && eqb (e .label) (callOf f)) (rootKept kept (number (e .routine) (e .source) 0 q)) false
+-- for some state the exit from this number on is kept in it, and a return of label l leads from it to t
+unfoldable pub exitKept : List ℕ → List ℕ → ℕ → ℕ → ℕ → Bool
+exitKept next kept exit l t = anyFrom (λ x. isSet kept (exit + x) && isSet next (nextPlace x l t)) maxStates 0
+
+-- from state y the call of g gives some root with which g returns to state t
+unfoldable pub rootReturns : List ℕ → List ℕ → ℕ → ℕ → ℕ → Bool
+rootReturns next kept y g t =
+    anyFrom (λ s. isSet next (nextPlace y (callOf g) s) && exitKept next kept (number g 1 s 0) (returnOf g) t)
+    maxStates 0
+
+-- for some state the caller from this number on is kept in it, and a call of g from it returns to state t
+unfoldable pub returnKept : List ℕ → List ℕ → ℕ → ℕ → ℕ → Bool
+returnKept next kept caller g t =
+    cond (ltb g maxRoutines) (anyFrom (λ y. isSet kept (caller + y) && rootReturns next kept y g t) maxStates 0) false
+
+-- it is an entry, and the edge calls its routine with its root
+unfoldable pub entrySupports : List ℕ → List ℕ → Edge → ℕ → ℕ → ℕ → ℕ → Bool
+entrySupports next kept e f n r q =
+    cond (eqb n 0 && eqb r q && eqb (e .label) (callOf f)) (callerKept next kept e r) false
 
 -- the edge leads to it by a call that returns
-unfoldable pub returnSupports : List ℕ → Edge → ℕ → ℕ → ℕ → ℕ → Bool
-returnSupports kept e f n r q =
+unfoldable pub returnSupports : List ℕ → List ℕ → Edge → ℕ → ℕ → ℕ → ℕ → Bool
+returnSupports next kept e f n r q =
     cond (eqb (e .routine) f && eqb (e .target) n)
-    (cond (isCall (e .label)) (returnKept kept (number f (e .source) r 0) (number (calledBy (e .label)) 1 0 q)) false)
+    (cond (isCall (e .label)) (returnKept next kept (number f (e .source) r 0) (calledBy (e .label)) q) false)
     false
 
-unfoldable pub callSupports : List ℕ → Edge → ℕ → ℕ → ℕ → ℕ → Bool
-callSupports kept e f n r q = entrySupports kept e f n r q || returnSupports kept e f n r q
+unfoldable pub callSupports : List ℕ → List ℕ → Edge → ℕ → ℕ → ℕ → ℕ → Bool
+callSupports next kept e f n r q = entrySupports next kept e f n r q || returnSupports next kept e f n r q
 
 -- the transition has this action and this state after it, and the configuration before it is kept
 unfoldable pub transitionSupports : List ℕ → ℕ → ℕ → ℕ → ℕ → Bool
 transitionSupports kept base a q key =
-    cond (eqb (transitionOf key .action) a && eqb (transitionOf key .after) q)
+    cond (eqb (transitionOf key .label) a && eqb (transitionOf key .after) q)
     (isSet kept (base + transitionOf key .before)) false
 
 -- how many transitions are to be tried for an edge: all for an action that leads to node n of routine f, else none
 unfoldable pub transitionsToTry : Edge → ℕ → ℕ → ℕ → ℕ
 transitionsToTry e f n count = cond (eqb (e .routine) f && eqb (e .target) n) (cond (isCall (e .label)) 0 count) 0
 
-unfoldable pub actionSupports : List ℕ → List ℕ → ℕ → ℕ → ℕ → ℕ → ℕ → Edge → Bool
-actionSupports kept transitions count f n r q e =
+unfoldable pub actionSupports : List ℕ → List ℕ → ℕ → ℕ → ℕ → ℕ → Edge → Bool
+actionSupports transitions kept f n r q e =
     anyKey (transitionSupports kept (number f (e .source) r 0) (e .label) q)
-    (take (transitionsToTry e f n count) transitions)
+    (take (transitionsToTry e f n (length transitions)) transitions)
 
-unfoldable pub edgeSupports : List ℕ → List ℕ → ℕ → ℕ → ℕ → ℕ → ℕ → Edge → Bool
-edgeSupports kept transitions count f n r q e =
-    callSupports kept e f n r q || actionSupports kept transitions count f n r q e
+unfoldable pub edgeSupports : List ℕ → List ℕ → List ℕ → ℕ → ℕ → ℕ → ℕ → Edge → Bool
+edgeSupports transitions next kept f n r q e =
+    callSupports next kept e f n r q || actionSupports transitions kept f n r q e
 
 -- some edge, with some transition, supports it
-unfoldable pub supports : List ℕ → ℕ → List ℕ → ℕ → List ℕ → ℕ → ℕ → ℕ → ℕ → Bool
-supports keys m transitions k kept f n r q =
-    anyKey (λ key. edgeSupports kept transitions k f n r q (edgeOf key)) (take m keys)
+unfoldable pub supports : List ℕ → List ℕ → List ℕ → List ℕ → ℕ → ℕ → ℕ → ℕ → Bool
+supports keys transitions next kept f n r q =
+    anyKey (λ key. edgeSupports transitions next kept f n r q (edgeOf key)) keys
 
--- this part of the keys in use has the edges of routine f: a test that fails for every edge of another routine is met
--- by one of all just where it is met by one of these
-pub record PartOf (keys : List ℕ) (m f : ℕ) (part : List ℕ) : Type 0 where
+-- this part of the keys has the edges of routine f: a test that fails for every edge of another routine is met by one
+-- of all just where it is met by one of these
+pub record PartOf (keys : List ℕ) (f : ℕ) (part : List ℕ) : Type 0 where
   pub decides : (t : ℕ → Bool) → ((key : ℕ) → edgeOf key .routine ≢ f → t key ≡ false)
-      → anyKey t part ≡ anyKey t (take m keys)
+      → anyKey t part ≡ anyKey t keys
 
 -- the configuration of number i is marked, not yet kept, and supported
-unfoldable pub keepsAt : List ℕ → ℕ → List ℕ → ℕ → List ℕ → List ℕ → ℕ → Bool
-keepsAt keys m transitions k marks kept i =
-    cond (isSet marks i) (cond (isSet kept i) false (supports keys m transitions k kept (routineOf i) (nodeOf i)
+unfoldable pub keepsAt : List ℕ → List ℕ → List ℕ → List ℕ → List ℕ → ℕ → Bool
+keepsAt keys transitions next marks kept i =
+    cond (isSet marks i) (cond (isSet kept i) false (supports keys transitions next kept (routineOf i) (nodeOf i)
     (rootOf i) (stateOf i))) false
 
 -- ---- keeping one after another
@@ -115,11 +134,12 @@ pub record Settled (test : List ℕ → ℕ → Bool) (old new : List ℕ) : Typ
 
 -- ---- what the kept bytes mean
 
--- the tables are those of this program
-pub record Tables (p : Program) (keys : List ℕ) (m : ℕ) (transitionKeys : List ℕ) (k : ℕ) : Type 0 where
+-- the tables are those of this program, and the answers those of its automaton
+pub record Tables (p : Program) (keys transitionKeys next : List ℕ) : Type 0 where
   pub well-formed : WellFormed p
-  pub edges : p .edges ≡ map edgeOf (take m keys)
-  pub transitions : p .automaton .transitions ≡ map transitionOf (take k transitionKeys)
+  pub edges : p .edges ≡ map edgeOf keys
+  pub transitions : p .automaton .transitions ≡ map transitionOf transitionKeys
+  pub answers : Answers (p .automaton) next
 
 -- every byte is 0 or 1, and what is kept has support back to a start
 pub record Sound (p : Program) (marks kept : List ℕ) : Type 0 where

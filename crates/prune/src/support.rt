@@ -1,4 +1,8 @@
-// Whether a configuration (f, n, r, q) has support through kept ones: the search over edges and transitions.
+// Whether a configuration (f, n, r, q) has support through kept ones: the search over edges and transitions. `next` has
+// the answers of the automaton: by them calls and returns move.
+use automaton::next::may_go;
+use automaton::sizes::FIRST_CALL;
+use automaton::sizes::FIRST_RETURN;
 use automaton::sizes::MAX_STATES;
 use automaton::transitions::transition;
 use base::flags::is_set;
@@ -6,18 +10,17 @@ use program::edges::DecodedEdge;
 use program::edges::called_by;
 use program::edges::edge;
 use program::edges::is_call;
-use program::sizes::FIRST_CALL;
+use program::sizes::MAX_ROUTINES;
 use reach::configuration::Configuration;
 use reach::configuration::number_of;
 use reach::spans::ROOT_SPAN;
 ghost use mathlib.Core.Path.{_≡_};
 ghost use Prim.Native.Nat.{_<_, _≤_};
-ghost use lib.ListN.{length};
-ghost use Rattle.base.specs.Flags.{isSet};
 ghost use Rattle.program.specs.Sizes.{maxRoutines};
 ghost use Rattle.program.specs.Decoded.{edgeView};
 ghost use Rattle.reach.specs.Configurations.{byteNumbers};
-ghost use Rattle.prune.specs.Parts.{rootKept, returnKept, entrySupports, returnSupports, callSupports};
+ghost use Rattle.prune.specs.Parts.{rootKept, callerKept, exitKept, rootReturns, returnKept};
+ghost use Rattle.prune.specs.Parts.{entrySupports, returnSupports, callSupports};
 ghost use Rattle.prune.specs.Parts.{transitionSupports, transitionsToTry, supports, PartOf};
 
 // Whether some root of the configurations from a number on is kept.
@@ -35,14 +38,66 @@ fn root_kept(kept: &[u8], base: usize) -> bool
     false
 }
 
-// Whether for some state the caller is kept with it, and the exit with it as its root.
-fn return_kept(kept: &[u8], caller: usize, exit: usize) -> bool
-    requires { ⌜ (caller < byteNumbers) × (exit < byteNumbers) ⌝ }
-    ensures { λ y. ⌜ y ≡ returnKept (now (kept .entry)) caller exit ⌝ }
+// Whether from some state the edge's call gives root r, and its source is kept in that state.
+fn caller_kept(next: &[u8], kept: &[u8], e: DecodedEdge, r: u8) -> bool
+    ensures { λ y. ⌜ y ≡ callerKept (now (next .entry)) (now (kept .entry)) (edgeView e) r ⌝ }
 {
-    let mut y: usize = 0;
-    while y < MAX_STATES {
-        if is_set(kept, caller + y) & is_set(kept, exit + ROOT_SPAN * y) {
+    let mut x: u8 = 0;
+    while x < MAX_STATES as u8 {
+        if may_go(next, x, e.label, r) && root_kept(kept, number_of(e.routine, e.source, 0, x)) {
+            return true;
+        }
+        x = x + 1;
+    }
+    false
+}
+
+// Whether for some state the exit from a number on is kept in it, and a return of label l leads from it to t. The
+// number is one of a configuration: hence the `requires`.
+fn exit_kept(next: &[u8], kept: &[u8], exit: usize, l: u8, t: u8) -> bool
+    requires { ⌜ exit < byteNumbers ⌝ }
+    ensures { λ y. ⌜ y ≡ exitKept (now (next .entry)) (now (kept .entry)) exit l t ⌝ }
+{
+    let mut x: u8 = 0;
+    while x < MAX_STATES as u8 {
+        if is_set(kept, exit + x as usize) && may_go(next, x, l, t) {
+            return true;
+        }
+        x = x + 1;
+    }
+    false
+}
+
+// Whether from state y the call of g gives some root with which g returns to state t. A routine past the sizes has no
+// labels: hence the `requires`.
+fn root_returns(next: &[u8], kept: &[u8], y: u8, g: u8, t: u8) -> bool
+    requires { ⌜ g < maxRoutines ⌝ }
+    ensures { λ z. ⌜ z ≡ rootReturns (now (next .entry)) (now (kept .entry)) y g t ⌝ }
+{
+    let mut s: u8 = 0;
+    while s < MAX_STATES as u8 {
+        if may_go(next, y, FIRST_CALL + g, s)
+            && exit_kept(next, kept, number_of(g, 1, s, 0), FIRST_RETURN + g, t)
+        {
+            return true;
+        }
+        s = s + 1;
+    }
+    false
+}
+
+// Whether for some state the caller from a number on is kept in it, and a call of g from it returns to state t. A
+// routine past the sizes never returns: it has no labels. The number is one of a configuration: hence the `requires`.
+fn return_kept(next: &[u8], kept: &[u8], caller: usize, g: u8, t: u8) -> bool
+    requires { ⌜ caller < byteNumbers ⌝ }
+    ensures { λ z. ⌜ z ≡ returnKept (now (next .entry)) (now (kept .entry)) caller g t ⌝ }
+{
+    if MAX_ROUTINES <= g as usize {
+        return false;
+    }
+    let mut y: u8 = 0;
+    while y < MAX_STATES as u8 {
+        if is_set(kept, caller + y as usize) && root_returns(next, kept, y, g, t) {
             return true;
         }
         y = y + 1;
@@ -50,41 +105,42 @@ fn return_kept(kept: &[u8], caller: usize, exit: usize) -> bool
     false
 }
 
-// A called entry has support where the call is made, whether it returns or not.
-fn entry_supports(kept: &[u8], e: DecodedEdge, c: Configuration) -> bool
+// A called entry has support where a call that gives its root is made, whether it returns or not.
+fn entry_supports(next: &[u8], kept: &[u8], e: DecodedEdge, c: Configuration) -> bool
     requires { ⌜ c .routine < maxRoutines ⌝ }
-    ensures { λ y. ⌜ y ≡ entrySupports (now (kept .entry)) (edgeView e) (c .routine) (c .node) (c .root) (c .state) ⌝ }
+    ensures { λ y. ⌜ y ≡ entrySupports (now (next .entry)) (now (kept .entry)) (edgeView e) (c .routine) (c .node)
+        (c .root) (c .state) ⌝ }
 {
     if (c.node == 0) & (c.root == c.state) & (e.label == FIRST_CALL + c.routine) {
-        let base = number_of(e.routine, e.source, 0, c.state);
-        return root_kept(kept, base);
+        return caller_kept(next, kept, e, c.root);
     }
     false
 }
 
-// After a call there is support where the caller and the exit of the called routine are kept.
-fn return_supports(kept: &[u8], e: DecodedEdge, c: Configuration) -> bool
-    ensures { λ y. ⌜ y ≡ returnSupports (now (kept .entry)) (edgeView e) (c .routine) (c .node) (c .root) (c .state) ⌝ }
+// After a call there is support where the caller is kept, and an exit of the called routine from which it returns.
+fn return_supports(next: &[u8], kept: &[u8], e: DecodedEdge, c: Configuration) -> bool
+    ensures { λ y. ⌜ y ≡ returnSupports (now (next .entry)) (now (kept .entry)) (edgeView e) (c .routine) (c .node)
+        (c .root) (c .state) ⌝ }
 {
     if (e.routine == c.routine) & (e.target == c.node) {
         if is_call(e.label) {
             let caller = number_of(c.routine, e.source, c.root, 0);
-            let exit = number_of(called_by(e.label), 1, 0, c.state);
-            return return_kept(kept, caller, exit);
+            return return_kept(next, kept, caller, called_by(e.label), c.state);
         }
         return false;
     }
     false
 }
 
-fn call_supports(kept: &[u8], e: DecodedEdge, c: Configuration) -> bool
+fn call_supports(next: &[u8], kept: &[u8], e: DecodedEdge, c: Configuration) -> bool
     requires { ⌜ c .routine < maxRoutines ⌝ }
-    ensures { λ y. ⌜ y ≡ callSupports (now (kept .entry)) (edgeView e) (c .routine) (c .node) (c .root) (c .state) ⌝ }
+    ensures { λ y. ⌜ y ≡ callSupports (now (next .entry)) (now (kept .entry)) (edgeView e) (c .routine) (c .node)
+        (c .root) (c .state) ⌝ }
 {
-    if entry_supports(kept, e, c) {
+    if entry_supports(next, kept, e, c) {
         return true;
     }
-    return_supports(kept, e, c)
+    return_supports(next, kept, e, c)
 }
 
 // A transition on the action to state q gives support where the configuration in the state before it is kept.
@@ -93,7 +149,7 @@ fn transition_supports(kept: &[u8], base: usize, action: u8, q: u8, key: u32) ->
     ensures { λ y. ⌜ y ≡ transitionSupports (now (kept .entry)) base action q key ⌝ }
 {
     let t = transition(key);
-    if (t.action == action as u32) & (t.after == q as u32) {
+    if (t.label == action as u32) & (t.after == q as u32) {
         return is_set(kept, base + t.before as usize);
     }
     false
@@ -112,29 +168,21 @@ fn transitions_to_try(e: DecodedEdge, f: u8, n: u8, count: usize) -> usize
     0
 }
 
-// The search ends at the first support found. The counts are those of the two tables, and the configuration is in
-// range: hence the `requires`.
-fn supported(
-    keys: &[u32],
-    m: usize,
-    transitions: &[u32],
-    k: usize,
-    kept: &[u8],
-    c: Configuration,
-) -> bool
-    requires { ⌜ (m ≤ length (now keys)) × (k ≤ length (now transitions)) × (c .routine < maxRoutines) ⌝ }
-    ensures { λ y. ⌜ y ≡ supports (now (keys .entry)) m (now (transitions .entry)) k (now (kept .entry)) (c .routine)
-        (c .node) (c .root) (c .state) ⌝ }
+// The search ends at the first support found. The configuration is in range: hence the `requires`.
+fn supported(keys: &[u32], transitions: &[u32], next: &[u8], kept: &[u8], c: Configuration) -> bool
+    requires { ⌜ c .routine < maxRoutines ⌝ }
+    ensures { λ y. ⌜ y ≡ supports (now (keys .entry)) (now (transitions .entry)) (now (next .entry)) (now (kept .entry))
+        (c .routine) (c .node) (c .root) (c .state) ⌝ }
 {
     let mut found = false;
     let mut i: usize = 0;
-    'scan: while i < m {
+    'scan: while i < keys.len() {
         let e = edge(keys[i]);
-        if call_supports(kept, e, c) {
+        if call_supports(next, kept, e, c) {
             found = true;
             break 'scan;
         }
-        let end = transitions_to_try(e, c.routine, c.node, k);
+        let end = transitions_to_try(e, c.routine, c.node, transitions.len());
         let base = number_of(c.routine, e.source, c.root, 0);
         let mut j: usize = 0;
         while j < end {
@@ -154,20 +202,18 @@ fn supported(
 // the part out of the table, and the configuration is in range: hence the `requires`.
 pub fn has_support(
     keys: &[u32],
-    m: usize,
     part: &[u32],
     transitions: &[u32],
-    k: usize,
+    next: &[u8],
     kept: &[u8],
     c: Configuration,
 ) -> bool
-    requires { ⌜ (m ≤ length (now keys)) × (k ≤ length (now transitions)) × (c .routine < maxRoutines) ⌝ }
-    requires { ⌜ PartOf (now keys) m (c .routine) (now part) ⌝ }
-    ensures { λ y. ⌜ y ≡ supports (now (keys .entry)) m (now (transitions .entry)) k (now (kept .entry)) (c .routine)
-        (c .node) (c .root) (c .state) ⌝ }
+    requires { ⌜ (c .routine < maxRoutines) × PartOf (now keys) (c .routine) (now part) ⌝ }
+    ensures { λ y. ⌜ y ≡ supports (now (keys .entry)) (now (transitions .entry)) (now (next .entry)) (now (kept .entry))
+        (c .routine) (c .node) (c .root) (c .state) ⌝ }
 {
     if (c.node == 0) & (c.root == c.state) {
-        return supported(keys, m, transitions, k, kept, c);
+        return supported(keys, transitions, next, kept, c);
     }
-    supported(part, part.len(), transitions, k, kept, c)
+    supported(part, transitions, next, kept, c)
 }

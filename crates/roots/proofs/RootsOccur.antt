@@ -5,15 +5,17 @@ use mathlib.Core.Logic.{_↔_, _≢_}
 use mathlib.Core.Bool.{Bool, true, false, cond, _&&_, not}
 use mathlib.Core.List.{List, List·Memᴰ}
 use native.Mathlib.Omega.{arith}
-use lib.Dec.{eqb, ltb}
+use lib.Dec.{eqb}
 use lib.ListN.{length, getD, take, replicate, length-replicate}
 use lib.Seq.{getD-take, length-take-le}
-use borrow.Author.Tests.{eqb-false, ne-eqb, ltb-true, lt-ltb, not-true}
-use Rattle.automaton.specs.Sizes.{maxStates}
-use Rattle.automaton.specs.Automaton.{moves}
+use borrow.Author.Tests.{eqb-false, ne-eqb, leb-true, not-true}
+use Rattle.automaton.specs.Sizes.{maxStates, firstCall}
+use Rattle.automaton.specs.Automaton.{Automaton, callOf, moves}
+use Rattle.automaton.specs.Flags.{nextPlace, Answers}
+use Rattle.automaton.specs.Decoded.{automatonOf}
 use Rattle.automaton.specs.declared.Event.the-variants.{Call}
 use Rattle.base.specs.Flags.{isSet, On}
-use Rattle.program.specs.Sizes.{marksSize}
+use Rattle.program.specs.Sizes.{maxRoutines, marksSize}
 use Rattle.program.specs.Program.{Edge, Program, isCall, calledBy}
 use Rattle.program.specs.Decoded.{programOf}
 use Rattle.program.specs.declared.DecodedProgram.{DecodedProgram}
@@ -24,7 +26,7 @@ use Rattle.reach.specs.Runs.{Moves}
 use Rattle.reach.specs.Marks.{Marked, Shows}
 use Rattle.base.proofs.SetFlags.{none-on}
 use Rattle.reach.proofs.Numbers.{number-fits, routine-of, root-of, state-of, root-small, state-small, first-node, first-range, root-place-fits, root-place-apart, entry-root}
-use Rattle.reach.proofs.ProgramInSizes.{sizes, call-stays, may-call}
+use Rattle.reach.proofs.ProgramInSizes.{sizes, after-small}
 use Rattle.base.specs.Filled.{Filled}
 use Rattle.worklist.proofs.AnalysisBegun.{take-min}
 use Rattle.base.proofs.BytesFilled.{filled-bits}
@@ -32,7 +34,7 @@ use Rattle.callgraph.proofs.FlagsClosed.{Obeys, Copy, One, obeys-set, obeys-cop
 use Rattle.callgraph.proofs.ComponentsFromFlags.{bit-small}
 use Rattle.callgraph.proofs.CallsByKey.{edgeAt, at-in, place-of, KeysOf, key-step, step-key}
 use Rattle.roots.specs.Roots.{Live, begun, called, LiveMarked}
-use Rattle.roots.specs.Parts.{RootFlags, callsThere, rootsByCall, rootsByEdge, rootsByEdges, rootsOfMain, keptByte}
+use Rattle.roots.specs.Parts.{RootFlags, rootsAfterCall, rootsWhenMarked, rootsByCall, rootsByEdge, rootsByEdges, rootsOfMain, keptByte}
 
 -- ---- bytes of the marks, as flags
 
@@ -52,19 +54,18 @@ entries-flagged marks w =
 
 -- ---- what the code does for an edge
 
-module _ {e k : Edge} (same : e ≡ k) (marks : List ℕ) (states : ℕ) (l : List ℕ) where
-  pub call-roots : {g : ℕ} {m : List ℕ} → isCall (e .label) ≡ true → g ≡ calledBy (e .label) → m ≡ rootsByCall marks states (e .routine) (e .source) g l
-      → m ≡ rootsByEdge marks states k l
+module _ {e k : Edge} (same : e ≡ k) (marks next l : List ℕ) where
+  pub call-roots : {m : List ℕ} → isCall (e .label) ≡ true → m ≡ rootsByCall marks next e l → m ≡ rootsByEdge marks next k l
   unfolding rootsByEdge
-  call-roots t is roots =
-      let whole : rootsByCall marks states (e .routine) (e .source) (calledBy (e .label)) l ≡ rootsByEdge marks states e l = rw t in
-      roots ∙ rw is whole ∙ ap (λ (x : Edge). rootsByEdge marks states x l) same
+  call-roots t roots =
+      let whole : rootsByCall marks next e l ≡ rootsByEdge marks next e l = rw t in
+      roots ∙ whole ∙ ap (λ (x : Edge). rootsByEdge marks next x l) same
 
-  pub no-call-roots : isCall (e .label) ≡ false → l ≡ rootsByEdge marks states k l
+  pub no-call-roots : isCall (e .label) ≡ false → l ≡ rootsByEdge marks next k l
   unfolding rootsByEdge
   no-call-roots t =
-      let none : l ≡ rootsByEdge marks states e l = rw t in
-      none ∙ ap (λ (x : Edge). rootsByEdge marks states x l) same
+      let none : l ≡ rootsByEdge marks next e l = rw t in
+      none ∙ ap (λ (x : Edge). rootsByEdge marks next x l) same
 
 -- ---- the roots that occur
 
@@ -79,20 +80,28 @@ module _ (p : Program) (marks : List ℕ) where
   from-place : {f r : ℕ} → r < maxStates → LiveAt p marks (rootPlace f r) → Live p (Marked marks) f r
   from-place {f} {r} h x = x f r h refl
 
--- the rule of a call: the states of the configurations there whose roots occur are roots
-abbrev pub CallRule : List ℕ → ℕ → ℕ → ℕ → ℕ → List ℕ → ℕ → Type 0
-CallRule marks states f n g = One (λ x. Copy (callsThere marks states f n x) (rootPlace f (rootOf x)) (rootPlace g (stateOf x))) nodeSpan 0
+-- the rule of a configuration: where it is marked and its root occurs, the states after the call's move are roots
+abbrev pub MarkedRule : List ℕ → List ℕ → Edge → ℕ → List ℕ → ℕ → Type 0
+MarkedRule marks next e x l j =
+    (isSet marks (number (e .routine) (e .source) (rootOf x) (stateOf x)) ≡ true)
+    × One (λ s. Copy (isSet next (nextPlace (stateOf x) (e .label) s)) (rootPlace (e .routine) (rootOf x)) (rootPlace (calledBy (e .label)) s))
+    maxStates 0 l j
 
 -- the rule of an edge
-abbrev pub RootsRule : List ℕ → ℕ → Edge → List ℕ → ℕ → Type 0
-RootsRule marks states e l j = (isCall (e .label) ≡ true) × CallRule marks states (e .routine) (e .source) (calledBy (e .label)) l j
+abbrev pub RootsRule : List ℕ → List ℕ → Edge → List ℕ → ℕ → Type 0
+RootsRule marks next e l j = (isCall (e .label) ≡ true) × One (MarkedRule marks next e) nodeSpan 0 l j
 
-abbrev pub RootsRules : List ℕ → ℕ → List ℕ → ℕ → List ℕ → ℕ → Type 0
-RootsRules marks states keys count = One (λ i. RootsRule marks states (edgeAt keys i)) count 0
+abbrev pub RootsRules : List ℕ → List ℕ → List ℕ → ℕ → List ℕ → ℕ → Type 0
+RootsRules marks next keys count = One (λ i. RootsRule marks next (edgeAt keys i)) count 0
 
-call-state : (p : Program) (q g s : ℕ) → Moves p q (Call g) s → q < p .automaton .states
-unfolding moves
-call-state p q g s h = ltb-true q (p .automaton .states) (both (ltb q (p .automaton .states)) (eqb q s) h .0)
+-- the table answers by the label of an edge that calls
+call-answer : {r : Automaton} {next : List ℕ} → Answers r next → (q a s : ℕ) → q < maxStates
+    → isCall a ≡ true → calledBy a < maxRoutines → s < maxStates
+    → isSet next (nextPlace q a s) ≡ moves r q (Call (calledBy a)) s
+call-answer w q a s hq t hg hs =
+    let low = leb-true firstCall a t in
+    let is : callOf (calledBy a) ≡ a = omega arith in
+    rw is at (w .answers q (Call (calledBy a)) s hq (omega (arith, hg)) hs)
 
 set-byte : (l : List ℕ) (j : ℕ) → isSet l j ≡ true → getD l j 0 ≢ 0
 set-byte l j e = eqb-false (getD l j 0) 0 (not-true (eqb (getD l j 0) 0) e)
@@ -100,55 +109,57 @@ set-byte l j e = eqb-false (getD l j 0) 0 (not-true (eqb (getD l j 0) 0) e)
 byte-set : (l : List ℕ) (j : ℕ) → getD l j 0 ≢ 0 → isSet l j ≡ true
 byte-set l j h = ap not (ne-eqb (getD l j 0) 0 h)
 
-module _ {p : Program} {keys : List ℕ} {count : ℕ} (o : KeysOf p keys count) (marks : List ℕ) where
-  abbrev states : ℕ
-  states = p .automaton .states
-
-  edge-obeys : (i : ℕ) → i < count → Obeys (LiveAt p marks) (RootsRule marks states (edgeAt keys i)) (rootsByEdge marks states (edgeAt keys i))
-  unfolding rootsByEdge
-  edge-obeys i h =
+module _ {p : Program} {keys next : List ℕ} {count : ℕ} (o : KeysOf p keys count) (w : Answers (p .automaton) next) (marks : List ℕ) where
+  marked-obeys : (i x : ℕ) → i < count → isCall (edgeAt keys i .label) ≡ true
+      → Obeys (LiveAt p marks) (MarkedRule marks next (edgeAt keys i) x) (rootsWhenMarked marks next (edgeAt keys i) x)
+  unfolding rootsWhenMarked
+  marked-obeys i x h t =
       let f = edgeAt keys i .routine in
       let n = edgeAt keys i .source in
-      let g = calledBy (edgeAt keys i .label) in
-      obeys-when {f = rootsByCall marks states f n g} (isCall (edgeAt keys i .label)) (λ t.
-      let s = key-step o i h t in
-      obeys-turns nodeSpan 0 (λ x low high.
-      obeys-copy (callsThere marks states f n x) (rootPlace f (rootOf x)) (rootPlace g (stateOf x)) (λ y z.
+      let a = edgeAt keys i .label in
       let r = rootOf x in
       let q = stateOf x in
-      let b = both (isSet marks (number f n r q)) (ltb q states) y in
-      let in-range : InRange f n r q = record {
-        routine = sizes p (o .well-formed) .routine s;
-        node = sizes p (o .well-formed) .source s;
-        root = root-small x;
-        state = state-small x;
-      } in
-      let m : Marked marks f n r q = (in-range, set-byte marks (number f n r q) (b .0)) in
-      to-place p marks (state-small x) (called (from-place p marks (root-small x) z) m s (may-call p q g (ltb-true q states (b .1)))))))
+      let step = key-step o i h t in
+      let z = sizes p (o .well-formed) in
+      obeys-when {f = rootsAfterCall next (rootPlace f r) q a} (isSet marks (number f n r q)) (λ y.
+      let in-range : InRange f n r q = record { routine = z .routine step; node = z .source step; root = root-small x; state = state-small x } in
+      let m : Marked marks f n r q = (in-range, set-byte marks (number f n r q) y) in
+      obeys-turns maxStates 0 (λ s low high.
+      let hs : s < maxStates = omega arith in
+      obeys-copy (isSet next (nextPlace q a s)) (rootPlace f r) (rootPlace (calledBy a) s) (λ v u.
+      let move : Moves p q (Call (calledBy a)) s = sym (call-answer w q a s (state-small x) t (z .called step) hs) ∙ v in
+      to-place p marks hs (called (from-place p marks (root-small x) u) m step move))))
 
-  pub edges-obey : Obeys (LiveAt p marks) (RootsRules marks states keys count) (rootsByEdges marks states keys count)
+  edge-obeys : (i : ℕ) → i < count → Obeys (LiveAt p marks) (RootsRule marks next (edgeAt keys i)) (rootsByEdge marks next (edgeAt keys i))
+  unfolding rootsByEdge
+  edge-obeys i h =
+      obeys-when {f = rootsByCall marks next (edgeAt keys i)} (isCall (edgeAt keys i .label)) (λ t.
+      obeys-turns nodeSpan 0 (λ x low high. marked-obeys i x h t))
+
+  pub edges-obey : Obeys (LiveAt p marks) (RootsRules marks next keys count) (rootsByEdges marks next keys count)
   edges-obey = obeys-turns count 0 (λ i low high. edge-obeys i (omega arith))
 
 -- ---- the start: the initial states
 
 -- the flags at the start are those of this program's initial states
-pub record Started (p : Program) (keys : List ℕ) (count states : ℕ) (l₀ : List ℕ) : Type 0 where
+pub record Started (p : Program) (keys : List ℕ) (count : ℕ) (next l₀ : List ℕ) : Type 0 where
   pub keyed : KeysOf p keys count
-  pub states-are : p .automaton .states ≡ states
+  pub answered : Answers (p .automaton) next
   pub list : List ℕ
   pub used : ℕ
   pub fits : used ≤ length list
   pub initial : p .automaton .initial ≡ take used list
   pub start : l₀ ≡ rootsOfMain list used (replicate rootsSize 0)
 
-pub started : (d : DecodedProgram) {keys : List ℕ} {count states : ℕ} {l₀ : List ℕ} → KeysOf (programOf d) keys count → d .automaton .states ≡ states
+pub started : (d : DecodedProgram) {keys : List ℕ} {count : ℕ} {next l₀ : List ℕ} → KeysOf (programOf d) keys count
+    → Answers (automatonOf (d .automaton)) next
     → length (d .automaton .initial .list) ≡ maxStates
     → l₀ ≡ rootsOfMain (d .automaton .initial .list) (min (d .automaton .initial .count) maxStates) (replicate rootsSize 0)
-    → Started (programOf d) keys count states l₀
-started d k e room z =
+    → Started (programOf d) keys count next l₀
+started d k w room z =
     record {
       keyed = k;
-      states-are = e;
+      answered = w;
       list = d .automaton .initial .list;
       used = min (d .automaton .initial .count) maxStates;
       fits = omega (arith, room);
@@ -156,7 +167,7 @@ started d k e room z =
       start = z;
     }
 
-module _ {p : Program} {keys : List ℕ} {count states : ℕ} {l₀ : List ℕ} (b : Started p keys count states l₀) (marks : List ℕ) where
+module _ {p : Program} {keys : List ℕ} {count : ℕ} {next l₀ : List ℕ} (b : Started p keys count next l₀) (marks : List ℕ) where
   initial-small : {q : ℕ} → List·Memᴰ q (p .automaton .initial) → q < maxStates
   initial-small m = omega (arith, sizes p (b .keyed .well-formed) .begun m, sizes p (b .keyed .well-formed) .states)
 
@@ -169,17 +180,15 @@ module _ {p : Program} {keys : List ℕ} {count states : ℕ} {l₀ : List ℕ} 
       in
       obeys-set (rootPlace 0 (getD (b .list) i 0)) (to-place p marks (initial-small m) (begun m)))
 
-  pub live-obeys : Obeys (LiveAt p marks) (RootsRules marks states keys count) (rootsByEdges marks states keys count)
-  live-obeys =
-      subst (λ (s : ℕ). Obeys (LiveAt p marks) (RootsRules marks s keys count) (rootsByEdges marks s keys count)) (b .states-are)
-      (edges-obey (b .keyed) marks)
+  pub live-obeys : Obeys (LiveAt p marks) (RootsRules marks next keys count) (rootsByEdges marks next keys count)
+  live-obeys = edges-obey (b .keyed) (b .answered) marks
 
-  pub live-start : Growing rootsSize (LiveAt p marks) (RootsRules marks states keys count) l₀ l₀ true
+  pub live-start : Growing rootsSize (LiveAt p marks) (RootsRules marks next keys count) l₀ l₀ true
   live-start =
       growing-start (ap length (b .start) ∙ main-obeys .size (replicate rootsSize 0) ∙ length-replicate {A = ℕ} rootsSize 0)
       (λ i x. main-obeys .sound (replicate rootsSize 0) (λ j y. none-on rootsSize y) i (subst (λ (y : List ℕ). On y i) (b .start) x))
 
-  pub live-flagged : {l : List ℕ} {more : Bool} → more ≡ false → Growing rootsSize (LiveAt p marks) (RootsRules marks states keys count) l₀ l more
+  pub live-flagged : {l : List ℕ} {more : Bool} → more ≡ false → Growing rootsSize (LiveAt p marks) (RootsRules marks next keys count) l₀ l more
       → RootFlags (Live p (Marked marks)) l
   live-flagged {l} e g =
       record {
@@ -200,31 +209,46 @@ module _ {p : Program} {keys : List ℕ} {count states : ℕ} {l₀ : List ℕ} 
           in
           g .kept .stays (rootPlace 0 q) (subst (λ (u : List ℕ). On u (rootPlace 0 q)) (sym (b .start)) o)
       set-for (called {f = f} {n = n} {r = r} {q = q} {g = g′} {s = s} v m h t) =
+          let z = sizes p (b .keyed .well-formed) in
           let y = step-key (b .keyed) h in
           let edge = edgeAt keys (y .place) in
           let hq : q < maxStates = m .0 .state in
           let hr : r < maxStates = m .0 .root in
-          let hg = sizes p (b .keyed .well-formed) .called h in
-          let low : q < states = subst (λ (k : ℕ). q < k) (b .states-are) (call-state p q g′ s t) in
-          let st = call-stays p q g′ s t in
-          let hs : s < maxStates = rw st hq in
+          let hg = z .called h in
+          let hs = after-small z q (Call g′) s t in
           let x = number 0 0 r q in
           let ur : rootOf x ≡ r = root-of (first-range hr hq) in
           let uq : stateOf x ≡ q = state-of (first-range hr hq) in
-          let on : isSet marks (number (edge .routine) (edge .source) r q) ≡ true = rw (← (y .caller), ← (y .source)) (byte-set marks (number f n r q) (m .1)) in
-          let test : callsThere marks states (edge .routine) (edge .source) x ≡ true = rw (ur, uq, on, lt-ltb q states low) in
+          let on : isSet marks (number (edge .routine) (edge .source) (rootOf x) (stateOf x)) ≡ true =
+          rw (ur, uq, ← (y .caller), ← (y .source)) (byte-set marks (number f n r q) (m .1))
+          in
+          let goes : isSet next (nextPlace (stateOf x) (edge .label) s) ≡ true =
+          rw uq (call-answer (b .answered) q (edge .label) s hq (y .is-call) (rw (y .called) at hg) hs ∙ (rw (y .called) at t))
+          in
           let root : On l (rootPlace (edge .routine) (rootOf x)) = rw (ur, ← (y .caller)) (set-for v) in
-          let to : rootPlace g′ s ≡ rootPlace (calledBy (edge .label)) (stateOf x) = rw (uq, ← (y .called), st) in
+          let to : rootPlace g′ s ≡ rootPlace (calledBy (edge .label)) s = ap (λ (u : ℕ). rootPlace u s) (y .called) in
           g .closed e (rootPlace g′ s)
           (record {
             turn = y .place;
             low = omega arith;
             high = omega (arith, y .within);
-            rule = (y .is-call, record { turn = x; low = omega arith; high = first-node hr hq; rule = record { passed = test; given = root; is = to } });
+            rule = (
+              y .is-call,
+              record {
+                turn = x;
+                low = omega arith;
+                high = first-node hr hq;
+                rule = (on, record { turn = s; low = omega arith; high = omega arith; rule = record { passed = goes; given = root; is = to } });
+              },
+            );
           })
           (root-place-fits g′ s hg hs)
 
 -- ---- the cut
+
+-- a byte of the cut, by the mark and the flag as they were
+pub kept-byte : {a b : ℕ} {x y : Bool} → a ≡ b → x ≡ y → _≡_ {A = ℕ} (cond (not (eqb a 0) && x) 1 0) (cond (not (eqb b 0) && y) 1 0)
+kept-byte s t = rw (s, t)
 
 one-true : (b : Bool) → _≡_ {A = ℕ} (cond b 1 0) 1 → b ≡ true
 one-true true x = refl

@@ -1,10 +1,10 @@
 -- What the functions over roots promise of each other; nothing here has to be believed.
 use Prim.Native.Nat.{ℕ}
-use mathlib.Core.Bool.{Bool, cond, _&&_}
+use mathlib.Core.Bool.{cond, _&&_}
 use mathlib.Core.List.{List}
-use lib.Dec.{ltb}
 use lib.ListN.{getD, set}
 use Rattle.automaton.specs.Sizes.{maxStates}
+use Rattle.automaton.specs.Flags.{nextPlace}
 use Rattle.base.specs.Flags.{isSet}
 use Rattle.program.specs.Sizes.{maxRoutines}
 use Rattle.program.specs.Program.{Edge, isCall, calledBy}
@@ -19,27 +19,31 @@ RootFlags R flags = Flagged rootPlace maxRoutines maxStates R flags
 
 -- ---- the roots that occur
 
--- the configuration at node n of f that has the root and the state of number x is marked, and its state is the
--- automaton's
-abbrev pub callsThere : List ℕ → ℕ → ℕ → ℕ → ℕ → Bool
-callsThere marks states f n x = isSet marks (number f n (rootOf x) (stateOf x)) && ltb (stateOf x) states
+-- the label a is that of a call, q is the state of a configuration and `from` the place of its root's flag: where this
+-- flag is set, the state s after the call's move is a root of the called routine
+abbrev pub copyRoot : List ℕ → ℕ → ℕ → ℕ → ℕ → List ℕ → List ℕ
+copyRoot next from q a s l = copyWhen (isSet next (nextPlace q a s)) from (rootPlace (calledBy a) s) l
 
--- it calls g: where its root occurs, its state is a root of g
-abbrev pub copyRoot : List ℕ → ℕ → ℕ → ℕ → ℕ → ℕ → List ℕ → List ℕ
-copyRoot marks states f n g x l =
-    copyWhen (callsThere marks states f n x) (rootPlace f (rootOf x)) (rootPlace g (stateOf x)) l
+-- every state after the move
+abbrev pub rootsAfterCall : List ℕ → ℕ → ℕ → ℕ → List ℕ → List ℕ
+rootsAfterCall next from q a l = inTurn (copyRoot next from q a) maxStates 0 l
 
--- what a call of g at node n of f adds to the roots that occur
-abbrev pub rootsByCall : List ℕ → ℕ → ℕ → ℕ → ℕ → List ℕ → List ℕ
-rootsByCall marks states f n g l = inTurn (copyRoot marks states f n g) nodeSpan 0 l
+-- the configuration at the edge's source that has the root and the state of number x, where it is marked
+unfoldable pub rootsWhenMarked : List ℕ → List ℕ → Edge → ℕ → List ℕ → List ℕ
+rootsWhenMarked marks next e x l =
+    cond (isSet marks (number (e .routine) (e .source) (rootOf x) (stateOf x)))
+    (rootsAfterCall next (rootPlace (e .routine) (rootOf x)) (stateOf x) (e .label) l) l
+
+-- what an edge that calls adds to the roots that occur
+abbrev pub rootsByCall : List ℕ → List ℕ → Edge → List ℕ → List ℕ
+rootsByCall marks next e l = inTurn (rootsWhenMarked marks next e) nodeSpan 0 l
 
 -- what an edge adds to them
-unfoldable pub rootsByEdge : List ℕ → ℕ → Edge → List ℕ → List ℕ
-rootsByEdge marks states e l =
-    cond (isCall (e .label)) (rootsByCall marks states (e .routine) (e .source) (calledBy (e .label)) l) l
+unfoldable pub rootsByEdge : List ℕ → List ℕ → Edge → List ℕ → List ℕ
+rootsByEdge marks next e l = cond (isCall (e .label)) (rootsByCall marks next e l) l
 
-abbrev pub rootsByEdges : List ℕ → ℕ → List ℕ → ℕ → List ℕ → List ℕ
-rootsByEdges marks states keys count l = inTurn (λ i. rootsByEdge marks states (edgeOf (getD keys i 0))) count 0 l
+abbrev pub rootsByEdges : List ℕ → List ℕ → List ℕ → ℕ → List ℕ → List ℕ
+rootsByEdges marks next keys count l = inTurn (λ i. rootsByEdge marks next (edgeOf (getD keys i 0))) count 0 l
 
 -- the roots of the main routine in the initial states
 abbrev pub rootsOfMain : List ℕ → ℕ → List ℕ → List ℕ

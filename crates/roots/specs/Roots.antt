@@ -15,8 +15,8 @@ use Rattle.reach.specs.Marks.{Marked}
 abbrev pub RootOf : List ℕ → ℕ → ℕ → Type 0
 RootOf roots f r = (f < maxRoutines) × (r < maxStates) × (getD roots (rootPlace f r) 0 ≢ 0)
 
--- the roots that occur, by the configurations of M: an initial state is one of the main routine, and so is the state of
--- a call of g, by a configuration whose own root occurs, one of g
+-- the roots that occur, by the configurations of M: an initial state is one of the main routine, and the state after a
+-- call's move, the call of g by a configuration whose own root occurs, is one of g
 pub data Live (p : Program) (M : Set) : ℕ → ℕ → Type 0 where
   begun : {q : ℕ} → List·Memᴰ q (p .automaton .initial) → Live p M 0 q
   called : {f n r q g m s : ℕ} → Live p M f r → M f n r q → HasStep p f n (Call g) m → Moves p q (Call g) s

@@ -1,12 +1,15 @@
 // The roots that occur: passes over the edges until nothing more is set.
 use crate::Roots;
 use automaton::States;
+use automaton::next::may_go;
+use automaton::next::next_states;
 use automaton::sizes::MAX_STATES;
 use base::flags::count_set;
 use base::flags::is_set;
 use base::flags::set_flag;
 use callgraph::flags::copy_when;
 use program::DecodedProgram;
+use program::edges::DecodedEdge;
 use program::edges::called_by;
 use program::edges::edge;
 use program::edges::is_call;
@@ -18,16 +21,20 @@ use reach::spans::NODE_SPAN;
 use reach::spans::ROOTS_SIZE;
 use tables::in_use;
 ghost use mathlib.Core.Path.{_≡_};
-ghost use Prim.Native.Nat.{min, _≤_};
+ghost use mathlib.Core.Bool.{true};
+ghost use Prim.Native.Nat.{min, _≤_, _<_};
 ghost use lib.Dec.{ltb};
 ghost use lib.ListN.{length};
 ghost use Rattle.automaton.specs.Sizes.{maxStates};
+ghost use Rattle.program.specs.Program.{isCall};
 ghost use Rattle.program.specs.WellFormed.{WellFormed};
-ghost use Rattle.program.specs.Decoded.{edgeOf, programOf};
+ghost use Rattle.program.specs.Decoded.{edgeOf, edgeView, programOf};
+ghost use Rattle.reach.specs.Sizes.{nodeSpan};
 ghost use Rattle.reach.specs.Marks.{Marked};
 ghost use Rattle.base.specs.Flags.{countSet};
 ghost use Rattle.roots.specs.Roots.{Live};
-ghost use Rattle.roots.specs.Parts.{RootFlags, rootsByCall, rootsByEdge, rootsByEdges, rootsOfMain};
+ghost use Rattle.roots.specs.Parts.{RootFlags, rootsOfMain, rootsAfterCall, rootsWhenMarked, rootsByCall};
+ghost use Rattle.roots.specs.Parts.{rootsByEdge, rootsByEdges};
 
 // The roots of the main routine in the initial states.
 fn roots_of_main(initial: States, live: &mut [u8])
@@ -43,53 +50,80 @@ fn roots_of_main(initial: States, live: &mut [u8])
     }
 }
 
-// A call of g at node n of f: the states of the configurations there whose roots occur are roots of g. The first
-// numbers have every root and state in turn. A state that the automaton does not have calls nothing.
-fn roots_by_call(marks: &[u8], states: u8, live: &mut [u8], f: u8, n: u8, g: u8)
-    ensures { λ _. ⌜ now (live .exit) ≡ rootsByCall (now (marks .entry)) states f n g (now (live .entry)) ⌝ }
+// What a configuration in state q adds by the label of a call, where the flag of its own root is set: every state after
+// the call's move is a root of the called routine. A call has the same label on an edge and for the automaton; an
+// action calls nothing: hence the `requires`.
+fn roots_after_call(next: &[u8], from: usize, q: u8, label: u8, live: &mut [u8])
+    requires { ⌜ isCall label ≡ true ⌝ }
+    ensures { λ _. ⌜ now (live .exit) ≡ rootsAfterCall (now (next .entry)) from q label (now (live .entry)) ⌝ }
+{
+    let g = called_by(label);
+    let mut s: u8 = 0;
+    while s < MAX_STATES as u8 {
+        let to = root_place(g, s);
+        copy_when(may_go(next, q, label, s), live, from, to);
+        s = s + 1;
+    }
+}
+
+// A configuration at the source of an edge that calls, with the root and the state of number x: the first numbers have
+// every root and state in turn, hence the `requires`.
+fn roots_when_marked(marks: &[u8], next: &[u8], e: DecodedEdge, x: usize, live: &mut [u8])
+    requires { ⌜ (isCall (e .label) ≡ true) × (x < nodeSpan) ⌝ }
+    ensures { λ _. ⌜ now (live .exit)
+        ≡ rootsWhenMarked (now (marks .entry)) (now (next .entry)) (edgeView e) x (now (live .entry)) ⌝ }
+{
+    let c = parts_of(x);
+    if is_set(marks, number_of(e.routine, e.source, c.root, c.state)) {
+        let from = root_place(e.routine, c.root);
+        roots_after_call(next, from, c.state, e.label, live);
+    }
+}
+
+// What an edge adds, by the configurations at its source. An action calls nothing: hence the `requires`.
+fn roots_by_call(marks: &[u8], next: &[u8], e: DecodedEdge, live: &mut [u8])
+    requires { ⌜ isCall (e .label) ≡ true ⌝ }
+    ensures { λ _. ⌜ now (live .exit)
+        ≡ rootsByCall (now (marks .entry)) (now (next .entry)) (edgeView e) (now (live .entry)) ⌝ }
 {
     let mut x: usize = 0;
     while x < NODE_SPAN {
-        let c = parts_of(x);
-        let marked = is_set(marks, number_of(f, n, c.root, c.state));
-        let from = root_place(f, c.root);
-        let to = root_place(g, c.state);
-        copy_when(marked & (c.state < states), live, from, to);
+        roots_when_marked(marks, next, e, x, live);
         x = x + 1;
     }
 }
 
-fn roots_by_edge(marks: &[u8], states: u8, live: &mut [u8], key: u32)
-    ensures { λ _. ⌜ now (live .exit) ≡ rootsByEdge (now (marks .entry)) states (edgeOf key) (now (live .entry)) ⌝ }
+fn roots_by_edge(marks: &[u8], next: &[u8], key: u32, live: &mut [u8])
+    ensures { λ _. ⌜ now (live .exit)
+        ≡ rootsByEdge (now (marks .entry)) (now (next .entry)) (edgeOf key) (now (live .entry)) ⌝ }
 {
     let e = edge(key);
     if is_call(e.label) {
-        let g = called_by(e.label);
-        roots_by_call(marks, states, live, e.routine, e.source, g);
+        roots_by_call(marks, next, e, live);
     }
 }
 
-fn roots_by_edges(marks: &[u8], states: u8, keys: &[u32], count: usize, live: &mut [u8])
+fn roots_by_edges(marks: &[u8], next: &[u8], keys: &[u32], count: usize, live: &mut [u8])
     requires { ⌜ count ≤ length (now keys) ⌝ }
-    ensures { λ _. ⌜ now (live .exit)
-        ≡ rootsByEdges (now (marks .entry)) states (now (keys .entry)) count (now (live .entry)) ⌝ }
+    ensures { λ _. ⌜ now (live .exit) ≡ rootsByEdges (now (marks .entry)) (now (next .entry))
+        (now (keys .entry)) count (now (live .entry)) ⌝ }
 {
     let mut i: usize = 0;
     while i < count {
-        roots_by_edge(marks, states, live, keys[i]);
+        roots_by_edge(marks, next, keys[i], live);
         i = i + 1;
     }
 }
 
 // One pass over the edges; whether it has set a flag more.
-fn roots_further(marks: &[u8], states: u8, keys: &[u32], count: usize, live: &mut [u8]) -> bool
+fn roots_further(marks: &[u8], next: &[u8], keys: &[u32], count: usize, live: &mut [u8]) -> bool
     requires { ⌜ count ≤ length (now keys) ⌝ }
-    ensures { λ r. ⌜ (now (live .exit)
-        ≡ rootsByEdges (now (marks .entry)) states (now (keys .entry)) count (now (live .entry)))
+    ensures { λ r. ⌜ (now (live .exit) ≡ rootsByEdges (now (marks .entry)) (now (next .entry))
+        (now (keys .entry)) count (now (live .entry)))
         × (r ≡ ltb (countSet (now (live .entry))) (countSet (now (live .exit)))) ⌝ }
 {
     let before = count_set(live);
-    roots_by_edges(marks, states, keys, count, live);
+    roots_by_edges(marks, next, keys, count, live);
     let after = count_set(live);
     before < after
 }
@@ -104,12 +138,13 @@ pub fn live_roots(p: DecodedProgram, marks: &[u8]) -> Roots
     let count = in_use(edges.count, MAX_EDGES);
     let automaton = p.automaton;
     let initial = automaton.initial;
-    let states = automaton.states;
+    let moves = next_states(automaton);
+    let next = moves.flags;
     let mut flags = [0u8; ROOTS_SIZE];
     roots_of_main(initial, &mut flags);
     let mut more = true;
     while more {
-        more = roots_further(marks, states, &keys, count, &mut flags);
+        more = roots_further(marks, &next, &keys, count, &mut flags);
     }
     Roots { flags }
 }

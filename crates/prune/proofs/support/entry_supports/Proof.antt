@@ -7,7 +7,7 @@ use Rattle.prune.proofs.support.entry_supports.Tie as tie
 
 returns : tie.Need-returns
 unfolding entrySupports
-returns c = rw (c .before .before .if1 .taken, ← (c .before .number-of .ensures .0)) (c .root-kept .ensures)
+returns c = rw (c .before .if1 .taken) (c .caller-kept .ensures)
 
 returns-2 : tie.Need-returns-2
 unfolding entrySupports
@@ -15,4 +15,4 @@ returns-2 c = rw (c .if1 .left) refl
 
 pub entry-supports-spec : {M : Type 1} → statement M
 entry-supports-spec =
-    tie.close (tie.spec (λ c. search needs) (λ c κs. search needs) (λ c κs. search needs) returns returns-2)
+    tie.close (tie.spec (λ c. search needs) (λ c κs. search needs) returns returns-2)

@@ -1,41 +1,54 @@
 -- `prune::support::return_kept` meets its contract. The loop's invariant: the states from `y` on decide.
+use mathlib.Core.Path.{refl, sym, _∙_}
+use mathlib.Core.Logic.{⊎-elim}
 use mathlib.Core.Bool.{_&&_}
-use Prim.Native.Nat.{_+_, _-_, _*_}
+use Prim.Native.Nat.{_+_, _-_}
+use borrow.Author.Tests.{lt-ltb, le-ltb}
+use Rattle.automaton.specs.Sizes.{maxStates}
 use Rattle.base.specs.Flags.{isSet}
-use Rattle.prune.specs.Parts.{returnKept}
-use Rattle.prune.proofs.SearchesAsk.{Trying, try-all, try-found, try-next, try-none}
+use Rattle.prune.specs.Parts.{rootReturns, returnKept}
+use Rattle.prune.proofs.SearchesAsk.{both-met, first-fails, second-fails, Trying, try-all, try-found, try-next, try-none}
 use borrow.Author.Needs.{needs}
 use Rattle.prune.proofs.support.return_kept.Statement.{statement}
 use Rattle.prune.proofs.support.return_kept.Tie as tie
 
 abbrev Inv-loop : tie.InvT-loop
-Inv-loop kept caller exit y₀ y = Trying (λ j. isSet kept (caller + j) && isSet kept (exit + 8 * j)) 8 y
+Inv-loop next kept caller g t y₀ y = Trying (λ j. isSet kept (caller + j) && rootReturns next kept j g t) maxStates y
 
 abbrev μ-loop : tie.MeasureT-loop
-μ-loop kept caller exit y₀ y = 8 - y
+μ-loop next kept caller g t y₀ y = maxStates - y
+
+returns : tie.Need-returns Inv-loop μ-loop
+unfolding returnKept
+returns c = rw (le-ltb _ _ (c .if1 .taken)) refl
 
 loop-holds : tie.Need-loop-holds Inv-loop μ-loop
 loop-holds c = try-all _ _
 
-returns : tie.Need-returns Inv-loop μ-loop
+returns-2 : tie.Need-returns-2 Inv-loop μ-loop
 unfolding returnKept
-returns c =
-    let p = c .before .before .before .before in
-    try-found (p .loop .inv) (c .before .before .before .loop-test .taken)
-    (rw (← (c .before .before .is-set .ensures), ← (c .before .is-set2 .ensures)) (c .if1 .taken))
+returns-2 c =
+    let found = c .before in
+    let there = found .before in
+    let asked = there .before in
+    let head = asked .before .before in
+    rw (lt-ltb _ _ (head .before .if1 .left))
+    (try-found (head .loop .inv) (asked .before .loop-test .taken)
+    (both-met (sym (asked .is-set .ensures) ∙ there .if2 .taken) (sym (found .root-returns .ensures) ∙ c .if3 .taken)))
 
 loop-again : tie.Need-loop-again Inv-loop μ-loop
 loop-again c =
-    let p = c .before .before .before .before in
-    try-next (p .loop .inv) (c .before .before .before .loop-test .taken)
-    (rw (← (c .before .before .is-set .ensures), ← (c .before .is-set2 .ensures)) (c .if1 .left))
+    let asked = c .before in
+    let on = sym (asked .is-set .ensures) in
+    try-next (asked .before .before .loop .inv) (asked .before .loop-test .taken)
+    (⊎-elim (λ w. second-fails (on ∙ w .0 .taken) (sym (w .1 .ensures) ∙ w .2 .left)) (λ w. first-fails _ (on ∙ w .left)) (c .if2 .came))
 
-returns-2 : tie.Need-returns-2 Inv-loop μ-loop
+returns-3 : tie.Need-returns-3 Inv-loop μ-loop
 unfolding returnKept
-returns-2 c = try-none (c .before .loop .inv) (c .loop-test .left)
+returns-3 c = rw (lt-ltb _ _ (c .before .before .if1 .left)) (try-none (c .before .loop .inv) (c .loop-test .left))
 
 pub return-kept-spec : {M : Type 1} → statement M
 return-kept-spec =
     tie.close
-    (tie.spec Inv-loop μ-loop loop-holds (λ c. search needs) (λ c κs. search needs) (λ c. search needs)
-    (λ c. search needs) (λ c κs. search needs) returns (λ c. search needs) (λ c. search needs) loop-again returns-2)
+    (tie.spec Inv-loop μ-loop returns loop-holds (λ c. search needs) (λ c. search needs) (λ c. search needs)
+    (λ c κs. search needs) (λ c κs. search needs) returns-2 (λ c. search needs) (λ c. search needs) loop-again returns-3)

@@ -11,12 +11,11 @@ called-by-requires c κs = let call = c .before in sym (call .before .is-call .e
 returns : tie.Need-returns
 unfolding returnSupports
 returns c =
-    let exit = c .before in
-    let called = exit .before in
+    let called = c .before in
     let caller = called .before in
     let call = caller .before in
     let asked = call .before in
-    rw (asked .before .if1 .taken, ← (asked .is-call .ensures), call .if2 .taken, ← (caller .number-of .ensures .0), ← (called .called-by .ensures), ← (exit .number-of2 .ensures .0))
+    rw (asked .before .if1 .taken, ← (asked .is-call .ensures), call .if2 .taken, ← (caller .number-of .ensures .0), ← (called .called-by .ensures))
     (c .return-kept .ensures)
 
 returns-2 : tie.Need-returns-2
@@ -30,5 +29,5 @@ returns-3 c = rw (c .if1 .left) refl
 pub return-supports-spec : {M : Type 1} → statement M
 return-supports-spec =
     tie.close
-    (tie.spec (λ c κs. search needs) (λ c κs. search needs) called-by-requires (λ c κs. search needs)
-    (λ c κs. search needs) returns returns-2 returns-3)
+    (tie.spec (λ c κs. search needs) (λ c κs. search needs) called-by-requires (λ c κs. search needs) returns returns-2
+    returns-3)

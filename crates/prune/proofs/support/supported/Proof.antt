@@ -2,63 +2,52 @@
 -- transitions from `j` on decide for the edge.
 use mathlib.Core.Path.{_≡_, refl, sym, ap, _∙_}
 use mathlib.Core.Bool.{false}
-use Prim.Native.Nat.{ℕ, _<_, _≤_, _-_}
+use Prim.Native.Nat.{_-_}
 use native.Mathlib.Omega.{arith}
+use native.Mathlib.Nat.{lt-of-lt-of-le}
 use lib.ListN.{length}
 use Rattle.base.proofs.EntriesInUse.{Left, found, passed, none-left}
 use Rattle.program.specs.Program.{Edge}
 use Rattle.program.specs.Decoded.{edgeOf}
 use Rattle.prune.specs.Parts.{anyKey, transitionSupports, edgeSupports, supports}
-use Rattle.prune.proofs.SearchesAsk.{asks-key}
+use Rattle.prune.proofs.SearchesAsk.{asks-key, all-keys}
 use Rattle.prune.proofs.EdgeScanned.{edge-calls, edge-is}
 use borrow.Author.Needs.{needs}
 use Rattle.prune.proofs.support.supported.Statement.{statement}
 use Rattle.prune.proofs.support.supported.Tie as tie
 
 abbrev Inv-loop : tie.InvT-loop
-Inv-loop keys m transitions k kept c found₀ i e end base j₀ found j =
-    (j ≤ end) × (found ≡ false) × Left (anyKey (transitionSupports kept base (e .label) (c .state))) transitions end j
+Inv-loop keys transitions next kept c found₀ i e end base j₀ found j =
+    (found ≡ false) × Left (anyKey (transitionSupports kept base (e .label) (c .state))) transitions end j
 
 abbrev μ-loop : tie.MeasureT-loop
-μ-loop keys m transitions k kept c found₀ i e end base j₀ found j = end - j
+μ-loop keys transitions next kept c found₀ i e end base j₀ found j = end - j
 
 abbrev Inv-scan : tie.InvT-scan
-Inv-scan keys m transitions k kept c found₀ i₀ found i =
-    (i ≤ m) × (found ≡ false) × Left (anyKey (λ key. edgeSupports kept transitions k (c .routine) (c .node) (c .root) (c .state) (edgeOf key))) keys m i
+Inv-scan keys transitions next kept c found₀ i₀ found i =
+    (found ≡ false)
+    × Left (anyKey (λ key. edgeSupports transitions next kept (c .routine) (c .node) (c .root) (c .state) (edgeOf key))) keys (length keys) i
 
 abbrev μ-scan : tie.MeasureT-scan
-μ-scan keys m transitions k kept c found₀ i₀ found i = m - i
+μ-scan keys transitions next kept c found₀ i₀ found i = length keys - i
 
 scan-holds : tie.Need-scan-holds Inv-loop μ-loop Inv-scan μ-scan
-scan-holds c = (search needs, refl, record { decide = refl })
+scan-holds c = (refl, record { decide = refl })
 
 loop-holds : tie.Need-loop-holds Inv-loop μ-loop Inv-scan μ-scan
-loop-holds c = (search needs, search needs, record { decide = refl })
+loop-holds c = (search needs, record { decide = refl })
 
 shared-slice-read-transition-supports :
     tie.Need-shared-slice-read-transition-supports Inv-loop μ-loop Inv-scan μ-scan
 shared-slice-read-transition-supports c = search needs
 
--- the start, at a head of the inner loop
-abbrev start-of : tie.At-loop Inv-loop μ-loop Inv-scan μ-scan → tie.Start Inv-loop μ-loop Inv-scan μ-scan
-start-of p =
-    let scan = p .before .before .before .before .before .before .before .before in
-    scan .before .before .before .before
-
--- an edge that is to be tried is in the table, and so is a transition
-edge-room : (start : tie.Start Inv-loop μ-loop Inv-scan μ-scan) {i : ℕ} → i < start .args .m → i < length (start .args .keys .now)
-edge-room start h = omega (arith, h, start .pre)
-
-transition-room : (start : tie.Start Inv-loop μ-loop Inv-scan μ-scan) {j end : ℕ} → end ≤ start .args .k → j < end → j < length (start .args .transitions .now)
-transition-room start few h = omega (arith, few, h, start .pre)
-
 loop-again : tie.Need-loop-again Inv-loop μ-loop Inv-scan μ-scan
 loop-again c =
     let p = c .before .before .before .before in
     let few = p .before .before .transitions-to-try .ensures .1 in
-    let start = start-of p in
     let more = c .before .before .before .loop-test .taken in
-    (omega (arith, more), p .loop .inv .1, passed (asks-key _) (p .loop .inv .2) more (transition-room start few more) (sym (c .before .transition-supports .ensures) ∙ c .if2 .left))
+    let none = sym (c .before .transition-supports .ensures) ∙ c .if2 .left in
+    (p .loop .inv .0, passed (asks-key _) (p .loop .inv .1) more (lt-of-lt-of-le more few) none)
 
 -- what the edge supports, said of its key
 by-key : {A : Type 0} (P : Edge → A) {e d : Edge} {x : A} → e ≡ d → P e ≡ x → P d ≡ x
@@ -72,24 +61,26 @@ scan-again c =
     let key = asked .before in
     let more = key .before .before .scan-test .taken in
     let scan = key .before .before .before .scan .inv in (
-      omega (arith, more),
-      p .loop .inv .1,
-      passed (asks-key _) (scan .2) more (edge-room (start-of p) more)
+      p .loop .inv .0,
+      passed (asks-key _) (scan .1) more more
           (by-key (edgeSupports _ _ _ _ _ _ _) (key .edge .ensures)
-          (sym (edge-is _ _ _ _ _ _ _ _ (sym (asked .call-supports .ensures) ∙ no-call .if1 .left) (p .before .before .transitions-to-try .ensures .0) (p .before .number-of .ensures .0))
-          ∙ sym (none-left (asks-key _) (p .loop .inv .2) (omega arith)))),
+          (sym (edge-is _ _ _ _ _ _ _ _ (sym (asked .call-supports .ensures) ∙ no-call .if1 .left)
+          (p .before .before .transitions-to-try .ensures .0) (p .before .number-of .ensures .0))
+          ∙ sym (none-left (asks-key _) (p .loop .inv .1) (omega arith)))),
     )
 
 returns : tie.Need-returns Inv-loop μ-loop Inv-scan μ-scan
 unfolding supports
-returns c = c .before .scan .inv .1 ∙ none-left (asks-key _) (c .before .scan .inv .2) (omega arith)
+returns c = c .before .scan .inv .0 ∙ all-keys _ _ (none-left (asks-key _) (c .before .scan .inv .1) (omega arith))
 
 returns-2 : tie.Need-returns-2 Inv-loop μ-loop Inv-scan μ-scan
 unfolding supports
 returns-2 c =
     let key = c .before .before in
-    found (asks-key _) (key .before .before .before .scan .inv .2) (omega arith) (omega arith)
-    (by-key (edgeSupports _ _ _ _ _ _ _) (key .edge .ensures) (edge-calls _ _ _ _ _ _ _ _ (sym (c .before .call-supports .ensures) ∙ c .if1 .taken)))
+    let more = key .before .before .scan-test .taken in
+    all-keys _ _
+    (found (asks-key _) (key .before .before .before .scan .inv .1) more more
+    (by-key (edgeSupports _ _ _ _ _ _ _) (key .edge .ensures) (edge-calls _ _ _ _ _ _ _ _ (sym (c .before .call-supports .ensures) ∙ c .if1 .taken))))
 
 returns-3 : tie.Need-returns-3 Inv-loop μ-loop Inv-scan μ-scan
 unfolding supports
@@ -100,10 +91,13 @@ returns-3 c =
     let key = asked .before in
     let more = key .before .before .scan-test .taken in
     let another = c .before .before .before .loop-test .taken in
-    found (asks-key _) (key .before .before .before .scan .inv .2) more (edge-room (start-of p) more)
+    let tried = p .before .before .transitions-to-try .ensures in
+    let one = sym (c .before .transition-supports .ensures) ∙ c .if2 .taken in
+    all-keys _ _
+    (found (asks-key _) (key .before .before .before .scan .inv .1) more more
     (by-key (edgeSupports _ _ _ _ _ _ _) (key .edge .ensures)
-    (sym (edge-is _ _ _ _ _ _ _ _ (sym (asked .call-supports .ensures) ∙ no-call .if1 .left) (p .before .before .transitions-to-try .ensures .0) (p .before .number-of .ensures .0))
-    ∙ sym (found (asks-key _) (p .loop .inv .2) another (transition-room (start-of p) (p .before .before .transitions-to-try .ensures .1) another) (sym (c .before .transition-supports .ensures) ∙ c .if2 .taken))))
+    (sym (edge-is _ _ _ _ _ _ _ _ (sym (asked .call-supports .ensures) ∙ no-call .if1 .left) (tried .0) (p .before .number-of .ensures .0))
+    ∙ sym (found (asks-key _) (p .loop .inv .1) another (lt-of-lt-of-le another (tried .1)) one))))
 
 pub supported-spec : {M : Type 1} → statement M
 supported-spec =

@@ -4,6 +4,7 @@ use Rattle.program.specs.Sizes.{marksSize}
 use Rattle.reach.proofs.Numbers.{parts-routine, parts-root}
 use Rattle.base.proofs.BytesFilled.{Filling, filling-none, filling-more, filling-all}
 use Rattle.roots.specs.Parts.{keptByte}
+use Rattle.roots.proofs.RootsOccur.{kept-byte}
 use borrow.Author.Needs.{needs}
 use native.Mathlib.Omega.{arith}
 use Prim.Native.Nat.{_-_}
@@ -29,7 +30,7 @@ loop-again c =
     let l = parts .before .before .loop in
     let flag = rw (place .root-place .ensures, parts-routine is, parts-root is) at (occurs .is-set .ensures) in
     let mark = l .inv .left (l .i) (omega arith) in
-    filling-more (l .inv) (omega arith) (c .both-set .ensures ∙ cc (flag, mark))
+    filling-more (l .inv) (omega arith) (c .both-set .ensures ∙ kept-byte mark flag)
 
 same-length : tie.Need-same-length Inv-loop μ-loop
 same-length c = c .before .loop .inv .len ∙ sym (c .before .before .before .before .pre)

@@ -9,63 +9,70 @@ use Rattle.callgraph.proofs.CallsByKey.{keys-of}
 use Rattle.roots.proofs.RootsOccur.{LiveAt, RootsRules, Started, started, live-obeys, live-start, live-flagged}
 use borrow.Author.Needs.{needs}
 use native.Mathlib.Omega.{arith}
-use mathlib.Core.Path.{_≡_, refl, sym, _∙_}
+use mathlib.Core.Path.{_≡_, sym, _∙_}
 use lib.ListN.{length}
 use Rattle.roots.proofs.live.live_roots.Statement.{statement}
 use Rattle.roots.proofs.live.live_roots.Tie as tie
 
 abbrev Inv-loop : tie.InvT-loop
-Inv-loop marks keys count states flags₀ more₀ flags more =
+Inv-loop marks keys count next flags₀ more₀ flags more =
     (length flags ≡ rootsSize)
-    × ((p : Program) → Started p keys count states flags₀ → Growing rootsSize (LiveAt p marks) (RootsRules marks states keys count) flags₀ flags more)
+    × ((p : Program) → Started p keys count next flags₀
+    → Growing rootsSize (LiveAt p marks) (RootsRules marks next keys count) flags₀ flags more)
 
 abbrev μ-loop : tie.MeasureT-loop
-μ-loop marks keys count states flags₀ more₀ flags more = left rootsSize flags more
+μ-loop marks keys count next flags₀ more₀ flags more = left rootsSize flags more
 
 room : (c : tie.Start Inv-loop μ-loop) → length (c .args .p .edges .keys) ≡ maxEdges
 room c = search needs
 
 loop-holds : tie.Need-loop-holds Inv-loop μ-loop
 loop-holds c =
-    let used = c .before .before .before .before .before in
+    let used = c .before .before .before .before .before .before .before in
     (c .before .roots-of-main .kept .1 .0, λ p b. live-start b (used .before .before .before .before .args .marks .now))
 
-slice-aggregate-roots-further-2 : tie.Need-slice-aggregate-roots-further-2 Inv-loop μ-loop
-slice-aggregate-roots-further-2 c = sym (c .before .before .before .loop .inv .0)
+slice-aggregate-roots-further-3 : tie.Need-slice-aggregate-roots-further-3 Inv-loop μ-loop
+slice-aggregate-roots-further-3 c = sym (c .before .before .before .before .loop .inv .0)
 
 roots-further-requires : tie.Need-roots-further-requires Inv-loop μ-loop
 roots-further-requires c κs =
-    let used = c .before .before .before .before .before .before .before .before .before in
+    let used = c .before .before .before .before .before .before .before .before .before .before .before .before in
     omega (arith, room (used .before .before .before .before), used .in-use .ensures)
 
 loop-less : tie.Need-loop-less Inv-loop μ-loop
 loop-less c =
-    let at = c .before .before .before .before .before in
+    let at = c .before .before .before .before .before .before in
     let begun = at .before .before in
-    let used = begun .before .before .before .before in
+    let moves = begun .before .before .before in
+    let used = moves .before .before .before in
     let z = used .before .before .before .before in
     let m = begun .roots-of-main .ensures in
-    let b = started (z .args .p) (keys-of (z .args .p) (z .pre) (room z) (used .in-use .ensures)) refl (m .0) (m .1) in
+    let k = keys-of (z .args .p) (z .pre) (room z) (used .in-use .ensures) in
+    let b = started (z .args .p) k (moves .next-states .ensures) (m .0) (m .1) in
     let e = c .before .roots-further .ensures in
-    growing-less (at .loop .inv .1 (programOf (z .args .p)) b) (live-obeys b (z .args .marks .now)) (c .before .before .before .before .loop-test .taken) (e .0) (e .1)
+    growing-less (at .loop .inv .1 (programOf (z .args .p)) b) (live-obeys b (z .args .marks .now))
+    (c .before .before .before .before .before .loop-test .taken) (e .0) (e .1)
 
 loop-again : tie.Need-loop-again Inv-loop μ-loop
 loop-again c =
-    let inv = c .before .before .before .before .before .loop .inv in
+    let inv = c .before .before .before .before .before .before .loop .inv in
     let e = c .before .roots-further .ensures in
     (c .before .roots-further .kept .1 .1 .1 .1 .0 ∙ inv .0, λ p b. growing-turn (inv .1 p b) (live-obeys b _) (e .0) (e .1))
 
 returns : tie.Need-returns Inv-loop μ-loop
 returns c =
     let begun = c .before .before .before in
-    let used = begun .before .before .before .before in
+    let moves = begun .before .before .before in
+    let used = moves .before .before .before in
     let z = used .before .before .before .before in
     let m = begun .roots-of-main .ensures in
-    let b = started (z .args .p) (keys-of (z .args .p) (z .pre) (room z) (used .in-use .ensures)) refl (m .0) (m .1) in
+    let k = keys-of (z .args .p) (z .pre) (room z) (used .in-use .ensures) in
+    let b = started (z .args .p) k (moves .next-states .ensures) (m .0) (m .1) in
     live-flagged b (z .args .marks .now) (c .loop-test .left) (c .before .loop .inv .1 (programOf (z .args .p)) b)
 
 pub live-roots-spec : {M : Type 1} → statement M
 live-roots-spec =
     tie.close
-    (tie.spec Inv-loop μ-loop (λ c κs. search needs) (λ c. search needs) (λ c κs. search needs) loop-holds
-    (λ c. search needs) slice-aggregate-roots-further-2 roots-further-requires loop-less loop-again returns)
+    (tie.spec Inv-loop μ-loop (λ c κs. search needs) (λ c κs. search needs) (λ c. search needs)
+    (λ c κs. search needs) loop-holds (λ c. search needs) (λ c. search needs) slice-aggregate-roots-further-3
+    roots-further-requires loop-less loop-again returns)

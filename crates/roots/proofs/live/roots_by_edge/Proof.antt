@@ -5,16 +5,15 @@ use Rattle.roots.proofs.RootsOccur.{call-roots, no-call-roots}
 use Rattle.roots.proofs.live.roots_by_edge.Statement.{statement}
 use Rattle.roots.proofs.live.roots_by_edge.Tie as tie
 
-called-by-requires : tie.Need-called-by-requires
-called-by-requires c κs = sym (c .before .is-call .ensures) ∙ c .if1 .taken
+roots-by-call-requires : tie.Need-roots-by-call-requires
+roots-by-call-requires c κs = sym (c .before .before .is-call .ensures) ∙ c .before .if1 .taken
 
 returns : tie.Need-returns
 returns c =
     let roots = c .before .before in
-    let called = roots .before .before in
-    let tested = called .before .before in
-    call-roots (tested .before .edge .ensures) _ _ _ (sym (tested .is-call .ensures) ∙ called .before .if1 .taken) (called .called-by .ensures)
-    (roots .roots-by-call .ensures)
+    let taken = roots .before .before in
+    let tested = taken .before in
+    call-roots (tested .before .edge .ensures) _ _ _ (sym (tested .is-call .ensures) ∙ taken .if1 .taken) (roots .roots-by-call .ensures)
 
 returns-2 : tie.Need-returns-2
 returns-2 c = no-call-roots (c .before .before .edge .ensures) _ _ _ (sym (c .before .is-call .ensures) ∙ c .if1 .left)
@@ -22,5 +21,5 @@ returns-2 c = no-call-roots (c .before .before .edge .ensures) _ _ _ (sym (c .be
 pub roots-by-edge-spec : {M : Type 1} → statement M
 roots-by-edge-spec =
     tie.close
-    (tie.spec (λ c κs. search needs) (λ c κs. search needs) called-by-requires (λ c κs. search needs)
-    (λ c. search needs) returns returns-2)
+    (tie.spec (λ c κs. search needs) (λ c κs. search needs) roots-by-call-requires (λ c. search needs) returns
+    returns-2)

@@ -11,16 +11,19 @@ use Rattle.roots.proofs.live.roots_by_edges.Statement.{statement}
 use Rattle.roots.proofs.live.roots_by_edges.Tie as tie
 
 abbrev Inv-loop : tie.InvT-loop
-Inv-loop marks states keys count live₀ i₀ live i = Turning (λ i. rootsByEdge marks states (edgeOf (getD keys i 0))) count live₀ i live
+Inv-loop marks next keys count live₀ i₀ live i = Turning (λ i. rootsByEdge marks next (edgeOf (getD keys i 0))) count live₀ i live
 
 abbrev μ-loop : tie.MeasureT-loop
-μ-loop marks states keys count live₀ i₀ live i = count - i
+μ-loop marks next keys count live₀ i₀ live i = count - i
 
 loop-holds : tie.Need-loop-holds Inv-loop μ-loop
 loop-holds c = turning-start _ _ _
 
 loop-again : tie.Need-loop-again Inv-loop μ-loop
-loop-again c = turning-turn (c .before .before .before .before .before .before .loop .inv) (omega arith) (c .before .before .roots-by-edge .ensures) (c .before .before .roots-by-edge .kept .1 .1 .0)
+loop-again c =
+    let added = c .before .before in
+    turning-turn (added .before .before .before .before .loop .inv) (omega arith) (added .roots-by-edge .ensures)
+    (added .roots-by-edge .kept .1 .1 .1 .0)
 
 same-length : tie.Need-same-length Inv-loop μ-loop
 same-length c = c .before .loop .inv .size
