@@ -6,7 +6,7 @@ use mathlib.Core.Option.{Option, none, some}
 use mathlib.Core.List.{List, [], _∷_, List·Memᴰ, List·Memᴰ·head, List·Memᴰ·not-nil}
 use Prim.Native.Nat.{ℕ}
 use native.Mathlib.Omega.{arith}
-use lib.ListN.{length, getD}
+use lib.ListN.{length}
 use Rattle.automaton.specs.Automaton.{isRejecting}
 use Rattle.program.specs.Program.{Program}
 use Rattle.program.specs.WellFormed.{WellFormed}
@@ -14,8 +14,8 @@ use Rattle.program.specs.declared.Verdict.{Verdict}
 use Rattle.program.specs.declared.Verdict.the-variants.{Accepted, Refused}
 use Rattle.program.specs.declared.Length.the-variants.{NotAsked, Of}
 use Rattle.program.proofs.ChecksPassed.{passes, few-checks}
-use Rattle.reach.specs.Configurations.{InRange, number, stateOf}
-use Rattle.reach.specs.Runs.{Activation, Run, Occurs}
+use Rattle.reach.specs.Configurations.{number}
+use Rattle.reach.specs.Runs.{Occurs}
 use Rattle.reach.specs.Worklist.{analysis}
 use Rattle.reach.specs.Marks.{Shows, freshMarks, violations, firstFrom}
 use Rattle.base.specs.Flags.{countSet}
@@ -28,7 +28,7 @@ use Rattle.reach.proofs.ViolationsExact.{listed-iff, next-violation, violations
 use Rattle.analysis.specs.Answers.{checkedMarks, analyzeBy, analyzeAnswer, analyzeRefusal, configurationCount, violationCount, iterationCount, onSuccess, marksAfter, owned, foundOf, foundBy, nextBy, nextAnswer, nextRefusal, nextFound}
 use Rattle.analysis.specs.declared.NextAnswer.{NextAnswer}
 use Rattle.analysis.proofs.AnswersByChecks.{by-marks}
-use Rattle.desk.specs.Entries.{Entry, analyze, next-violation as next-entry, Lent, Values, counts, Back, programIn, Gives}
+use Rattle.desk.specs.Entries.{analyze, next-violation as next-entry, Lent, Values, counts, Back, programIn, Gives}
 use Rattle.demands.specs.Demands.{Demand2, Safe, Next, least, nothing, Procedure}
 use Rattle.demands.proofs.RefusalsReturned.{both-ways}
 

@@ -17,7 +17,7 @@ use Rattle.program.specs.declared.Verdict.{Verdict}
 use Rattle.program.specs.declared.Verdict.the-variants.{Accepted, Refused}
 use Rattle.reach.specs.Marks.{freshMarks, violationsFrom}
 use Rattle.base.specs.Flags.{countSet}
-use Rattle.report.specs.Report.{violationFrame, countFrame, blockOf, refusedFile, tooLong, editsText, fileText, fileSize, inputText, benchText}
+use Rattle.report.specs.Report.{violationFrame, countFrame, blockOf, tooLong, editsText, fileText, fileSize, inputText, benchText}
 
 -- the digit 5 begins every block
 block-first : (p : Program) (marks more : List ℕ) → getD (blockOf p marks ++ more) 0 0 ≡ 0x35

@@ -5,13 +5,13 @@ use lib.Dec.{eqb}
 use mathlib.Core.List.{List, _∷_, List·Memᴰ, List·Memᴰ·head, List·Memᴰ·tail, List·Memᴰ·not-nil}
 use Rattle.text.specs.Hex.{hex}
 use Rattle.text.specs.Lines.{lines, numbers}
-use Rattle.automaton.specs.Automaton.{listed, moves}
+use Rattle.automaton.specs.Automaton.{listed, heard, moves}
 use Rattle.tables.specs.Keys.{member}
 use Rattle.program.specs.Reading.{judgeAs, judge, afterAs, after, readFrom, readFile}
 use Rattle.program.specs.Checks.{firstMet, checked}
 use Rattle.program.specs.Writing.{nodesFrames, framesOf, text, written}
 use Rattle.reach.specs.Configurations.{number, routineOf, nodeOf, rootOf, stateOf, none-set}
-use Rattle.reach.specs.Worklist.{lowest, mark, wake, markWhen, summary, onAction, onReturns, onLabel, labelWhen, onSteps, wakeRoots, calls, wakeWhen, wakeCallers, learn, takeFrom, takeAt, work, opened, analysis}
+use Rattle.reach.specs.Worklist.{lowest, mark, wake, markWhen, summary, onEvent, eventWhen, onReturns, rootWhen, onCall, onLabel, labelWhen, onSteps, wakeRoots, calls, wakeWhen, wakeStates, callerWhen, wakeCallers, learn, takeFrom, takeAt, work, opened, analysis}
 use Rattle.reach.specs.Marks.{violationsFrom}
 use Rattle.analysis.specs.Answers.{same, analyzeAnswer, marksAfter, workAfter}
 use Rattle.edit.specs.EditLines.{editFrom, readEdit}
@@ -24,7 +24,7 @@ use Rattle.program.specs.Sample.{bytes}
 use Rattle.desk.specs.Entries.{analyze, Back, analyzeBack, repairBack, programIn, repairedIn, Gives}
 use Rattle.demands.specs.Lists.{entry}
 use Rattle.demands.specs.Lists as repair
-use Rattle.demands.specs.Cases.{Fresh, Changed, Case, Said, lentFresh, Analyzed, lentChange, Repaired, RepairedBoth, Holds, P1, P2, P3, P4, P5, P6, P7, P8, P9, P10, E1, E2, E3, E4, table}
+use Rattle.demands.specs.Cases.{Fresh, Changed, Case, Said, lentFresh, Analyzed, lentChange, Repaired, RepairedBoth, Holds, P1, P2, P3, P4, P5, P6, P7, P8, P9, P10, E1, E2, E3, E4, H1, H2, H3, H4, H5, H6, table}
 use Rattle.demands.proofs.EntriesGive.{forward-gives, inside-out-gives}
 use Rattle.demands.proofs.OneAnswer.{one-number}
 use Rattle.demands.proofs.CasesReanalyzed.{p5-reanalyzed, p6-reanalyzed, e1-reanalyzed}
@@ -35,7 +35,7 @@ unfolding lines numbers judgeAs judge afterAs after readFrom readFile editFrom r
 editing = tt
 
 analyzing : Unit {0}
-unfolding listed moves member number routineOf nodeOf rootOf stateOf none-set lowest mark wake markWhen summary onAction onReturns onLabel labelWhen onSteps wakeRoots calls wakeWhen wakeCallers learn takeFrom takeAt work opened analysis violationsFrom
+unfolding listed heard moves member number routineOf nodeOf rootOf stateOf none-set lowest mark wake markWhen summary onEvent eventWhen onReturns rootWhen onCall onLabel labelWhen onSteps wakeRoots calls wakeWhen wakeStates callerWhen wakeCallers learn takeFrom takeAt work opened analysis violationsFrom
 analyzing = tt
 
 -- ---- what the functions give back for the rows
@@ -139,6 +139,30 @@ e4 : (k : ℕ) → Repaired E4 (changedBack E4 k)
 unfolding editing analyzing
 e4 k = record { refused = refl; marks = refl; size = refl; output = refl }
 
+h1 : Analyzed H1 (freshBack H1)
+unfolding editing analyzing
+h1 = record { accepted = refl; marks = refl; violating = (refl, refl); iterations = refl }
+
+h2 : Analyzed H2 (freshBack H2)
+unfolding editing analyzing
+h2 = record { accepted = refl; marks = refl; violating = (refl, refl); iterations = refl }
+
+h3 : Analyzed H3 (freshBack H3)
+unfolding editing analyzing
+h3 = record { accepted = refl; marks = refl; violating = (refl, refl); iterations = refl }
+
+h4 : Analyzed H4 (freshBack H4)
+unfolding editing analyzing
+h4 = record { accepted = refl; marks = refl; violating = (refl, refl); iterations = refl }
+
+h5 : (k : ℕ) → Repaired H5 (changedBack H5 k)
+unfolding editing analyzing
+h5 k = record { refused = refl; marks = refl; size = refl; output = refl }
+
+h6 : (k : ℕ) → Repaired H6 (changedBack H6 k)
+unfolding editing analyzing
+h6 k = record { refused = refl; marks = refl; size = refl; output = refl }
+
 -- ---- every row of the table holds
 
 -- the first of some rows, or a later one
@@ -152,4 +176,6 @@ every-row c =
     (at (by-repairs P5 p5 p5-routines) (at (by-repairs P6 p6 p6-routines) (at (by-analysis P7 p7)
     (at (by-repairs P8 p8 (λ a x. tt)) (at (by-repairs P9 p9 (λ a x. tt)) (at (by-repairs P10 p10 (λ a x. tt))
     (at (by-repairs E1 e1 e1-routines) (at (by-repairs E2 e2 (λ a x. tt)) (at (by-repairs E3 e3 (λ a x. tt)) (at (by-repairs E4 e4 (λ a x. tt))
-    (λ m. absurd (List·Memᴰ·not-nil m)))))))))))))))
+    (at (by-analysis H1 h1) (at (by-analysis H2 h2) (at (by-analysis H3 h3) (at (by-analysis H4 h4)
+    (at (by-repairs H5 h5 (λ a x. tt)) (at (by-repairs H6 h6 (λ a x. tt))
+    (λ m. absurd (List·Memᴰ·not-nil m)))))))))))))))))))))

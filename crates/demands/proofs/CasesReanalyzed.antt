@@ -7,7 +7,7 @@ use mathlib.Core.List.{List, [], _∷_, List·Memᴰ·head, List·Memᴰ·tail}
 use native.Mathlib.Omega.{arith}
 use native.Mathlib.Nat.{pow-le-pow-right, div-eq-of-lt}
 use Rattle.text.specs.Lines.{lines, numbers}
-use Rattle.automaton.specs.Automaton.{listed, moves}
+use Rattle.automaton.specs.Automaton.{listed, heard, moves}
 use Rattle.automaton.specs.declared.Event.{Event}
 use Rattle.automaton.specs.declared.Event.the-variants.{Action, Call}
 use Rattle.program.specs.Program.{Edge, Program}
@@ -37,8 +37,8 @@ withSteps es =
             states = 3;
             actions = 2;
             transitions =
-                record { before = 0; action = 0; after = 1 } ∷ record { before = 0; action = 1; after = 2 }
-                ∷ record { before = 1; action = 0; after = 1 } ∷ record { before = 1; action = 1; after = 1 } ∷ [];
+                record { before = 0; label = 0; after = 1 } ∷ record { before = 0; label = 1; after = 2 }
+                ∷ record { before = 1; label = 0; after = 1 } ∷ record { before = 1; label = 1; after = 1 } ∷ [];
             initial = 0 ∷ [];
             rejecting = 2 ∷ [];
           };
@@ -102,12 +102,12 @@ no-exit (by-return d s m b k t) f n = absurd (omega (arith, main-steps s))
 
 -- in F some run enters routine 1 in state 0
 entered : Reachable whole 1 0 0 0
-unfolding moves listed
+unfolding moves listed heard
 entered = by-call (seeded (initial (List·Memᴰ·head refl)) tt) (List·Memᴰ·head refl) refl tt
 
 -- and arrives at its exit in state 1
 left : Reachable whole 1 1 0 1
-unfolding moves listed
+unfolding moves listed heard
 left = by-action entered (List·Memᴰ·tail (List·Memᴰ·tail (List·Memᴰ·head refl))) refl tt
 
 -- so its summaries have changed

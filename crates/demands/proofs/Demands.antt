@@ -4,6 +4,9 @@ use mathlib.Core.Logic.{_↔_, _≢_}
 use mathlib.Core.List.{List, [], _∷_, flatten, List·Memᴰ}
 use Prim.Native.Nat.{ℕ, _<_}
 use lib.ListN.{length, take}
+use Rattle.automaton.specs.Automaton.{Automaton, moves}
+use Rattle.automaton.specs.declared.Event.{Event}
+use Rattle.automaton.specs.declared.Event.the-variants as event
 use Rattle.program.specs.Program.{Program}
 use Rattle.program.specs.Reading.{readFile, rowsIn}
 use Rattle.program.specs.declared.Verdict.the-variants.{Accepted}
@@ -24,7 +27,7 @@ use Rattle.transcript.proofs.TurnsHold.{turns-print}
 use Rattle.desk.specs.Entries.{Entry, read, write, analyze, next-violation, prune, repair-forward, Lent, Back, programIn, Gives}
 use Rattle.demands.specs.Lists.{Repair, Call, entry, wrote, Gave}
 use Rattle.demands.specs.Inputs.{SameInputs}
-use Rattle.demands.specs.Demands.{Demand1, Acceptance, withWritten, WrittenFile, ChangedFile, Tabulated, Demand2, Safe, Next, Procedure, Demand3, keepingOf}
+use Rattle.demands.specs.Demands.{Demand1, Acceptance, withWritten, WrittenFile, ChangedFile, Tabulated, Demand2, Safe, Next, Procedure, Heeds, OnActions, movesBefore, Demand3, keepingOf}
 use Rattle.demands.specs.Cases.{Case, Holds, table}
 use Rattle.demands.proofs.RefusalsReturned.{gives-demanded}
 use Rattle.demands.proofs.OneAnswer.{given-once}
@@ -32,6 +35,7 @@ use Rattle.demands.proofs.FilesAccepted.{file-acceptance, comes-back, w
 use Rattle.demands.proofs.ChangesAccepted.{changed-files}
 use Rattle.demands.proofs.BenchTooLong.{too-long}
 use Rattle.demands.proofs.AnalysisAnswers.{analyzed-exact, count-safe, next-given, procedure-ends}
+use Rattle.demands.proofs.EventsHeeded.{call-heeded, return-heeded, as-before}
 use Rattle.demands.proofs.PruneKeeps.{pruned, drop-kept}
 use Rattle.demands.proofs.PassDepends.{depends}
 use Rattle.demands.proofs.ListsNeverDrift.{list-demanded}
@@ -91,9 +95,20 @@ no-violation = count-safe
 pub next-one : (b : Lent) (a : Back) → Gives next-violation b a → a .refusal ≡ 0 → Next (programIn b) (b .from) (a .values .found)
 next-one = next-given
 
--- the procedure ends, and no configuration is taken more than 129 times
+-- the procedure ends, and no configuration is taken more than 1,025 times
 pub procedure : (b : Lent) (a : Back) → Gives analyze b a → a .refusal ≡ 0 → Procedure (programIn b) a
 procedure = procedure-ends
+
+-- the moves by a call of f, and those by a return from it: without a rule line of that label the state stays, else only the listed moves happen
+pub calls-heard : (r : Automaton) (f : ℕ) → Heeds r (event.Call f)
+calls-heard = call-heeded
+
+pub returns-heard : (r : Automaton) (f : ℕ) → Heeds r (event.Return f)
+returns-heard = return-heeded
+
+-- for a rule without a line for a call or a return the moves are what they were
+pub moves-as-before : (r : Automaton) → OnActions r → (q : ℕ) (e : Event) (s : ℕ) → moves r q e s ≡ movesBefore r q e s
+moves-as-before = as-before
 
 -- ---- demand 3
 
@@ -117,6 +132,6 @@ pub pass-depends : {members : List ℕ} {p p′ : Program} {old old′ marks mar
     → Marked after f n r q ↔ Marked after′ f n r q
 pass-depends = depends
 
--- ---- the cases P1 to P10, and E1 to E4 for exchanges, rows of one table
+-- ---- the cases P1 to P10, E1 to E4 for exchanges, and H1 to H6 for calls and returns that the rule hears, rows of one table
 pub cases : (c : Case) → List·Memᴰ c table → Holds c
 cases = every-row

@@ -5,6 +5,7 @@ pub mod OneAnswer
 pub mod FilesAccepted
 pub mod AnalysisAnswers
 pub mod BenchTooLong
+pub mod EventsHeeded
 pub mod PassDepends
 pub mod EntriesGive
 pub mod ChangesAccepted

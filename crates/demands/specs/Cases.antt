@@ -1,5 +1,5 @@
--- The paper's cases P1 to P10, and E1 to E4 for exchanges of a routine, each from the bytes of its file, and of its
--- edit line or text where it has one: one table.
+-- The paper's cases P1 to P10, E1 to E4 for exchanges of a routine, and H1 to H6 for calls and returns that the rule
+-- hears, each from the bytes of its file, and of its edit line or text where it has one: one table.
 use mathlib.Core.Path.{_≡_}
 use mathlib.Core.Option.{Option, none, some}
 use mathlib.Core.List.{List, [], _∷_, _++_}
@@ -270,8 +270,84 @@ E4 = record {
   reanalyzed = none;
 }
 
+-- ---- calls and returns that the rule hears
+
+-- F with these lines in the place of its transitions, and so many frames
+abbrev hearing : List String → String → List String
+hearing lines end = header ++ edges ++ lines ++ "4900" ∷ "4602" ∷ end ∷ []
+
+-- H1: a call of routine 1 leads from state 0 to 1: the root is the state after the call's move
+abbrev pub H1 : Fresh
+H1 =
+    record {
+      file = hearing ("54000001" ∷ "54000102" ∷ "54004101" ∷ "54010001" ∷ "54010101" ∷ []) "45000D";
+      configurations = some (0 ∷ 65 ∷ 129 ∷ 1033 ∷ 1097 ∷ []);
+      violating = some [];
+      iterations = some 6;
+    }
+
+-- H2: a call of routine 1 is heard, and not from state 0: no call is made
+abbrev pub H2 : Fresh
+H2 =
+    record {
+      file = hearing ("54000001" ∷ "54000102" ∷ "54010001" ∷ "54010101" ∷ "54014101" ∷ []) "45000D";
+      configurations = some (0 ∷ []);
+      violating = some [];
+      iterations = some 1;
+    }
+
+-- H3: a return from routine 1 leads from state 1 to 0 and to 2: the summary (0, 1) ends before it
+abbrev pub H3 : Fresh
+H3 =
+    record {
+      file = hearing ("54000001" ∷ "54000102" ∷ "54010001" ∷ "54010101" ∷ "54016100" ∷ "54016102" ∷ []) "45000E";
+      configurations = some (0 ∷ 66 ∷ 128 ∷ 130 ∷ 1024 ∷ 1089 ∷ []);
+      violating = some (66 ∷ 130 ∷ []);
+      iterations = some 7;
+    }
+
+-- H4: a return from routine 1 is heard, and not from state 1: nothing comes back, and yet the caller is taken again
+abbrev pub H4 : Fresh
+H4 =
+    record {
+      file = hearing ("54000001" ∷ "54000102" ∷ "54006100" ∷ "54010001" ∷ "54010101" ∷ []) "45000D";
+      configurations = some (0 ∷ 1024 ∷ 1089 ∷ []);
+      violating = some [];
+      iterations = some 4;
+    }
+
+-- H5: dropping 01 00 00 01 from H1's program leaves the entry with the root that the call's move gives
+abbrev pub H5 : Changed
+H5 =
+    record {
+      file = H1 .file;
+      before = 0 ∷ 65 ∷ 129 ∷ 1033 ∷ 1097 ∷ [];
+      form = EditLine;
+      text = "2D01000001" ∷ [];
+      refused = 0;
+      after = 0 ∷ 1033 ∷ [];
+      wrote =
+          header ++ "5300004102" ∷ "5300020101" ∷ "54000001" ∷ "54000102" ∷ "54004101" ∷ "54010001" ∷ "54010101"
+          ∷ "4900" ∷ "4602" ∷ "45000C" ∷ [];
+      reanalyzed = none;
+    }
+
+-- H6: a return's label is no step's: 13
+abbrev pub H6 : Changed
+H6 = record {
+  file = F;
+  before = ofF;
+  form = EditLine;
+  text = "2B00026101" ∷ [];
+  refused = 13;
+  after = ofF;
+  wrote = [];
+  reanalyzed = none;
+}
+
 -- ---- the table
 
 abbrev pub table : List Case
 table = fresh P1 ∷ fresh P2 ∷ fresh P3 ∷ fresh P4 ∷ changed P5 ∷ changed P6 ∷ fresh P7 ∷ changed P8
-    ∷ changed P9 ∷ changed P10 ∷ changed E1 ∷ changed E2 ∷ changed E3 ∷ changed E4 ∷ []
+    ∷ changed P9 ∷ changed P10 ∷ changed E1 ∷ changed E2 ∷ changed E3 ∷ changed E4
+    ∷ fresh H1 ∷ fresh H2 ∷ fresh H3 ∷ fresh H4 ∷ changed H5 ∷ changed H6 ∷ []

@@ -2,12 +2,16 @@
 -- and of what they give back.
 use mathlib.Core.Path.{_≡_}
 use mathlib.Core.Logic.{_↔_, _≢_, _⊎_}
-use mathlib.Core.Bool.{true, false}
+use mathlib.Core.Bool.{Bool, true, false, _&&_}
 use mathlib.Core.List.{List, [], map, List·Memᴰ}
 use Prim.Native.Nat.{ℕ, _≤_, _<_}
+use lib.Dec.{ltb, eqb}
 use lib.ListN.{getD, length}
 use Rattle.program.specs.Sizes.{marksSize, outputSize}
-use Rattle.automaton.specs.Automaton.{listed, isRejecting}
+use Rattle.automaton.specs.Sizes.{firstCall}
+use Rattle.automaton.specs.Automaton.{Transition, Automaton, labelOf, listed, moves, isRejecting}
+use Rattle.automaton.specs.declared.Event.{Event}
+use Rattle.automaton.specs.declared.Event.the-variants as event
 use Rattle.rows.specs.Rows.{TableRow, meets, timesMet}
 use Rattle.program.specs.Program.{Program}
 use Rattle.program.specs.WellFormed.{WellFormed}
@@ -132,11 +136,33 @@ pub data Next (p : Program) (low : ℕ) : ℕ → Type 0 where
   nothing : ((w : ℕ) → Violation p w → w < low) → Next p low 4294967295
 
 -- the full analysis ends with nothing pending, its iterations are the takings of the procedure, and no configuration is
--- taken more than 129 times
+-- taken more than 1,025 times
 pub record Procedure (p : Program) (a : Back) : Type 0 where
   pub ends : analysis p .pending ≡ none-set
   pub iterations : a .values .iterations ≡ length (takenIn p)
-  pub at-most : (i : ℕ) → times i (takenIn p) ≤ 129
+  pub at-most : (i : ℕ) → times i (takenIn p) ≤ 1025
+
+-- ---- the moves of a run, where the rule hears calls and returns
+
+-- of the moves by a call or a return
+pub record Heeds (r : Automaton) (e : Event) : Type 0 where
+  -- without a transition of such a label (paper: a rule line) the event leaves every state alone
+  pub unheard : ((t : Transition) → List·Memᴰ t (r .transitions) → t .label ≢ labelOf e)
+      → (q s : ℕ) → (moves r q e s ≡ true) ↔ ((q < r .states) × (q ≡ s))
+  -- with one or more, only the listed moves happen
+  pub heard : (t : Transition) → List·Memᴰ t (r .transitions) → t .label ≡ labelOf e
+      → (q s : ℕ) → (moves r q e s ≡ true)
+      ↔ List·Memᴰ (record { before = q; label = labelOf e; after = s }) (r .transitions)
+
+-- every transition is on an action, as in every file from before the rule heard calls and returns
+abbrev pub OnActions : Automaton → Type 0
+OnActions r = (t : Transition) → List·Memᴰ t (r .transitions) → t .label < firstCall
+
+-- the moves by a rule that sees actions and not calls or returns
+abbrev pub movesBefore : Automaton → ℕ → Event → ℕ → Bool
+movesBefore r q (event.Action a) s = listed q a s (r .transitions)
+movesBefore r q (event.Call f) s = ltb q (r .states) && eqb q s
+movesBefore r q (event.Return f) s = ltb q (r .states) && eqb q s
 
 -- ---- demand 3: for every list of forward and inside-out repair calls, by edit lines and by exchanges of routines,
 -- refused ones among them, the sheet is byte for byte the one worked afresh from the program as a plain reference model
