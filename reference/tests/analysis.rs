@@ -6,23 +6,26 @@
 mod desk;
 
 use desk::lent::{self, Lending, Lent};
-use reference::cases::{self, sample};
+use reference::cases;
 use reference::generate::classes::{Class, MetClasses};
 use reference::generate::files::file_of_seed;
+use reference::generate::hearing::{Heard, MetHearing};
 use reference::generate::met::Met;
-use reference::generate::programs::{hub, program_of_seed, program_of_shape};
+use reference::generate::programs::{
+    hub, hub_of_roots, hub_without_returns, program_of_seed, program_of_shape,
+};
 use reference::generate::random::Random;
 use reference::generate::shapes::SHAPES;
 use reference::generate::sheets::{foreign, wrong_lengths, FOREIGN};
 use reference::generate::tables::{complete_file, file_with_rows_of_seed};
-use reference::model::analysis::{self, own_sheet, Analysis, Analyzed, NONE};
+use reference::model::analysis::{self, Analysis, Analyzed, NONE};
 use reference::model::calls::sheets::{analyze_answer, next_answer, Counts};
 use reference::model::calls::Answer;
 use reference::model::file::{self, Reading};
 use reference::model::refusals::{
     BAD_LINE, FOREIGN_SHEET, PAIR_MET_TWICE, PAIR_NOT_MET, SHEET_LENGTH, WORK_LENGTH,
 };
-use reference::model::standing::{marked, SHEET_SIZE};
+use reference::model::standing::SHEET_SIZE;
 use reference::model::write::{write, OUTPUT_SIZE};
 
 /// How often each refusal and each outcome has to be met, so that agreeing on it means something.
@@ -56,6 +59,8 @@ struct Tally {
     foreign: [usize; FOREIGN],
     /// Files with rows.
     classes: MetClasses,
+    /// Programs by what their rule hears.
+    hearing: MetHearing,
 }
 
 /// One file with the reference's answer, and where all that varies comes from.
@@ -217,6 +222,9 @@ fn compare(case: &mut Case, tally: &mut Tally) {
         }
     }
     note(&answer, tally);
+    if let (Ok(program), Ok(analysis)) = (&case.reading, &case.analyzed) {
+        tally.hearing.note(program, &analysis.sheet);
+    }
     tally.classes.note(&case.file, &case.reading);
 }
 
@@ -257,7 +265,9 @@ fn programs_of_many_seeds_agree() {
         assert!(times >= OFTEN, "outcome {place} was met {times} times only");
     }
     assert!(tally.programs >= 5000 && tally.lists >= 1000);
-    assert!(tally.over_1000_standings >= 150 && tally.over_5000_standings >= 20);
+    assert!(tally.over_1000_standings >= 150 && tally.over_5000_standings >= 15);
+    tally.hearing.check(150);
+    assert!(tally.hearing.times(Heard::Nothing) >= 1_500, "{tally:?}");
 }
 
 #[test]
@@ -290,7 +300,11 @@ fn rows_and_the_lines_written_for_them_are_analyzed_alike() {
         let mut in_lines = vec![0; OUTPUT_SIZE];
         let answer = desk::write(&in_rows, &mut in_lines);
         in_lines.truncate(answer.value as usize);
-        assert_eq!(worked(&in_rows), worked(&in_lines), "seed {seed}");
+        assert_eq!(
+            desk::worked(&in_rows),
+            desk::worked(&in_lines),
+            "seed {seed}"
+        );
     }
 }
 
@@ -308,8 +322,14 @@ fn every_shape_agrees() {
             compare(&mut Case::new(name, file, seed), &mut tally);
         }
     }
-    let mut hub = Case::new("hub".to_string(), write(&hub()), 0);
-    compare(&mut hub, &mut tally);
+    for (name, hub) in [
+        ("hub", hub()),
+        ("hub of roots", hub_of_roots()),
+        ("hub without returns", hub_without_returns()),
+    ] {
+        let mut hub = Case::new(name.to_string(), write(&hub), 0);
+        compare(&mut hub, &mut tally);
+    }
     println!("shapes: {tally:?}");
 }
 
@@ -321,94 +341,4 @@ fn named_files_agree() {
         compare(&mut case, &mut tally);
     }
     println!("named files: {tally:?}");
-}
-
-/// A fresh working by the library alone: the marked numbers and the three counts.
-fn worked(file: &[u8]) -> (Vec<usize>, Counts) {
-    let (mut marks, mut work) = (vec![0xA5; SHEET_SIZE], vec![0x5A; SHEET_SIZE]);
-    let answer = desk::analyze(file, &mut marks, &mut work);
-    assert_eq!((answer.refusal, answer.line), (0, 0));
-    assert!(marks.iter().all(|&byte| byte <= 1));
-    assert!(work.iter().all(|&byte| byte == 0));
-    (marked(&marks), answer.value)
-}
-
-/// The list of findings by the library alone.
-fn listed(file: &[u8]) -> Vec<u32> {
-    let (mut marks, mut work) = (vec![0; SHEET_SIZE], vec![0; SHEET_SIZE]);
-    desk::analyze(file, &mut marks, &mut work);
-    let mut found = Vec::new();
-    loop {
-        let from = found.last().map_or(0, |&last| last + 1);
-        let answer = desk::next_violation(file, &marks, &mut work, from);
-        assert_eq!((answer.refusal, answer.line), (0, 0));
-        if answer.value == NONE {
-            return found;
-        }
-        assert!(answer.value >= from, "{} from {from}", answer.value);
-        found.push(answer.value);
-    }
-}
-
-#[test]
-fn cases_worked_out_by_hand() {
-    for case in cases::analyses::all() {
-        let counts = Counts {
-            standings: case.standings.len() as u32,
-            findings: case.findings.len() as u32,
-            takings: case.takings,
-        };
-        let wanted = (case.standings, counts);
-        assert_eq!(worked(&case.file), wanted, "{}", case.name);
-        assert_eq!(listed(&case.file), case.findings, "{}", case.name);
-    }
-}
-
-#[test]
-fn each_byte_of_a_sheet_counts() {
-    let own = own_sheet(&sample::program());
-    let mut work = vec![0xA5; SHEET_SIZE];
-    for at in 0..SHEET_SIZE {
-        let mut sheet = own.clone();
-        sheet[at] = if at % 2 == 0 {
-            1 - own[at]
-        } else {
-            own[at] ^ 2
-        };
-        let answer = desk::next_violation(sample::FILE, &sheet, &mut work, 0);
-        assert_eq!(answer, Answer::refused(FOREIGN_SHEET, 0), "byte {at}");
-    }
-    let answer = desk::next_violation(sample::FILE, &own, &mut work, 0);
-    assert_eq!((answer.refusal, answer.value), (0, NONE));
-}
-
-#[test]
-fn a_list_can_be_asked_from_any_number() {
-    let file = cases::analyses::entry_forbidden();
-    let analysis = analysis::analyze(&file::read(&file).expect("accepted"));
-    let mut work = vec![0; SHEET_SIZE];
-    let far = (14..32).map(|power| 1 << power).chain([NONE - 1, NONE]);
-    for from in (0..=1100).chain(far) {
-        let answer = desk::next_violation(&file, &analysis.sheet, &mut work, from);
-        let wanted = analysis.next_finding(from);
-        assert_eq!((answer.refusal, answer.value), (0, wanted), "from {from}");
-    }
-}
-
-#[test]
-fn buffers_of_no_bytes_may_be_null() {
-    for nothing in [None, Some(&b""[..])] {
-        let given = binding::analyze(nothing, None, None);
-        assert_eq!(given, desk::refused(8, 1));
-        let given = binding::next_violation(nothing, None, None, 0);
-        assert_eq!(given, desk::refused(8, 1));
-    }
-    let file = Some(sample::FILE);
-    assert_eq!(binding::analyze(file, None, None), desk::refused(9, 0));
-    let mut marks = vec![7; SHEET_SIZE];
-    let given = binding::analyze(file, Some(&mut marks), None);
-    assert_eq!(given, desk::refused(11, 0));
-    assert!(marks.iter().all(|&byte| byte == 7));
-    let given = binding::next_violation(file, None, None, 0);
-    assert_eq!(given, desk::refused(9, 0));
 }

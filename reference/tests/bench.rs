@@ -6,11 +6,13 @@
 
 use reference::cases::{self, sample};
 use reference::generate::classes::{Class, MetClasses};
+use reference::generate::hearing::{Heard, MetHearing};
 use reference::generate::inputs::{
     file_with_edits, input_of_seed, input_with_rows_of_seed, with_edits,
 };
 use reference::generate::met::Met;
 use reference::generate::random::Random;
+use reference::model::analysis::own_sheet;
 use reference::model::bench::{bench, file_and_edits, MOST_INPUT};
 use reference::model::file::read;
 use reference::model::refusals::{
@@ -26,7 +28,7 @@ use std::thread;
 /// The ways in which the program is called.
 const ARGUMENTS: [&[&str]; 3] = [&[], &["forward"], &["inside-out"]];
 const SEEDS: u64 = 1_200;
-const ROW_SEEDS: u64 = 500;
+const ROW_SEEDS: u64 = 600;
 /// How often each printed refusal has to be met, so that agreeing on it means something.
 const OFTEN: usize = 50;
 /// The same for each refusal of a file, which `tests/files.rs` goes through at length.
@@ -79,6 +81,8 @@ struct Tally {
     findings: usize,
     /// Files with rows.
     classes: MetClasses,
+    /// Programs by what their rule hears.
+    hearing: MetHearing,
 }
 
 /// Holds the program against the reference on one input, in every way of calling it.
@@ -119,6 +123,10 @@ fn inputs_of_many_seeds_agree() {
         if bench(&input).len() <= MOST_PRINTED {
             let random = &mut Random::new(!seed);
             compare(&format!("seed {seed}"), &input, random, &mut tally);
+            let (file, _) = file_and_edits(&input);
+            if let Ok(program) = read(&file) {
+                tally.hearing.note(&program, &own_sheet(&program));
+            }
         }
     }
     println!("inputs of seeds: {tally:?}");
@@ -130,6 +138,8 @@ fn inputs_of_many_seeds_agree() {
         "{tally:?}"
     );
     assert!(tally.inputs >= 1_000, "{tally:?}");
+    tally.hearing.check(20);
+    assert!(tally.hearing.times(Heard::Nothing) >= 200, "{tally:?}");
 }
 
 #[test]

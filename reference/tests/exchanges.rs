@@ -100,6 +100,7 @@ fn single_exchanges_of_many_seeds_agree() {
     check_met(&tally, &EXCHANGES, &of_files, 15);
     tally.texts.check(&EXCHANGES, &JUDGED, OFTEN);
     tally.check_accepted(5_000, 2_500);
+    tally.check_hearing(150);
     assert!(tally.reopened[1].min(tally.reopened[2]) >= 500, "{tally:?}");
 }
 
@@ -178,6 +179,7 @@ fn lists_of_repairs_and_exchanges_agree_with_the_book() {
     tally.rows.check([0], 500);
     tally.check_accepted(12_000, 4_000);
     tally.check_edits(500);
+    tally.hearing.check(150);
 }
 
 /// Every routine of a program exchanged for itself, and for one without a step, each from the program
@@ -206,6 +208,7 @@ fn every_routine_of_small_programs_agrees() {
     println!("every routine: {tally:?}");
     assert_eq!(tally.met.times(0), tally.calls, "{tally:?}");
     assert!(tally.calls >= 2_000 && tally.reopened[0] == 0, "{tally:?}");
+    tally.check_hearing(30);
     assert!(tally.reopened[1].min(tally.reopened[2]) >= 200, "{tally:?}");
 }
 

@@ -10,13 +10,16 @@ use reference::cases::{self, sample};
 use reference::generate::classes::MetClasses;
 use reference::generate::damage::{lines_of, one_byte_wrong};
 use reference::generate::files::file_of_seed;
+use reference::generate::label_classes::MetLabels;
 use reference::generate::met::Met;
 use reference::generate::tables::{file_with_rows_of_seed, has_rows};
 use reference::model::calls::files::{read_answer, write_answer};
 use reference::model::calls::Answer;
 use reference::model::file::{self, Reading};
+use reference::model::kinds::{ROUTINE, RULE, SIZES, STEP};
+use reference::model::lines::text_of;
 use reference::model::refusals::{FILE_END, OUTPUT_SHORT, PAIR_MET_TWICE, PAIR_NOT_MET};
-use reference::model::write::OUTPUT_SIZE;
+use reference::model::write::{end, OUTPUT_SIZE};
 
 /// Lengths of outputs. Every file goes to one of the needed length, and to one of these.
 const LENGTHS: [usize; 7] = [0, 5327, 5329, 1, 5328, 6000, 16384];
@@ -34,6 +37,8 @@ struct Tally {
     lines_with_two_faults: usize,
     /// Files with rows.
     classes: MetClasses,
+    /// Labels of rule lines and steps.
+    labels: MetLabels,
 }
 
 /// Holds the library against the reference on one file.
@@ -56,6 +61,7 @@ fn compare(name: &str, file: &[u8], tally: &mut Tally) {
     }
     tally.files += 1;
     tally.classes.note(file, &reading);
+    tally.labels.note(file, &reading);
     let two_faults = matches!(reading, Err(refusal) if refusal.faults.len() > 1);
     tally.lines_with_two_faults += usize::from(two_faults);
 }
@@ -118,6 +124,7 @@ fn files_of_many_seeds_agree() {
     }
     println!("files of seeds: {tally:?}");
     tally.met.check((0..=FILE_END).chain([OUTPUT_SHORT]), OFTEN);
+    tally.labels.check(OFTEN);
     assert!(tally.lines_with_two_faults >= OFTEN, "{tally:?}");
 }
 
@@ -206,6 +213,28 @@ fn the_sample_in_rows_with_any_number_changed_agrees() {
     compare_numbers(&cases::tables::completed::in_rows(), &mut tally);
     println!("numbers of the sample in rows: {tally:?}");
     tally.met.check([0, PAIR_NOT_MET, PAIR_MET_TWICE], 10);
+}
+
+/// Every number there is as the label of a rule line and of a step, for so many routines and actions.
+#[test]
+fn every_label_agrees() {
+    let mut tally = Tally::default();
+    for (routines, actions) in [(1, 1), (2, 2), (2, 32), (15, 31), (16, 1), (16, 32)] {
+        for label in 0..=255 {
+            for line in [vec![RULE, 0, label, 1], vec![STEP, 0, 0, label, 1]] {
+                let mut frames = vec![vec![SIZES, routines, 2, actions]];
+                frames.extend((0..routines).map(|routine| vec![ROUTINE, routine, 2]));
+                frames.push(line);
+                frames.push(end(frames.len()));
+                compare("a label", &text_of(&frames), &mut tally);
+            }
+        }
+    }
+    println!("labels: {tally:?}");
+    let labels = [1 + 2 + 2 + 15 + 16 + 16, 1 + 2 + 32 + 31 + 1 + 32];
+    let of_rule = 2 * labels[0] + labels[1];
+    let of_steps = labels[0] + labels[1];
+    assert_eq!(tally.met.times(0), of_rule + of_steps, "{tally:?}");
 }
 
 /// A file with a line left out, and with each line beside each other, in its place and in front of it.

@@ -37,6 +37,8 @@ fn single_repairs_of_many_seeds_agree() {
     tally.met.check(0..=FOREIGN_SHEET, OFTEN);
     tally.check_accepted(3_000, 1_000);
     tally.check_reopened(200);
+    tally.check_hearing(100);
+    assert!(tally.return_labels >= OFTEN, "{tally:?}");
 }
 
 #[test]
@@ -79,6 +81,7 @@ fn lists_of_both_repairs_agree_with_the_book() {
     println!("lists of both repairs: {tally:?}");
     tally.check_accepted(6_000, 1_500);
     tally.check_reopened(300);
+    tally.check_hearing(40);
 }
 
 /// Many short lists: only until a call is accepted has its file rows.
@@ -140,6 +143,7 @@ fn every_drop_of_small_programs_agrees() {
     println!("drops: {tally:?}");
     assert_eq!(tally.met.times(0), tally.calls, "{tally:?}");
     assert!(tally.calls >= 2_000, "{tally:?}");
+    tally.check_hearing(30);
     assert!(
         tally.reopened[0] == 0 && tally.reopened[2] >= 300,
         "{tally:?}"

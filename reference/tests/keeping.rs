@@ -7,11 +7,14 @@ mod desk;
 
 use desk::lent::{self, Lending, Lent};
 use reference::cases::keepings::{self, KeepingCase};
-use reference::cases::sample;
+use reference::cases::{heard, sample};
 use reference::generate::classes::{Class, MetClasses};
 use reference::generate::files::file_of_seed;
+use reference::generate::hearing::{Heard, MetHearing};
 use reference::generate::met::Met;
-use reference::generate::programs::{hub, program_by_shares, program_of_shape};
+use reference::generate::programs::{
+    hub, hub_of_roots, hub_without_returns, program_by_shares, program_of_shape,
+};
 use reference::generate::random::Random;
 use reference::generate::shapes::Shape;
 use reference::generate::sheets;
@@ -45,6 +48,8 @@ struct Tally {
     other_bytes: usize,
     /// Files with rows.
     classes: MetClasses,
+    /// Programs by what their rule hears.
+    hearing: MetHearing,
 }
 
 /// One keeping by the library and by the reference: the sheet that is left.
@@ -82,7 +87,9 @@ fn compare_sheet(
     let kept = compare(&name, &file, &Ok(edited.clone()), [&lent, &work], tally);
     let (stayed, were) = (marked(kept.content()).len(), marked(&sheet).len());
     let parted = stayed > 0 && stayed < were;
-    let own = marked(&own_sheet(&edited)).len();
+    let own_sheet = own_sheet(&edited);
+    tally.hearing.note(&edited, &own_sheet);
+    let own = marked(&own_sheet).len();
     tally.parted += usize::from(parted);
     tally.less_than_own += usize::from(parted && stayed < own);
     tally.other_bytes += usize::from(sheet.iter().any(|&byte| byte > 1));
@@ -119,6 +126,8 @@ fn keepings_of_many_seeds_agree() {
     println!("keepings of seeds: {tally:?}");
     assert!(tally.parted >= 500 && tally.other_bytes >= 500, "{tally:?}");
     assert!(tally.less_than_own >= 200, "{tally:?}");
+    tally.hearing.check(40);
+    assert!(tally.hearing.times(Heard::Nothing) >= 500, "{tally:?}");
 }
 
 #[test]
@@ -138,8 +147,14 @@ fn keepings_of_every_shape_agree() {
             compare_sheet(&format!("{shape:?}"), &program, way, random, &mut tally);
         }
     }
-    for way in 0..sheets::ANY {
-        compare_sheet("hub", &hub(), way, &mut Random::new(way as u64), &mut tally);
+    for (name, hub) in [
+        ("hub", hub()),
+        ("hub of roots", hub_of_roots()),
+        ("hub without returns", hub_without_returns()),
+    ] {
+        for way in 0..sheets::ANY {
+            compare_sheet(name, &hub, way, &mut Random::new(way as u64), &mut tally);
+        }
     }
     println!("keepings of shapes: {tally:?}");
 }
@@ -248,6 +263,11 @@ fn main_called_in_another_state_is_no_start() {
 #[test]
 fn two_routines_that_call_each_other_do_not_support_each_other() {
     check(&keepings::no_outside_call());
+}
+
+#[test]
+fn calls_and_returns_support_what_their_moves_give() {
+    check(&heard::keepings());
 }
 
 #[test]

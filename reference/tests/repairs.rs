@@ -40,6 +40,8 @@ fn single_repairs_of_many_seeds_agree() {
     tally.met.check(0..=FOREIGN_SHEET, OFTEN);
     tally.check_accepted(3_000, 1_000);
     tally.check_edits(300);
+    tally.check_hearing(100);
+    assert!(tally.return_labels >= OFTEN, "{tally:?}");
 }
 
 #[test]
@@ -78,6 +80,7 @@ fn lists_of_many_repairs_agree_with_the_book() {
     println!("lists of forward repairs: {tally:?}");
     tally.check_accepted(8_000, 2_000);
     tally.check_edits(1_000);
+    tally.check_hearing(40);
 }
 
 #[test]

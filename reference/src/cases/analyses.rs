@@ -1,5 +1,6 @@
 //! Files whose analysis is worked out by hand. P1 to P4 and P7 are the scope paper's.
 
+use crate::cases::heard;
 use crate::cases::sample;
 use crate::cases::tables::{completed, full};
 
@@ -37,6 +38,7 @@ pub fn entry_forbidden() -> Vec<u8> {
 pub fn all() -> Vec<AnalysisCase> {
     let mut cases = of_samples();
     cases.extend(of_tables());
+    cases.extend(heard::analyses());
     cases
 }
 

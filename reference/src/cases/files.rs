@@ -3,7 +3,7 @@
 //! Most of them are the sample file with one thing changed.
 
 use crate::cases::sample::{self, followed_by, inserted, removed, replaced, swapped};
-use crate::cases::tables;
+use crate::cases::{heard, tables};
 use crate::model::lines::text_of;
 use crate::model::write::end;
 
@@ -32,6 +32,7 @@ pub fn all() -> Vec<Case> {
     cases.extend(lines_past_full_tables());
     cases.extend(several_faults());
     cases.extend(tables::files());
+    cases.extend(heard::files());
     cases
 }
 
@@ -269,7 +270,6 @@ fn other_ranges() -> Vec<Case> {
         case("rule from state Q", replaced(10, "54030101"), 5, 10),
         case("rule on the last action", replaced(10, "54010100"), 0, 0),
         case("rule on action A", replaced(8, "54000202"), 5, 8),
-        case("rule on a call", replaced(8, "54004002"), 5, 8),
         case("rule to the last state", replaced(10, "54010102"), 0, 0),
         case("rule to state Q", replaced(10, "54010103"), 5, 10),
         case("last state a start", replaced(11, "4902"), 0, 0),
@@ -281,7 +281,7 @@ fn other_ranges() -> Vec<Case> {
 }
 
 /// A program of 16 routines with so many steps and rule lines, then these lines, then the end.
-fn large(steps: usize, rule: usize, last: &[Vec<u8>]) -> Vec<u8> {
+pub fn large(steps: usize, rule: usize, last: &[Vec<u8>]) -> Vec<u8> {
     let mut frames = vec![vec![0x50, 16, 8, 32]];
     frames.extend((0..16).map(|routine| vec![0x52, routine, 16]));
     let every_step = (0..16).flat_map(|to| (0..32).map(move |label| (label, to)));

@@ -1,6 +1,7 @@
 //! Inputs of `bench` that are known by name, with all that is printed for them.
 
 use crate::cases::files::{full_steps, with_routines};
+use crate::cases::heard;
 use crate::cases::keepings::main_calls_itself;
 use crate::cases::sample::{self, followed_by, removed, replaced};
 use crate::cases::tables::{completed, full};
@@ -33,6 +34,7 @@ pub fn all() -> Vec<InputCase> {
     cases.extend(routines_and_steps());
     cases.extend(states_and_labels());
     cases.extend(files_with_rows());
+    cases.extend(rules_that_hear());
     cases
 }
 
@@ -195,5 +197,27 @@ fn files_with_rows() -> Vec<InputCase> {
         case("a pair met twice", twice, "21140000\n"),
         case("a pair not met first", not_met_first, "21130000\n"),
         case("more than is written", full::largest(), all_of_main),
+    ]
+}
+
+/// Files whose rule hears calls and returns. An edit may call what the rule lets nobody call, and may
+/// not give a step the label of a return.
+fn rules_that_hear() -> Vec<InputCase> {
+    let with = |file: Vec<u8>, edits: &str| [file, edits.as_bytes().to_vec()].concat();
+    let two = "5800010002\n5800020002\n5A00060002\n";
+    let one = "5800020002\n5A00050001\n";
+    let edits = "2D00020101\n2B00006102\n2B00020101\n";
+    let drops = "2D00004102\n2B00004102\n";
+    let of_two = [two, one, "210D\n", two].concat();
+    let of_none = "5A00010000\n".repeat(3);
+    vec![
+        case("two returns", with(heard::two_returns(), edits), of_two),
+        case(
+            "a call nobody makes",
+            with(heard::no_call(), drops),
+            of_none,
+        ),
+        case("a rule on 42", replaced(8, "54004202"), "21050008\n"),
+        case("a rule on 62", replaced(8, "54006202"), "21050008\n"),
     ]
 }

@@ -6,13 +6,14 @@
 //! - `files` has files, `edits` has edit lines, and `exchanges` has texts of exchanges, each with its
 //!   refusal; `tables` has the files with rows, what they are written as, and repairs of one of them.
 //! - `analyses`, `keepings` and `repairs` have what these calls leave; what exchanges leave stands with
-//!   their texts.
+//!   their texts. `heard` has all of these for rules that hear calls and returns.
 //! - `inputs` has inputs of `bench`.
 
 pub mod analyses;
 pub mod edits;
 pub mod exchanges;
 pub mod files;
+pub mod heard;
 pub mod inputs;
 pub mod keepings;
 pub mod repairs;
@@ -27,15 +28,27 @@ use crate::model::change::Form;
 /// Every named text of a form, with its refusal.
 pub fn named_texts(form: Form) -> Vec<EditCase> {
     match form {
-        Form::Edit => edits::all(),
-        Form::Exchange => exchanges::texts::all(),
+        Form::Edit => [edits::all(), heard::edits()]
+            .into_iter()
+            .flatten()
+            .collect(),
+        Form::Exchange => [exchanges::texts::all(), heard::texts()]
+            .into_iter()
+            .flatten()
+            .collect(),
     }
 }
 
 /// The changes by texts of a form that are worked out by hand.
 pub fn worked_out(form: Form) -> Vec<RepairCase> {
     match form {
-        Form::Edit => repairs::all(),
-        Form::Exchange => exchanges::results::all(),
+        Form::Edit => [repairs::all(), heard::repairs()]
+            .into_iter()
+            .flatten()
+            .collect(),
+        Form::Exchange => [exchanges::results::all(), heard::exchanges()]
+            .into_iter()
+            .flatten()
+            .collect(),
     }
 }

@@ -6,7 +6,7 @@
 use crate::generate::random::Random;
 use crate::model::kinds::{count_of_numbers, END, FRAMES, ROUTINE, SIZES};
 use crate::model::lines::{line_of, lines, starts_with_kind};
-use crate::model::program::FIRST_CALL;
+use crate::model::program::{FIRST_CALL, FIRST_RETURN};
 use crate::model::write::end;
 
 /// Does one damage to a file, and at times puts the lines in order and corrects the end count.
@@ -151,8 +151,20 @@ fn numbers_of(line: &[u8]) -> Option<Vec<u8>> {
         .collect()
 }
 
-/// A number at which some range begins or ends: one of the sizes in this file, a call label about
-/// the last, or a fixed limit.
+/// A label at which some range of labels begins or ends, or just beside it, for so many routines and
+/// actions.
+pub fn edge_label(random: &mut Random, routines: u8, actions: u8) -> u8 {
+    let (calls, returns) = (
+        FIRST_CALL.wrapping_add(routines),
+        FIRST_RETURN.wrapping_add(routines),
+    );
+    let past = random.pick(&[actions, calls, returns, 0x3F, 0x5F, 0x7F, 0x50, 0x70]);
+    let last = random.pick(&[actions, calls, returns]).wrapping_sub(1);
+    random.pick(&[past, past, past, last, FIRST_CALL, FIRST_RETURN])
+}
+
+/// A number at which some range begins or ends: one of the sizes in this file, a label about the last
+/// of its sort, or a fixed limit.
 fn telling_number(random: &mut Random, lines: &Lines) -> u8 {
     let sizes = lines.first().and_then(|line| numbers_of(line));
     let size = |place: usize| match &sizes {
@@ -160,12 +172,11 @@ fn telling_number(random: &mut Random, lines: &Lines) -> u8 {
         None => 1,
     };
     let (routines, states, actions) = (size(1), size(2), size(3));
-    let about = random.pick(&[routines, states, actions, FIRST_CALL.wrapping_add(routines)]);
-    let fixed = random.pick(&[
-        0, 1, 2, 8, 9, 16, 17, 31, 32, 33, 0x3F, 0x40, 0x4F, 0x50, 255,
-    ]);
+    let about = random.pick(&[routines, states, actions]);
+    let fixed = random.pick(&[0, 1, 2, 8, 9, 16, 17, 31, 32, 33, 255]);
+    let label = edge_label(random, routines, actions);
     let below = about.wrapping_sub(1);
-    random.pick(&[about, below, fixed])
+    random.pick(&[about, below, fixed, label])
 }
 
 /// Puts in a frame too many, or takes a routine out.

@@ -7,7 +7,7 @@
 use crate::generate::random::Random;
 use crate::model::edit::Edit;
 use crate::model::lines::{line_of, numbers_of_line};
-use crate::model::program::{Label, Program, Step, EXIT, FIRST_CALL};
+use crate::model::program::{Label, Program, Step, EXIT, FIRST_CALL, FIRST_RETURN};
 use crate::model::ranges::Ranges;
 use crate::model::standing::numbers_at;
 
@@ -201,13 +201,27 @@ fn out_of_range(random: &mut Random, program: &Program, step: Step) -> Vec<u8> {
 pub fn past_range(random: &mut Random, program: &Program, places: u8, at: usize) -> u8 {
     let routines = program.routines();
     let first_past = FIRST_CALL + routines;
-    let labels = [program.actions, first_past, 0x20, 0x3F, 0x50, 255];
+    let a_return = FIRST_RETURN + random.below(routines.into()) as u8;
+    let labels = [program.actions, first_past, 0x20, 0x3F, 0x50, 0x5F, 255];
     match at {
         1 => random.pick(&[routines, 16, 255]),
         2 => random.pick(&[EXIT, EXIT, places, 16, 255]),
         4 => random.pick(&[places, 16, 255]),
+        _ if random.percent(40) => a_return,
         _ => random.pick(&labels),
     }
+}
+
+/// Whether a line would give or take the label of a return that this program has.
+pub fn has_return_label(program: &Program, line: &[u8]) -> bool {
+    let numbers = numbers_of_line(line).unwrap_or_default();
+    let returns = FIRST_RETURN..FIRST_RETURN + program.routines();
+    let is_return = |at: usize| {
+        numbers
+            .get(at)
+            .map_or(false, |label| returns.contains(label))
+    };
+    is_return(3) || is_return(5)
 }
 
 fn numbers_of(edit: Edit) -> Vec<u8> {
@@ -250,11 +264,11 @@ mod tests {
     use crate::generate::shapes::Shape;
     use crate::model::analysis::own_sheet;
     use crate::model::edit::edited_by_line;
-    use crate::model::refusals::{BAD_EDIT, STEPS_FULL};
+    use crate::model::refusals::{BAD_EDIT, EDIT_RANGE, STEPS_FULL};
 
     #[test]
     fn most_lines_are_accepted_and_each_refusal_is_met() {
-        let mut met = Met::default();
+        let (mut met, mut returns) = (Met::default(), 0);
         for seed in 0..4000 {
             let random = &mut Random::new(seed);
             let home = if seed % 20 == 0 {
@@ -264,9 +278,13 @@ mod tests {
             };
             let line = line(random, &home, &home, &own_sheet(&home));
             let after = edited_by_line(&home, &line);
-            met.note(after.err().unwrap_or(0));
+            let refusal = after.err().unwrap_or(0);
+            met.note(refusal);
+            let is_return = refusal == EDIT_RANGE && has_return_label(&home, &line);
+            returns += usize::from(is_return);
         }
-        println!("{met:?}");
+        println!("{met:?}, labels of returns: {returns}");
+        assert!(returns >= 10, "{returns}");
         met.check([0], 2000);
         met.check(BAD_EDIT..=STEPS_FULL, 20);
     }

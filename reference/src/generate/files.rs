@@ -1,12 +1,14 @@
 //! Files made from a seed: programs of every size up to the limits, the same with one or two
 //! things damaged, and input that is hardly a file at all.
 
-use crate::generate::damage::{bytes_at_random, damage, frame_at_random, lines_of, mend, spoil};
-use crate::generate::programs::rule_line;
+use crate::generate::damage::{
+    bytes_at_random, correct_end_count, damage, edge_label, frame_at_random, lines_of, mend, spoil,
+};
 use crate::generate::random::Random;
-use crate::model::kinds::{FRAMES, SIZES};
-use crate::model::lines::line_of;
-use crate::model::program::{Label, Program, Step, EXIT, TABLE_ROWS};
+use crate::generate::rules::{heard_line, rule_line};
+use crate::model::kinds::{place_of_frame, FRAMES, RULE, SIZES, STEP};
+use crate::model::lines::{line_of, numbers_of_line};
+use crate::model::program::{Label, Program, Step, EXIT, FIRST_RETURN, TABLE_ROWS};
 use crate::model::write::{end, write};
 use std::collections::BTreeSet;
 
@@ -15,7 +17,8 @@ pub fn file_of_seed(seed: u64) -> Vec<u8> {
     let random = &mut Random::new(seed);
     match random.below(100) {
         0..=19 => write(&program(random)),
-        20..=49 => damaged(random, 1),
+        20..=26 => with_other_label(random),
+        27..=49 => damaged(random, 1),
         50..=79 => damaged(random, 2),
         80..=87 => overfull(random),
         88..=93 => frames_at_random(random),
@@ -116,6 +119,7 @@ fn program_to_plan(random: &mut Random, plan: &Plan) -> Program {
         .map(|_| random.between(2, plan.most_places) as u8)
         .collect();
     let density = random.pick(&[0, 20, 50, 100]);
+    let heard_in_a_hundred = random.pick(&[0, 0, 20, 50, 80]);
     Program {
         states: plan.states as u8,
         actions: plan.actions as u8,
@@ -123,7 +127,11 @@ fn program_to_plan(random: &mut Random, plan: &Plan) -> Program {
             step(random, plan, &places)
         }),
         rule: random.filled(BTreeSet::new(), plan.rule, |random| {
-            rule_line(random, plan.states, plan.actions)
+            if random.percent(heard_in_a_hundred) {
+                heard_line(random, plan.states, plan.routines)
+            } else {
+                rule_line(random, plan.states, plan.actions)
+            }
         }),
         starts: states_at_random(random, plan, density),
         forbidden: states_at_random(random, plan, density),
@@ -174,6 +182,38 @@ fn overfull(random: &mut Random) -> Vec<u8> {
     let before = program.places.len() + if steps > TABLE_ROWS { 0 } else { steps };
     let lines = spoil(random, lines_of(&file), before + TABLE_ROWS + 1);
     mend(random, lines)
+}
+
+/// A good file with one line more, a rule line or a step, in its place by order: its label is one at
+/// which some range begins or ends.
+fn with_other_label(random: &mut Random) -> Vec<u8> {
+    let program = program(random);
+    let mut lines = lines_of(&write(&program));
+    let label = edge_label(random, program.routines(), program.actions);
+    let (from, to) = (random.below(2) as u8, random.below(2) as u8);
+    let routine = random.below(program.places.len()) as u8;
+    let a_return = FIRST_RETURN + random.below(program.places.len()) as u8;
+    let line = if random.percent(70) {
+        let last = program.states - 1;
+        line_of(&[RULE, from.min(last), label, to.min(last)])
+    } else {
+        let label = random.pick(&[label, a_return]);
+        line_of(&[STEP, routine, 0, label, to])
+    };
+    let comes_before = |other: &Vec<u8>| {
+        let place = |line: &[u8]| {
+            let numbers = numbers_of_line(line).expect("the file is well-formed");
+            place_of_frame(numbers[0])
+        };
+        (place(other), other) < (place(&line), &line)
+    };
+    let at = lines
+        .iter()
+        .take_while(|&other| comes_before(other))
+        .count();
+    lines.insert(at, line);
+    correct_end_count(&mut lines);
+    lines.concat()
 }
 
 /// A good file that is damaged so many times.
@@ -255,7 +295,7 @@ mod tests {
     #[test]
     fn the_files_of_the_seeds_meet_every_refusal_and_pairs_of_them() {
         let (mut met, mut pairs) = (Met::default(), [[0; 9]; 9]);
-        for seed in 0..5000 {
+        for seed in 0..10_000 {
             let faults = match read(&file_of_seed(seed)) {
                 Ok(_) => vec![0],
                 Err(refusal) => refusal.faults,
@@ -267,7 +307,8 @@ mod tests {
         }
         met.check(0..=FILE_END, 50);
         for (low, high) in [(4, 5), (4, 6), (4, 7), (5, 6)] {
-            assert!(pairs[low][high] >= 5, "{low} with {high}");
+            let times = pairs[low][high];
+            assert!(times >= 5, "{low} with {high} was met {times} times");
         }
     }
 }

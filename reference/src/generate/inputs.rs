@@ -11,7 +11,8 @@ use crate::model::analysis::own_sheet;
 use crate::model::bench::MOST_INPUT;
 use crate::model::edit::edited_by_line;
 use crate::model::file::read;
-use crate::model::lines::lines;
+use crate::model::kinds::END;
+use crate::model::lines::{lines, starts_with_kind};
 use crate::model::program::Program;
 use crate::model::write::write;
 
@@ -85,13 +86,22 @@ pub fn input_with_rows_of_seed(seed: u64) -> Vec<u8> {
     let count = random.below(16);
     let input = match read(&file) {
         Ok(home) => with_edits(random, file, &home, count),
-        Err(_) => [&file[..], b"2B00000001\n"].concat(),
+        Err(_) if random.percent(30) => [&file[..], b"2B00000001\n"].concat(),
+        Err(_) => file,
     };
     match random.below(100) {
         0..=7 => damage(random, &input),
         8..=9 => filled(random, input),
+        10..=12 => without_end(&input),
         _ => input,
     }
+}
+
+/// The lines of an input before its end frame.
+fn without_end(input: &[u8]) -> Vec<u8> {
+    let lines = lines(input).into_iter();
+    let before = lines.take_while(|line| !starts_with_kind(line, END));
+    before.collect::<Vec<_>>().concat()
 }
 
 /// A file with a complete table, of a program in which much can happen.
@@ -109,4 +119,32 @@ fn complete_table(random: &mut Random) -> Vec<u8> {
 /// Whether a text can stand as a line of its own among others.
 fn is_one_line(text: &[u8]) -> bool {
     lines(text).len() == 1 && text.ends_with(b"\n")
+}
+
+#[cfg(test)]
+mod tests {
+    use super::*;
+    use crate::generate::met::Met;
+    use crate::model::bench::file_and_edits;
+    use crate::model::refusals::{BAD_LINE, FILE_END, PAIR_MET_TWICE, PAIR_NOT_MET};
+
+    /// How often the files of inputs of so many seeds are refused, by number.
+    fn met(seeds: u64, input: fn(u64) -> Vec<u8>) -> Met {
+        let mut met = Met::default();
+        for seed in 0..seeds {
+            let input = input(seed);
+            let (file, _) = file_and_edits(&input);
+            met.note(read(&file).map_or_else(|refusal| refusal.number(), |_| 0));
+        }
+        println!("{met:?}");
+        met
+    }
+
+    #[test]
+    fn inputs_with_rows_meet_every_refusal_of_a_file() {
+        let met = met(600, input_with_rows_of_seed);
+        met.check(BAD_LINE..=FILE_END, 2);
+        met.check([PAIR_NOT_MET, PAIR_MET_TWICE], 10);
+        met.check([0], 250);
+    }
 }

@@ -5,12 +5,13 @@
 //!   `damage` does the damage.
 //! - `tables` makes files with rows: complete tables, faulty ones, and damaged ones; `row_damage` does
 //!   the damage to rows.
-//! - `programs` makes programs for the analysis, in which much can happen, by plans for the `shapes`.
+//! - `programs` makes programs for the analysis, in which much can happen, by plans for the `shapes`,
+//!   and `rules` makes their rules.
 //! - `edits` makes edit lines, and `exchanges` makes exchanges and their texts; `text_damage` does the
 //!   damage to these.
 //! - `sheets` makes sheets, `calls` makes the calls of a list, and `inputs` makes inputs of `bench`.
-//! - `met` counts what they have met: refusals, the `classes` of files with rows, and the
-//!   `text_classes` of exchanges.
+//! - `met` counts what they have met: refusals, the `classes` of files with rows, the `label_classes`
+//!   of rule lines and steps, the `hearing` of rules, and the `text_classes` of exchanges.
 
 pub mod calls;
 pub mod classes;
@@ -18,11 +19,14 @@ pub mod damage;
 pub mod edits;
 pub mod exchanges;
 pub mod files;
+pub mod hearing;
 pub mod inputs;
+pub mod label_classes;
 pub mod met;
 pub mod programs;
 pub mod random;
 pub mod row_damage;
+pub mod rules;
 pub mod shapes;
 pub mod sheets;
 pub mod tables;

@@ -2,11 +2,13 @@
 //!
 //! Steps thrown about at random seldom lead anywhere. Here every place of a routine can be reached
 //! from its entry by steps, as far as its calls return, and the rule mostly has a line where one is
-//! needed. The shapes differ in what calls what, and in how much there is of everything.
+//! needed, for actions and for the calls and returns that it hears. The shapes differ in what calls
+//! what, and in how much there is of everything.
 
 use crate::generate::random::Random;
+use crate::generate::rules::{rule, MakeRule};
 use crate::generate::shapes::{plan, shape_by_shares, Callees, Plan, Shape, Shares};
-use crate::model::program::{Label, Program, RuleLine, Step, EXIT};
+use crate::model::program::{Event, Label, Program, RuleLine, Step, EXIT};
 use std::collections::BTreeSet;
 
 /// The program that belongs to a seed. Few are full, as these take long.
@@ -29,10 +31,11 @@ pub fn program_by_shares(random: &mut Random, shares: &Shares) -> Program {
 
 pub fn program_of_shape(random: &mut Random, shape: Shape) -> Program {
     let plan = plan(random, shape);
-    program_to_plan(random, &plan)
+    program_to_plan(random, &plan, rule)
 }
 
-fn program_to_plan(random: &mut Random, plan: &Plan) -> Program {
+/// A program to a plan, its rule by this maker.
+pub fn program_to_plan(random: &mut Random, plan: &Plan, make_rule: MakeRule) -> Program {
     let places: Vec<u8> = (0..plan.routines)
         .map(|_| random.between(plan.least_places, plan.most_places) as u8)
         .collect();
@@ -40,7 +43,7 @@ fn program_to_plan(random: &mut Random, plan: &Plan) -> Program {
         states: plan.states as u8,
         actions: plan.actions as u8,
         steps: steps(random, plan, &places),
-        rule: rule(random, plan),
+        rule: make_rule(random, plan),
         starts: some_states(random, plan, [5, 60, 25]),
         forbidden: some_states(random, plan, [15, 45, 25]),
         places,
@@ -166,32 +169,8 @@ fn callee(random: &mut Random, plan: &Plan, caller: usize) -> Option<u8> {
     Some(callee as u8)
 }
 
-fn rule(random: &mut Random, plan: &Plan) -> BTreeSet<RuleLine> {
-    let mut lines = BTreeSet::new();
-    if plan.rule_is_total {
-        for from in 0..plan.states as u8 {
-            for action in 0..plan.actions as u8 {
-                let to = random.below(plan.states) as u8;
-                lines.insert(RuleLine { from, action, to });
-            }
-        }
-    }
-    random.filled(lines, plan.rule, |random| {
-        rule_line(random, plan.states, plan.actions)
-    })
-}
-
-/// Any rule line for so many states and actions.
-pub fn rule_line(random: &mut Random, states: usize, actions: usize) -> RuleLine {
-    RuleLine {
-        from: random.below(states) as u8,
-        action: random.below(actions) as u8,
-        to: random.below(states) as u8,
-    }
-}
-
-/// The program that takes one standing as often as any can be taken: main's entry calls all 16
-/// routines, main among them, and each of these ends in all 8 states.
+/// The program that takes one standing as often as any could be taken while a call left the state
+/// alone: main's entry calls all 16 routines, main among them, and each of these ends in all 8 states.
 pub fn hub() -> Program {
     let step = |routine, label, to| Step {
         routine,
@@ -203,7 +182,7 @@ pub fn hub() -> Program {
     let calls = (0..16).map(|callee| step(0, Label::Call(callee), 2));
     let line = |number: u8| RuleLine {
         from: number / 8,
-        action: 0,
+        event: Event::Action(0),
         to: number % 8,
     };
     Program {
@@ -215,6 +194,34 @@ pub fn hub() -> Program {
         starts: BTreeSet::from([0]),
         forbidden: BTreeSet::from([7]),
     }
+}
+
+/// The program that takes one standing as often as any can be taken: as the hub, and each call leads
+/// from state 0 to all 8 roots. From other states nothing can be called.
+pub fn hub_of_roots() -> Program {
+    let mut program = hub();
+    let heard = (0..128).map(|number: u8| RuleLine {
+        from: 0,
+        event: Event::Call(number / 8),
+        to: number % 8,
+    });
+    program.rule.extend(heard);
+    program
+}
+
+/// The same where nothing ends in state 7 and a return is possible from state 7 only: the entry is
+/// taken again for every exit, though these takings lead nowhere.
+pub fn hub_without_returns() -> Program {
+    let mut program = hub_of_roots();
+    let ends_in_7 = |line: &RuleLine| line.event == Event::Action(0) && line.to == 7;
+    program.rule.retain(|line| !ends_in_7(line));
+    let heard = (0..16).map(|routine| RuleLine {
+        from: 7,
+        event: Event::Return(routine),
+        to: 0,
+    });
+    program.rule.extend(heard);
+    program
 }
 
 #[cfg(test)]

@@ -1,8 +1,8 @@
 //! Damage to the rows of a file, so that each thing that is judged of a row is met.
 
 use crate::generate::damage::{correct_end_count, lines_of, Lines};
-use crate::generate::programs::rule_line;
 use crate::generate::random::Random;
+use crate::generate::rules::{heard_line, rule_line};
 use crate::generate::tables::line_of_row;
 use crate::model::file::read;
 use crate::model::kinds::{ROW, RULE};
@@ -100,7 +100,11 @@ pub fn rule_in_both_forms(random: &mut Random, file: &[u8]) -> Vec<u8> {
     let mut lines = lines_of(file);
     let rows = places_of_rows(&lines);
     let sizes = numbers(&lines[0]);
-    let one = rule_line(random, sizes[2].into(), sizes[3].into());
+    let one = if random.percent(70) {
+        rule_line(random, sizes[2].into(), sizes[3].into())
+    } else {
+        heard_line(random, sizes[2].into(), sizes[1].into())
+    };
     let all: Vec<RuleLine> = match read(file) {
         Ok(program) => program.rule.into_iter().collect(),
         Err(_) => vec![one],

@@ -263,7 +263,7 @@ mod tests {
     use crate::generate::classes::MetClasses;
     use crate::generate::met::Met;
     use crate::model::file::read;
-    use crate::model::program::RuleLine;
+    use crate::model::program::{Event, RuleLine};
     use crate::model::refusals::{FILE_END, PAIR_MET_TWICE, PAIR_NOT_MET};
     use crate::model::table::pairs;
 
@@ -279,8 +279,9 @@ mod tests {
                 ..program
             };
             assert_eq!(given, wanted, "seed {seed}");
-            let from = given.rule.iter().map(|line| (line.from, line.action));
+            let from = given.rule.iter().map(|line| (line.from, line.event));
             let all = pairs(given.states, given.actions);
+            let all = all.map(|(state, action)| (state, Event::Action(action)));
             assert!(from.eq(all), "seed {seed}");
         }
     }
@@ -290,7 +291,7 @@ mod tests {
         let row = *row;
         let line = move |from, action| RuleLine {
             from,
-            action,
+            event: Event::Action(action),
             to: row.to,
         };
         row.states()

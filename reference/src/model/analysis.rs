@@ -1,7 +1,7 @@
 //! The analysis: what a program can do.
 
 use crate::model::file::Reading;
-use crate::model::fresh::work_afresh;
+use crate::model::fresh::{work_afresh, Fresh};
 use crate::model::program::Program;
 use crate::model::refusals::FileRefusal;
 use crate::model::standing::{Standing, SHEET_SIZE};
@@ -22,7 +22,11 @@ pub struct Analysis {
 pub type Analyzed = Result<Analysis, FileRefusal>;
 
 pub fn analyze(program: &Program) -> Analysis {
-    let fresh = work_afresh(program);
+    analysis_of(program, &work_afresh(program))
+}
+
+/// The analysis of a program by what a procedure has left.
+pub fn analysis_of(program: &Program, fresh: &Fresh) -> Analysis {
     let sheet: Vec<u8> = fresh.marked.iter().copied().map(u8::from).collect();
     Analysis {
         findings: findings(program, &sheet),
@@ -66,13 +70,17 @@ impl Analysis {
 mod tests {
     use super::*;
     use crate::cases::{self, sample};
-    use crate::generate::programs::{hub, program_of_seed, program_of_shape};
+    use crate::generate::hearing::{Heard, MetHearing};
+    use crate::generate::programs::{
+        hub, hub_of_roots, hub_without_returns, program_of_seed, program_of_shape,
+    };
     use crate::generate::random::Random;
     use crate::generate::shapes::Shape;
     use crate::model::file::read;
+    use crate::model::fresh::MOST_TAKINGS;
     use crate::model::least::least_set;
     use crate::model::runs::search;
-    use crate::model::standing::marked;
+    use crate::model::standing::{marked, numbers_at};
 
     #[test]
     fn cases_worked_out_by_hand() {
@@ -110,7 +118,7 @@ mod tests {
             assert!(!occurs || set.contains(&entry), "{name}: {standing:?}");
         }
         let most = fresh.taken.into_iter().max().unwrap_or(0);
-        assert!(most <= 129, "{name}: taken {most} times");
+        assert!(most <= MOST_TAKINGS, "{name}: taken {most} times");
         most
     }
 
@@ -128,8 +136,20 @@ mod tests {
     }
 
     #[test]
-    fn a_standing_can_be_taken_129_times() {
+    fn a_standing_can_be_taken_1025_times() {
         assert_eq!(check_procedure("hub", &hub()), 129);
+        let most = check_procedure("hub of roots", &hub_of_roots());
+        assert_eq!(most, MOST_TAKINGS);
+    }
+
+    /// Main's entry is taken again for each of the 16 times 8 times 7 exits, and nothing comes of it.
+    #[test]
+    fn takings_count_that_lead_nowhere() {
+        let program = hub_without_returns();
+        let most = check_procedure("hub without returns", &program);
+        assert_eq!(most, 1 + 16 * 8 * 7);
+        let sheet = own_sheet(&program);
+        assert!(marked(&sheet[numbers_at(0, 2)]).is_empty());
     }
 
     /// Deepens the search until it has met the whole least set, or all there is. False if it would
@@ -155,16 +175,21 @@ mod tests {
     #[test]
     fn runs_meet_the_least_set_and_nothing_else() {
         let (mut whole, mut too_long) = (0, 0);
+        let mut hearing = MetHearing::default();
         for seed in 0..3000 {
-            let shape = [Shape::Tiny, Shape::Tiny, Shape::Recursive][seed as usize % 3];
+            let shapes = [Shape::Tiny, Shape::Layered, Shape::Tiny, Shape::Recursive];
+            let shape = shapes[seed as usize % shapes.len()];
             let program = program_of_shape(&mut Random::new(seed), shape);
             if runs_meet_the_least_set(&format!("seed {seed}"), &program) {
                 whole += 1;
+                hearing.note(&program, &own_sheet(&program));
             } else {
                 too_long += 1;
             }
         }
-        println!("whole: {whole}, too long: {too_long}");
+        println!("whole: {whole}, too long: {too_long}, {hearing:?}");
         assert!(whole >= 2500, "only {whole} were met as a whole");
+        hearing.check(50);
+        assert!(hearing.times(Heard::Nothing) >= 500, "{hearing:?}");
     }
 }

@@ -87,6 +87,8 @@ mod tests {
     use crate::generate::random::Random;
     use crate::model::analysis::own_sheet;
     use crate::model::file::read;
+    use crate::model::groups::roots_given;
+    use crate::model::moves::Moves;
     use crate::model::program::EXIT;
     use crate::model::refusals::{OUTPUT_SHORT, WORK_LENGTH};
     use crate::model::standing::{standings, Standing, SHEET_SIZE};
@@ -119,15 +121,15 @@ mod tests {
 
     type Occurring = BTreeSet<Standing>;
 
-    /// The pairs of a routine, and the states in which it calls the others.
+    /// The pairs of a routine, and the states in which it calls the others, which are those after the
+    /// call's move.
     fn outside(program: &Program, set: &Occurring, routine: u8) -> (Occurring, BTreeSet<(u8, u8)>) {
+        let moves = Moves::of(program);
         let own = set.iter().filter(|at| at.routine == routine);
-        let made = |at: &Standing| {
-            let state = at.state;
-            let callees = program.callees_from(routine, at.place);
-            callees.map(move |callee| (callee, state))
-        };
-        let calls = own.clone().flat_map(made).collect();
+        let calls = own.clone();
+        let calls = calls
+            .flat_map(|at| roots_given(program, &moves, at))
+            .collect();
         (own.copied().filter(|at| at.place == EXIT).collect(), calls)
     }
 

@@ -1,8 +1,14 @@
-//! Working afresh: the procedure that takes the lowest standing first, with its count of takings.
+//! Working afresh: the procedure that takes the lowest standing first, with its count of takings. What
+//! the rule makes of an action, a call or a return is asked of `moves`.
 
-use crate::model::program::{Label, Program, EXIT};
+use crate::model::moves::Moves;
+use crate::model::program::{Event, Label, Program, EXIT};
 use crate::model::standing::{Standing, MOST_STATES, SHEET_SIZE};
 use std::collections::BTreeSet;
+
+/// How often a standing is taken at the most: once when it is marked, and once for each pair of each
+/// routine, 16 routines with 8 roots and 8 ends.
+pub const MOST_TAKINGS: u32 = 1025;
 
 /// What the procedure leaves behind. Both rows go by the standings' numbers.
 pub struct Fresh {
@@ -29,10 +35,12 @@ pub fn work_afresh(program: &Program) -> Fresh {
 /// Everything that the procedure remembers between two takings.
 struct Working<'a> {
     program: &'a Program,
+    moves: Moves<'a>,
     marked: Vec<bool>,
     waiting: BTreeSet<usize>,
     taken: Vec<u32>,
-    /// The known pairs: (f, r, q) once the exit (f, 1, r, q) has been taken.
+    /// The known pairs: (f, r, q) once the exit (f, 1, r, q) has been taken. They end before the
+    /// return's move.
     known: BTreeSet<(u8, u8, u8)>,
 }
 
@@ -40,6 +48,7 @@ impl Working<'_> {
     fn new(program: &Program) -> Working<'_> {
         Working {
             program,
+            moves: Moves::of(program),
             marked: vec![false; SHEET_SIZE],
             waiting: BTreeSet::new(),
             taken: vec![0; SHEET_SIZE],
@@ -80,39 +89,192 @@ impl Working<'_> {
         results
     }
 
-    /// The pair becomes known, and every marked standing that could have made this call waits.
+    /// The pair becomes known, and every marked standing from which a call can give this root waits,
+    /// whether or not the return's move leads it anywhere.
     fn take_exit(&mut self, exit: Standing) {
         self.known.insert((exit.routine, exit.root, exit.state));
+        for caller in self.callers(exit.routine, exit.root) {
+            if self.marked[caller.number()] {
+                self.waiting.insert(caller.number());
+            }
+        }
+    }
+
+    /// The standings, marked or not, at which a step calls this routine and the call can give this
+    /// root.
+    fn callers(&self, routine: u8, root: u8) -> Vec<Standing> {
+        let states = 0..self.program.states;
+        let gives = |&state: &u8| self.moves.leads(state, Event::Call(routine), root);
+        let states: Vec<u8> = states.filter(gives).collect();
+        let mut callers = Vec::new();
         for step in &self.program.steps {
-            if step.label != Label::Call(exit.routine) {
+            if step.label != Label::Call(routine) {
                 continue;
             }
             for root in 0..MOST_STATES {
-                let caller = Standing {
+                let caller = |&state: &u8| Standing {
                     routine: step.routine,
                     place: step.from,
                     root,
-                    state: exit.root,
+                    state,
                 };
-                if self.marked[caller.number()] {
-                    self.waiting.insert(caller.number());
+                callers.extend(states.iter().map(caller));
+            }
+        }
+        callers
+    }
+
+    fn acted(&self, standing: Standing, action: u8, to: u8) -> Vec<Standing> {
+        let states = self.moves.after(standing.state, Event::Action(action));
+        let results = states.into_iter().map(|state| standing.at(to, state));
+        results.collect()
+    }
+
+    /// The entry for each root that the call's move gives, and what the return's move makes of each
+    /// known pair with such a root.
+    fn called(&self, standing: Standing, callee: u8, to: u8) -> Vec<Standing> {
+        let mut results = Vec::new();
+        for root in self.moves.after(standing.state, Event::Call(callee)) {
+            results.push(Standing::entry(callee, root));
+            for end in self.known_ends(callee, root) {
+                let states = self.moves.after(end, Event::Return(callee));
+                results.extend(states.into_iter().map(|state| standing.at(to, state)));
+            }
+        }
+        results
+    }
+
+    /// The states in which a routine that began with this root is known to end.
+    fn known_ends(&self, routine: u8, root: u8) -> Vec<u8> {
+        let states = 0..self.program.states;
+        let is_known = |&state: &u8| self.known.contains(&(routine, root, state));
+        states.filter(is_known).collect()
+    }
+}
+
+#[cfg(test)]
+mod tests {
+    use super::*;
+    use crate::generate::hearing::MetHearing;
+    use crate::generate::programs::program_by_shares;
+    use crate::generate::random::Random;
+    use crate::generate::shapes::Shape;
+    use crate::model::analysis::analyze;
+    use std::collections::BTreeMap;
+
+    /// Whether the rule can go from one state to another by an event, read off its lines.
+    fn goes(program: &Program, from: u8, event: Event, to: u8) -> bool {
+        let lines: Vec<_> = program.rule.iter().collect();
+        let is_heard = lines.iter().any(|line| line.event == event);
+        match event {
+            Event::Call(_) | Event::Return(_) if !is_heard => from == to,
+            _ => lines
+                .iter()
+                .any(|line| (line.from, line.event, line.to) == (from, event, to)),
+        }
+    }
+
+    /// The procedure once more, by the letter: sets of standings, every state tried everywhere, and the
+    /// rule asked line by line.
+    #[derive(Default)]
+    struct Letter {
+        marked: BTreeSet<Standing>,
+        waiting: BTreeSet<Standing>,
+        known: BTreeSet<(u8, u8, u8)>,
+        taken: BTreeMap<Standing, u32>,
+    }
+
+    impl Letter {
+        fn work(program: &Program) -> Letter {
+            let mut letter = Letter::default();
+            for &state in &program.starts {
+                letter.mark(Standing::entry(0, state));
+            }
+            while let Some(&at) = letter.waiting.iter().next() {
+                letter.waiting.remove(&at);
+                *letter.taken.entry(at).or_default() += 1;
+                if at.place == EXIT {
+                    letter.end(program, at);
+                } else {
+                    letter.step(program, at);
+                }
+            }
+            letter
+        }
+
+        fn mark(&mut self, at: Standing) {
+            if self.marked.insert(at) {
+                self.waiting.insert(at);
+            }
+        }
+
+        fn end(&mut self, program: &Program, exit: Standing) {
+            self.known.insert((exit.routine, exit.root, exit.state));
+            let call = Event::Call(exit.routine);
+            for at in &self.marked {
+                let mut callees = program.callees_from(at.routine, at.place);
+                let calls = callees.any(|callee| callee == exit.routine);
+                if calls && goes(program, at.state, call, exit.root) {
+                    self.waiting.insert(*at);
+                }
+            }
+        }
+
+        fn step(&mut self, program: &Program, at: Standing) {
+            for step in program.steps_from(at.routine, at.place) {
+                for first in 0..program.states {
+                    match step.label {
+                        Label::Action(action) => {
+                            if goes(program, at.state, Event::Action(action), first) {
+                                self.mark(at.at(step.to, first));
+                            }
+                        }
+                        Label::Call(callee) => {
+                            if goes(program, at.state, Event::Call(callee), first) {
+                                self.mark(Standing::entry(callee, first));
+                                self.come_back(program, at.at(step.to, 0), callee, first);
+                            }
+                        }
+                    }
+                }
+            }
+        }
+
+        /// Marks where a call that gave this root comes back to, in every state that it can.
+        fn come_back(&mut self, program: &Program, to: Standing, callee: u8, root: u8) {
+            for end in 0..program.states {
+                for state in 0..program.states {
+                    let is_known = self.known.contains(&(callee, root, end));
+                    if is_known && goes(program, end, Event::Return(callee), state) {
+                        self.mark(Standing { state, ..to });
+                    }
                 }
             }
         }
     }
 
-    fn acted(&self, standing: Standing, action: u8, to: u8) -> Vec<Standing> {
-        let states = self.program.next_states(standing.state, action);
-        states.map(|state| standing.at(to, state)).collect()
-    }
-
-    fn called(&self, standing: Standing, callee: u8, to: u8) -> Vec<Standing> {
-        let mut results = vec![Standing::entry(callee, standing.state)];
-        for state in 0..MOST_STATES {
-            if self.known.contains(&(callee, standing.state, state)) {
-                results.push(standing.at(to, state));
+    #[test]
+    fn each_standing_is_taken_as_often_as_by_the_letter() {
+        let shares = [
+            (50, Shape::Tiny),
+            (25, Shape::Recursive),
+            (20, Shape::Layered),
+            (5, Shape::Mixed),
+        ];
+        let mut hearing = MetHearing::default();
+        for seed in 0..1000 {
+            let program = program_by_shares(&mut Random::new(seed), &shares);
+            let (given, wanted) = (work_afresh(&program), Letter::work(&program));
+            for number in 0..SHEET_SIZE {
+                let at = Standing::of_number(number);
+                let times = wanted.taken.get(&at).copied().unwrap_or(0);
+                assert_eq!(given.taken[number], times, "seed {seed}, {at:?}");
+                let is_marked = wanted.marked.contains(&at);
+                assert_eq!(given.marked[number], is_marked, "seed {seed}, {at:?}");
             }
+            hearing.note(&program, &analyze(&program).sheet);
         }
-        results
+        println!("{hearing:?}");
+        hearing.check(20);
     }
 }

@@ -11,7 +11,8 @@
 use crate::model::analysis::own_sheet;
 use crate::model::change::Change;
 use crate::model::least::grown;
-use crate::model::program::{Label, Program, EXIT};
+use crate::model::moves::Moves;
+use crate::model::program::{Event, Label, Program, EXIT};
 use crate::model::standing::{standings, Standing};
 use std::collections::BTreeSet;
 
@@ -72,6 +73,17 @@ pub fn calls(program: &Program) -> BTreeSet<(u8, u8)> {
         .collect()
 }
 
+/// The roots that the calls from a standing give: the called routines, each with the states after the
+/// call's move.
+pub fn roots_given(program: &Program, moves: &Moves, at: &Standing) -> Vec<(u8, u8)> {
+    let callees = program.callees_from(at.routine, at.place);
+    let given = callees.flat_map(|callee| {
+        let roots = moves.after(at.state, Event::Call(callee));
+        roots.into_iter().map(move |root| (callee, root))
+    });
+    given.collect()
+}
+
 /// The groups, in no order that means anything.
 pub fn groups(program: &Program) -> BTreeSet<BTreeSet<u8>> {
     let routines = 0..program.routines();
@@ -129,6 +141,7 @@ pub fn is_root(standing: &Standing) -> bool {
 mod tests {
     use super::*;
     use crate::cases::small::program;
+    use crate::generate::hearing::{Heard, MetHearing};
     use crate::generate::programs::program_of_shape;
     use crate::generate::random::Random;
     use crate::generate::shapes::Shape;
@@ -182,14 +195,19 @@ mod tests {
         met.note(&after, change.routine(), reopened);
     }
 
-    /// Looks at programs that are small, or middling.
+    /// Looks at programs that are small, or middling, and whose rules hear all sorts of things.
     fn small_programs(mut check: impl FnMut(&mut Random, &Program)) {
+        let mut hearing = MetHearing::default();
         let shapes = [Shape::Tiny, Shape::Recursive, Shape::Layered, Shape::Mixed];
         for seed in 0..240 {
             let random = &mut Random::new(seed);
             let program = program_of_shape(random, shapes[seed as usize % shapes.len()]);
+            hearing.note(&program, &own_sheet(&program));
             check(random, &program);
         }
+        println!("{hearing:?}");
+        hearing.check(6);
+        assert!(hearing.times(Heard::Nothing) >= 50, "{hearing:?}");
     }
 
     #[test]

@@ -4,8 +4,9 @@
 //! against working afresh, which says what the sheet is.
 
 use crate::model::change::Change;
-use crate::model::groups::{bits, calls, groups, is_root, own_standings};
-use crate::model::program::{Label, Program, Step};
+use crate::model::groups::{bits, calls, groups, is_root, own_standings, roots_given};
+use crate::model::moves::Moves;
+use crate::model::program::{Event, Label, Program, Step};
 use crate::model::standing::{Standing, MOST_STATES};
 use std::collections::BTreeSet;
 
@@ -116,11 +117,12 @@ fn follow(
     routines: &BTreeSet<u8>,
     mut standings: BTreeSet<Standing>,
 ) -> BTreeSet<Standing> {
+    let moves = Moves::of(program);
     loop {
         let mut further = BTreeSet::new();
         for at in standings.iter().filter(|at| routines.contains(&at.routine)) {
             for step in program.steps_from(at.routine, at.place) {
-                further.extend(led_to(program, routines, &standings, *at, step));
+                further.extend(led_to(&moves, routines, &standings, *at, step));
             }
         }
         if further.is_subset(&standings) {
@@ -131,40 +133,44 @@ fn follow(
 }
 
 fn led_to(
-    program: &Program,
+    moves: &Moves,
     routines: &BTreeSet<u8>,
     standings: &BTreeSet<Standing>,
     at: Standing,
     step: &Step,
 ) -> Vec<Standing> {
+    let mut results = Vec::new();
     match step.label {
         Label::Action(action) => {
-            let states = program.next_states(at.state, action);
-            states.map(|state| at.at(step.to, state)).collect()
+            let states = moves.after(at.state, Event::Action(action));
+            results.extend(states.into_iter().map(|state| at.at(step.to, state)));
         }
         Label::Call(callee) => {
-            let returns = pairs(standings, callee);
-            let returns = returns.into_iter().filter(|pair| pair.0 == at.state);
-            let mut results: Vec<_> = returns.map(|pair| at.at(step.to, pair.1)).collect();
+            let roots = moves.after(at.state, Event::Call(callee));
             if routines.contains(&callee) {
-                results.push(Standing::entry(callee, at.state));
+                results.extend(roots.iter().map(|&root| Standing::entry(callee, root)));
             }
-            results
+            let pairs = pairs(standings, callee).into_iter();
+            for (_, end) in pairs.filter(|(root, _)| roots.contains(root)) {
+                let states = moves.after(end, Event::Return(callee));
+                results.extend(states.into_iter().map(|state| at.at(step.to, state)));
+            }
         }
     }
+    results
 }
 
 /// Leaves out the standings whose root no longer occurs. A root occurs if it is main's in a start
-/// state, or if a standing whose root occurs calls the routine in it.
+/// state, or if a standing whose root occurs calls the routine and the call's move gives it.
 fn with_roots_that_occur(program: &Program, sheet: BTreeSet<Standing>) -> BTreeSet<Standing> {
+    let moves = Moves::of(program);
     let starts = program.starts.iter();
     let mut roots: BTreeSet<(u8, u8)> = starts.map(|&state| (0, state)).collect();
     loop {
         let before = roots.len();
         for at in &sheet {
             if roots.contains(&(at.routine, at.root)) {
-                let callees = program.callees_from(at.routine, at.place);
-                roots.extend(callees.map(|callee| (callee, at.state)));
+                roots.extend(roots_given(program, &moves, at));
             }
         }
         if roots.len() == before {

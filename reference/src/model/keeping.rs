@@ -4,85 +4,124 @@
 //! is gone through again and again until nothing more is kept. So two marks that only support each
 //! other both go.
 
-use crate::model::program::{Label, Program};
+use crate::model::moves::Moves;
+use crate::model::program::{Event, Label, Program, Step};
 use crate::model::standing::{Standing, MOST_STATES, SHEET_SIZE};
 
 /// The sheet that is left: 1 for each mark that stays, and 0 for all else. Any byte other than 0 is
 /// a mark, the program's own sheet or not.
 pub fn keep(program: &Program, sheet: &[u8]) -> Vec<u8> {
-    let mut kept = vec![0; SHEET_SIZE];
+    let mut keeping = Keeping {
+        program,
+        moves: Moves::of(program),
+        kept: vec![0; SHEET_SIZE],
+    };
     loop {
-        let before = kept.clone();
+        let before = keeping.kept.clone();
         for number in 0..SHEET_SIZE {
-            let is_open = sheet[number] != 0 && kept[number] == 0;
-            if is_open && has_support(program, &kept, Standing::of_number(number)) {
-                kept[number] = 1;
+            let is_open = sheet[number] != 0 && keeping.kept[number] == 0;
+            if is_open && keeping.has_support(Standing::of_number(number)) {
+                keeping.kept[number] = 1;
             }
         }
-        if kept == before {
-            return kept;
+        if keeping.kept == before {
+            return before;
         }
     }
 }
 
-fn has_support(program: &Program, kept: &[u8], standing: Standing) -> bool {
-    is_start(program, standing)
-        || is_called(program, kept, standing)
-        || is_led_to(program, kept, standing)
+/// What is kept so far, and what support is judged by.
+struct Keeping<'a> {
+    program: &'a Program,
+    moves: Moves<'a>,
+    kept: Vec<u8>,
 }
 
-fn is_start(program: &Program, standing: Standing) -> bool {
-    program.starts.contains(&standing.state) && standing == Standing::entry(0, standing.state)
-}
-
-/// Whether a kept standing calls this entry in this state. The call need not return.
-fn is_called(program: &Program, kept: &[u8], standing: Standing) -> bool {
-    if standing != Standing::entry(standing.routine, standing.state) {
-        return false;
+impl Keeping<'_> {
+    fn is_kept(&self, standing: Standing) -> bool {
+        self.kept[standing.number()] == 1
     }
-    let mut calls = program.steps.iter();
-    calls.any(|step| {
-        let caller = |root| Standing {
-            routine: step.routine,
-            place: step.from,
-            root,
-            state: standing.state,
-        };
-        step.label == Label::Call(standing.routine)
-            && (0..MOST_STATES).any(|root| kept[caller(root).number()] == 1)
-    })
-}
 
-/// Whether a step of the same activation leads here: an action that the rule allows from a kept
-/// standing, or a call made from a kept standing whose return is kept.
-fn is_led_to(program: &Program, kept: &[u8], standing: Standing) -> bool {
-    let is_kept = |standing: Standing| kept[standing.number()] == 1;
-    let mut steps = program.steps.iter();
-    steps.any(|step| {
-        if (step.routine, step.to) != (standing.routine, standing.place) {
+    fn has_support(&self, standing: Standing) -> bool {
+        self.is_start(standing) || self.is_called(standing) || self.is_led_to(standing)
+    }
+
+    fn is_start(&self, standing: Standing) -> bool {
+        let starts = &self.program.starts;
+        starts.contains(&standing.state) && standing == Standing::entry(0, standing.state)
+    }
+
+    /// Whether a kept standing calls this entry, and the call's move can give this state. The call
+    /// need not return.
+    fn is_called(&self, entry: Standing) -> bool {
+        if entry != Standing::entry(entry.routine, entry.state) {
             return false;
         }
-        let before = |state| standing.at(step.from, state);
-        match step.label {
-            Label::Action(action) => program.rule.iter().any(|line| {
-                (line.action, line.to) == (action, standing.state) && is_kept(before(line.from))
-            }),
-            Label::Call(callee) => (0..MOST_STATES).any(|root| {
-                is_kept(before(root)) && is_kept(Standing::exit(callee, root, standing.state))
-            }),
+        let mut steps = self.program.steps.iter();
+        steps.any(|step| step.label == Label::Call(entry.routine) && self.gives_root(step, entry))
+    }
+
+    /// Whether a step that calls a routine has a kept standing at its beginning from which the call's
+    /// move gives this entry's root.
+    fn gives_root(&self, step: &Step, entry: Standing) -> bool {
+        let call = Event::Call(entry.routine);
+        let is_kept_in = |state: u8| {
+            (0..MOST_STATES).any(|root| {
+                self.is_kept(Standing {
+                    routine: step.routine,
+                    place: step.from,
+                    root,
+                    state,
+                })
+            })
+        };
+        let mut states = 0..self.program.states;
+        states.any(|state| self.moves.leads(state, call, entry.root) && is_kept_in(state))
+    }
+
+    /// Whether a step of the same activation leads here from a kept standing.
+    fn is_led_to(&self, standing: Standing) -> bool {
+        let leads_here =
+            |step: &&Step| (step.routine, step.to) == (standing.routine, standing.place);
+        let mut steps = self.program.steps.iter().filter(leads_here);
+        steps.any(|step| {
+            let mut before = 0..self.program.states;
+            before.any(|state| {
+                self.is_kept(standing.at(step.from, state))
+                    && self.is_moved(step.label, state, standing.state)
+            })
+        })
+    }
+
+    /// Whether a label moves from one state to another: by an action of the rule, or by a call whose
+    /// return is kept, with the moves of both.
+    fn is_moved(&self, label: Label, from: u8, to: u8) -> bool {
+        match label {
+            Label::Action(action) => self.moves.leads(from, Event::Action(action), to),
+            Label::Call(callee) => {
+                let roots = self.moves.after(from, Event::Call(callee));
+                roots.into_iter().any(|root| {
+                    (0..self.program.states).any(|end| {
+                        self.is_kept(Standing::exit(callee, root, end))
+                            && self.moves.leads(end, Event::Return(callee), to)
+                    })
+                })
+            }
         }
-    })
+    }
 }
 
 #[cfg(test)]
 mod tests {
     use super::*;
     use crate::cases::keepings::{self, KeepingCase};
-    use crate::cases::sample;
+    use crate::cases::{heard, sample};
     use crate::generate::programs::program_of_seed;
     use crate::generate::random::Random;
+    use crate::generate::sheets;
     use crate::model::analysis::own_sheet;
     use crate::model::edit::{after, Edit};
+    use crate::model::least::least_set_within;
     use crate::model::standing::{marked, standings};
 
     #[test]
@@ -118,6 +157,24 @@ mod tests {
             let kept = keep(&after, &own_sheet(&program));
             assert_eq!(kept, own_sheet(&after), "seed {seed}: {edit:?}");
         }
+    }
+
+    /// What is kept of any sheet is the least set that may not leave the sheet's marks.
+    #[test]
+    fn what_is_kept_is_the_least_set_within_the_marks() {
+        let mut parted = 0;
+        for seed in 0..700 {
+            let random = &mut Random::new(seed);
+            let program = program_of_seed(seed);
+            let own = own_sheet(&program);
+            let way = random.below(sheets::ANY);
+            let sheet = sheets::any(random, &own, way);
+            let wanted = least_set_within(&program, |at| sheet[at.number()] != 0);
+            let kept = standings(&keep(&program, &sheet));
+            assert_eq!(kept, wanted, "seed {seed}, way {way}");
+            parted += usize::from(!kept.is_empty() && kept.len() < marked(&own).len());
+        }
+        assert!(parted >= 60, "{parted}");
     }
 
     fn check(cases: &[KeepingCase]) {
@@ -158,6 +215,11 @@ mod tests {
         let count = |routine| called.iter().filter(|at| at.routine == routine).count();
         assert!(count(1) > 2 && count(2) > 2);
         check_drops(&keepings::no_outside_call());
+    }
+
+    #[test]
+    fn calls_and_returns_support_what_their_moves_give() {
+        check(&heard::keepings());
     }
 
     #[test]

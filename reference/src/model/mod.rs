@@ -18,7 +18,10 @@
 //! What a program can do:
 //!
 //! - `standing` has the standings and their numbers.
-//! - `fresh` works a program's standings afresh, the lowest first, and counts the takings.
+//! - `moves` says what an action, a call or a return does to the rule's state.
+//! - `fresh` works a program's standings afresh, the lowest first, and counts the takings; `former` does
+//!   it as it was done before the rule could hear calls and returns, and `acted_out` makes programs in
+//!   which that comes to the same.
 //! - `least` and `runs` find the same standings in two other ways: as a least set, and step by step
 //!   with a stack of open calls.
 //! - `analysis` has the sheet, the counts and the findings of a program.
@@ -31,6 +34,7 @@
 //! - `book` is the plain book, and `lists` plays lists of calls with it and without it.
 //! - `bench` gives all that the program `bench` prints.
 
+pub mod acted_out;
 pub mod analysis;
 pub mod bench;
 pub mod book;
@@ -39,6 +43,7 @@ pub mod change;
 pub mod edit;
 pub mod exchange;
 pub mod file;
+pub mod former;
 pub mod fresh;
 pub mod groups;
 pub mod inside_out;
@@ -47,6 +52,7 @@ pub mod kinds;
 pub mod least;
 pub mod lines;
 pub mod lists;
+pub mod moves;
 pub mod program;
 pub mod ranges;
 pub mod refusals;

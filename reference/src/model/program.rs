@@ -4,13 +4,16 @@ use std::collections::BTreeSet;
 
 /// The label that calls routine 0; routine f is called by the label f above it.
 pub const FIRST_CALL: u8 = 0x40;
+/// The label of routine 0's return, in the rule only; that of routine f stands f above it.
+pub const FIRST_RETURN: u8 = 0x60;
 /// How many steps a program may have, and how many rule lines; and how many rows a file.
 pub const TABLE_ROWS: usize = 256;
 /// The exit of every routine.
 pub const EXIT: u8 = 1;
 
 /// A step's label. An action's number lies below every call's, so the order of the cases is the
-/// order of the numbers.
+/// order of the numbers. No step has the label of a return: a number from 60 on is taken for the call
+/// of a routine that no program has, and so is out of range.
 #[derive(Clone, Copy, Debug, PartialEq, Eq, PartialOrd, Ord)]
 pub enum Label {
     Action(u8),
@@ -30,6 +33,35 @@ impl Label {
         match self {
             Label::Action(action) => action,
             Label::Call(routine) => FIRST_CALL + routine,
+        }
+    }
+}
+
+/// What the rule can hear: an action, the call of a routine, or its return. The order of the cases is
+/// the order of the numbers.
+#[derive(Clone, Copy, Debug, PartialEq, Eq, PartialOrd, Ord)]
+pub enum Event {
+    Action(u8),
+    Call(u8),
+    Return(u8),
+}
+
+impl Event {
+    pub fn of_number(number: u8) -> Event {
+        if number < FIRST_CALL {
+            Event::Action(number)
+        } else if number < FIRST_RETURN {
+            Event::Call(number - FIRST_CALL)
+        } else {
+            Event::Return(number - FIRST_RETURN)
+        }
+    }
+
+    pub fn number(self) -> u8 {
+        match self {
+            Event::Action(action) => action,
+            Event::Call(routine) => FIRST_CALL + routine,
+            Event::Return(routine) => FIRST_RETURN + routine,
         }
     }
 }
@@ -61,7 +93,7 @@ impl Step {
 #[derive(Clone, Copy, Debug, PartialEq, Eq, PartialOrd, Ord)]
 pub struct RuleLine {
     pub from: u8,
-    pub action: u8,
+    pub event: Event,
     pub to: u8,
 }
 
@@ -70,13 +102,13 @@ impl RuleLine {
     pub fn of_numbers(numbers: &[u8]) -> RuleLine {
         RuleLine {
             from: numbers[0],
-            action: numbers[1],
+            event: Event::of_number(numbers[1]),
             to: numbers[2],
         }
     }
 
     pub fn numbers(self) -> [u8; 3] {
-        [self.from, self.action, self.to]
+        [self.from, self.event.number(), self.to]
     }
 }
 
@@ -123,16 +155,35 @@ impl Program {
             Label::Action(_) => None,
         })
     }
+}
 
-    /// The states in which the rule allows an action to end. In the order of rule lines those for one
-    /// state and action stand side by side.
-    pub fn next_states(&self, state: u8, action: u8) -> impl Iterator<Item = u8> + '_ {
-        let line = |to| RuleLine {
-            from: state,
-            action,
-            to,
-        };
-        let lines = self.rule.range(line(0)..=line(u8::MAX));
-        lines.map(|line| line.to)
+#[cfg(test)]
+mod tests {
+    use super::*;
+
+    #[test]
+    fn numbers_and_labels_belong_to_each_other_in_order() {
+        let labels: Vec<Label> = (0..=255).map(Label::of_number).collect();
+        let events: Vec<Event> = (0..=255).map(Event::of_number).collect();
+        for number in 0..=255 {
+            assert_eq!(labels[usize::from(number)].number(), number);
+            assert_eq!(events[usize::from(number)].number(), number);
+        }
+        assert!(labels.windows(2).all(|pair| pair[0] < pair[1]));
+        assert!(events.windows(2).all(|pair| pair[0] < pair[1]));
+    }
+
+    #[test]
+    fn calls_begin_at_40_and_returns_at_60() {
+        for (number, event) in [
+            (0x3F, Event::Action(0x3F)),
+            (0x40, Event::Call(0)),
+            (0x4F, Event::Call(15)),
+            (0x5F, Event::Call(31)),
+            (0x60, Event::Return(0)),
+            (0x6F, Event::Return(15)),
+        ] {
+            assert_eq!(Event::of_number(number), event);
+        }
     }
 }

@@ -1,6 +1,6 @@
 //! Which numbers are in range: refusal 5 of a frame, and 13 of an edit, which is judged as 5.
 
-use crate::model::program::{Label, Program, RuleLine, Step, EXIT};
+use crate::model::program::{Event, Label, Program, RuleLine, Step, EXIT};
 use crate::model::table::Row;
 
 /// What numbers are held against: the sizes, and how many places each routine has, as far as it is
@@ -49,7 +49,14 @@ impl Ranges {
     }
 
     pub fn has_rule_line(&self, line: RuleLine) -> bool {
-        self.has_state(line.from) && line.action < self.actions && self.has_state(line.to)
+        self.has_state(line.from) && self.has_event(line.event) && self.has_state(line.to)
+    }
+
+    fn has_event(&self, event: Event) -> bool {
+        match event {
+            Event::Action(action) => action < self.actions,
+            Event::Call(routine) | Event::Return(routine) => routine < self.routines,
+        }
     }
 
     /// Every bit and the next state have to fit. A row without a bit has no bit that does not.

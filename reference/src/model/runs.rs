@@ -2,7 +2,8 @@
 //! occur, for the run that met it is there to be shown. A search can be cut short, at a depth of
 //! the stack or at a count of moments, and says whether it was.
 
-use crate::model::program::{Label, Program, EXIT};
+use crate::model::moves::Moves;
+use crate::model::program::{Event, Label, Program, EXIT};
 use crate::model::standing::Standing;
 use std::collections::BTreeSet;
 
@@ -44,6 +45,7 @@ pub fn search(program: &Program, depth: usize, most_moments: usize) -> Search {
         all_depths: true,
         all_moments: true,
     };
+    let moves = Moves::of(program);
     let mut seen = BTreeSet::new();
     let mut to_follow = beginnings(program);
     while let Some(moment) = to_follow.pop() {
@@ -55,7 +57,7 @@ pub fn search(program: &Program, depth: usize, most_moments: usize) -> Search {
             break;
         }
         search.met.insert(moment.standing);
-        for next in next_moments(program, &moment) {
+        for next in next_moments(program, &moves, &moment) {
             if next.open.len() <= depth {
                 to_follow.push(next);
             } else {
@@ -77,44 +79,54 @@ fn beginnings(program: &Program) -> Vec<Moment> {
 }
 
 /// Every moment that one step, or one return, leads to.
-fn next_moments(program: &Program, moment: &Moment) -> Vec<Moment> {
+fn next_moments(program: &Program, moves: &Moves, moment: &Moment) -> Vec<Moment> {
     let here = moment.standing;
     if here.place == EXIT {
-        return returned(moment).into_iter().collect();
+        return returned(moves, moment);
     }
     program
         .steps_from(here.routine, here.place)
         .flat_map(|step| match step.label {
-            Label::Action(action) => acted(program, moment, action, step.to),
-            Label::Call(callee) => vec![called(moment, callee, step.to)],
+            Label::Action(action) => acted(moves, moment, action, step.to),
+            Label::Call(callee) => called(moves, moment, callee, step.to),
         })
         .collect()
 }
 
-/// The moment after the return from the innermost call; none if main's first activation ends.
-fn returned(moment: &Moment) -> Option<Moment> {
+/// The moments after the return from the innermost call; none if main's first activation ends, or if
+/// the rule does not let the return happen.
+fn returned(moves: &Moves, moment: &Moment) -> Vec<Moment> {
+    let here = moment.standing;
     let mut open = moment.open.clone();
-    let call = open.pop()?;
-    let standing = Standing {
-        routine: call.routine,
-        place: call.goes_on,
-        root: call.root,
-        state: moment.standing.state,
+    let call = match open.pop() {
+        Some(call) => call,
+        None => return Vec::new(),
     };
-    Some(Moment { standing, open })
+    let after = |state| Moment {
+        standing: Standing {
+            routine: call.routine,
+            place: call.goes_on,
+            root: call.root,
+            state,
+        },
+        open: open.clone(),
+    };
+    let states = moves.after(here.state, Event::Return(here.routine));
+    states.into_iter().map(after).collect()
 }
 
-fn acted(program: &Program, moment: &Moment, action: u8, to: u8) -> Vec<Moment> {
+fn acted(moves: &Moves, moment: &Moment, action: u8, to: u8) -> Vec<Moment> {
     let here = moment.standing;
-    let states = program.next_states(here.state, action);
     let after = |state| Moment {
         standing: here.at(to, state),
         open: moment.open.clone(),
     };
-    states.map(after).collect()
+    let states = moves.after(here.state, Event::Action(action));
+    states.into_iter().map(after).collect()
 }
 
-fn called(moment: &Moment, callee: u8, goes_on: u8) -> Moment {
+/// The moments in which the called routine begins, one for each state that the call's move gives.
+fn called(moves: &Moves, moment: &Moment, callee: u8, goes_on: u8) -> Vec<Moment> {
     let here = moment.standing;
     let mut open = moment.open.clone();
     open.push(Open {
@@ -122,8 +134,10 @@ fn called(moment: &Moment, callee: u8, goes_on: u8) -> Moment {
         goes_on,
         root: here.root,
     });
-    Moment {
-        standing: Standing::entry(callee, here.state),
-        open,
-    }
+    let begun = |root| Moment {
+        standing: Standing::entry(callee, root),
+        open: open.clone(),
+    };
+    let roots = moves.after(here.state, Event::Call(callee));
+    roots.into_iter().map(begun).collect()
 }

@@ -21,7 +21,8 @@ pub struct Standing {
 }
 
 impl Standing {
-    /// The standing in which a routine begins: its root is the state in which it was called.
+    /// The standing in which a routine begins: its root is a start state, or the state after the move
+    /// of the call.
     pub fn entry(routine: u8, root: u8) -> Standing {
         Standing {
             routine,

@@ -1,9 +1,10 @@
 //! The table: a rule that is put down in rows, and the rule lines that it becomes.
 //!
 //! A row meets every pair of one of its states and one of its actions. In a file with rows each pair
-//! of a state below Q and an action below A has to be met by exactly one row.
+//! of a state below Q and an action below A has to be met by exactly one row. Rows speak of actions
+//! only, so a rule that is put down in them hears no call and no return.
 
-use crate::model::program::RuleLine;
+use crate::model::program::{Event, RuleLine};
 use crate::model::refusals::{PAIR_MET_TWICE, PAIR_NOT_MET};
 use std::collections::BTreeSet;
 
@@ -76,7 +77,7 @@ pub fn line_of_pair(rows: &[Row], pair: Pair) -> Result<RuleLine, u32> {
         [] => Err(PAIR_NOT_MET),
         [row] => Ok(RuleLine {
             from: pair.0,
-            action: pair.1,
+            event: Event::Action(pair.1),
             to: row.to,
         }),
         _ => Err(PAIR_MET_TWICE),

@@ -6,6 +6,7 @@ pub mod lent;
 pub mod lists;
 pub mod trial;
 
+use reference::model::analysis::NONE;
 use reference::model::calls::repairs::Function::{self, *};
 use reference::model::calls::repairs::{Buffers, Repaired};
 use reference::model::calls::sheets::Counts;
@@ -58,6 +59,33 @@ pub fn analyze(file: &[u8], marks: &mut [u8], work: &mut [u8]) -> Answer<Counts>
 pub fn next_violation(file: &[u8], marks: &[u8], work: &mut [u8], from: u32) -> Answer<u32> {
     let answer = binding::next_violation(Some(file), Some(marks), Some(work), from);
     in_words(answer, |[found]| found)
+}
+
+/// A fresh working by the library alone: the marked numbers and the three counts.
+pub fn worked(file: &[u8]) -> (Vec<usize>, Counts) {
+    let (mut marks, mut work) = (vec![0xA5; SHEET_SIZE], vec![0x5A; SHEET_SIZE]);
+    let answer = analyze(file, &mut marks, &mut work);
+    assert_eq!((answer.refusal, answer.line), (0, 0));
+    assert!(marks.iter().all(|&byte| byte <= 1));
+    assert!(work.iter().all(|&byte| byte == 0));
+    (marked(&marks), answer.value)
+}
+
+/// The list of findings by the library alone.
+pub fn listed(file: &[u8]) -> Vec<u32> {
+    let (mut marks, mut work) = (vec![0; SHEET_SIZE], vec![0; SHEET_SIZE]);
+    analyze(file, &mut marks, &mut work);
+    let mut found = Vec::new();
+    loop {
+        let from = found.last().map_or(0, |&last| last + 1);
+        let answer = next_violation(file, &marks, &mut work, from);
+        assert_eq!((answer.refusal, answer.line), (0, 0));
+        if answer.value == NONE {
+            return found;
+        }
+        assert!(answer.value >= from, "{} from {from}", answer.value);
+        found.push(answer.value);
+    }
 }
 
 /// The keeping, with NULL for each buffer of no bytes.

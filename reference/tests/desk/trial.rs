@@ -6,6 +6,7 @@ use reference::generate::calls::call;
 use reference::generate::damage::damage;
 use reference::generate::edits;
 use reference::generate::files::file_of_seed;
+use reference::generate::hearing::{Heard, MetHearing};
 use reference::generate::met::{Met, Times};
 use reference::generate::programs::program_by_shares;
 use reference::generate::random::Random;
@@ -21,7 +22,7 @@ use reference::model::edit::{edit_of_line, edited_by_line, Edit};
 use reference::model::file::{read, Reading};
 use reference::model::lists::Call;
 use reference::model::program::Program;
-use reference::model::refusals::FOREIGN_SHEET;
+use reference::model::refusals::{EDIT_RANGE, FOREIGN_SHEET};
 use reference::model::standing::{marked, SHEET_SIZE};
 use reference::model::write::{write, OUTPUT_SIZE};
 
@@ -43,6 +44,9 @@ pub struct Tally {
     pub reopened: [usize; 3],
     /// Exchanges.
     pub texts: MetTexts,
+    /// Accepted calls by what the rule hears, and edit lines refused for the label of a return.
+    pub hearing: MetHearing,
+    pub return_labels: usize,
     /// The most marks that a sheet of a list had.
     pub largest_sheet: usize,
 }
@@ -68,6 +72,14 @@ impl Tally {
         if function.is_inside_out() && refusal == 0 {
             let routines = answer.value.reopened.count_ones().min(2);
             self.reopened[routines as usize] += 1;
+        }
+        match (reading, function.form()) {
+            (Ok(before), _) if refusal == 0 => self.hearing.note(before, got.sheet.content()),
+            (Ok(before), Form::Edit) if refusal == EDIT_RANGE => {
+                let is_return = edits::has_return_label(before, &got.text);
+                self.return_labels += usize::from(is_return);
+            }
+            _ => {}
         }
         match (reading, function.form()) {
             (Ok(before), Form::Edit) if refusal == 0 => self.note_edit(before, &got.text),
@@ -102,6 +114,15 @@ impl Tally {
     pub fn check_accepted(&self, accepted: usize, changed: usize) {
         assert!(self.met.times(0) >= accepted, "{self:?}");
         assert!(self.changed >= changed, "{self:?}");
+    }
+
+    /// Each class of rules by what they hear has to be met so many times by accepted calls, and rules
+    /// that hear nothing by a fifth of these.
+    pub fn check_hearing(&self, least: usize) {
+        self.hearing.check(least);
+        let accepted = self.met.times(0);
+        let deaf = self.hearing.times(Heard::Nothing);
+        assert!(deaf >= accepted / 5 && deaf <= accepted * 3 / 5, "{self:?}");
     }
 
     /// Calls that reopen no routine, one, or more have each to be met so many times.

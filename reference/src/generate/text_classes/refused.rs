@@ -8,7 +8,7 @@ use crate::model::analysis::own_sheet;
 use crate::model::exchange::in_order;
 use crate::model::kinds::{count_of_numbers, EDITS, EXCHANGES, FRAMES, ROUTINE, STEP};
 use crate::model::lines::{numbers_of_kind, numbers_of_line};
-use crate::model::program::{Label, Step, EXIT, TABLE_ROWS};
+use crate::model::program::{Label, Step, EXIT, FIRST_RETURN, TABLE_ROWS};
 use std::collections::BTreeSet;
 
 /// 12.
@@ -85,7 +85,7 @@ fn is_of_no_kind(line: &[u8]) -> bool {
 }
 
 /// 13.
-pub const OUT_OF_RANGE: [Class; 20] = [
+pub const OUT_OF_RANGE: [Class; 21] = [
     ("one place", |of| has_count(of, 1)),
     ("17 places", |of| has_count(of, 17)),
     ("routine R", |of| {
@@ -107,6 +107,11 @@ pub const OUT_OF_RANGE: [Class; 20] = [
     ("a call of R", |of| {
         let label = Label::Call(of.program.routines());
         of.own_steps().any(|step| step.label == label)
+    }),
+    ("a return", |of| {
+        let returns = FIRST_RETURN..FIRST_RETURN + of.program.routines();
+        of.own_steps()
+            .any(|step| returns.contains(&step.label.number()))
     }),
     ("another, past its own count", |of| {
         of.others_steps().any(|step| is_past_own(of, &step))
