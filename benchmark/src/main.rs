@@ -4,11 +4,11 @@
 mod changes;
 mod library;
 mod plain;
+mod programs;
 
 use library::Buffers;
 use plain::{Search, Tables};
-use reference::generate::programs::{hub, program_of_shape};
-use reference::generate::random::Random;
+use reference::generate::programs::{hub, hub_of_roots};
 use reference::generate::shapes::Shape;
 use reference::model::program::Program;
 use reference::model::standing::SHEET_SIZE;
@@ -31,6 +31,10 @@ clear what they need, within the time measured.
 'plain' looks for the lowest waiting standing from number 0 every time, 'kept' from the lowest
 number at which one can be. A ratio above 1 means that the library is faster. Standings and
 takings are the means over the programs of a kind.
+The rules of the last four kinds hear calls and returns, and those of the others do not. In the
+two kinds 'all heard' every call and every return permutes the states. In 'heard, to two states'
+each of them leads to two, so that there are very many takings. In 'one place, all roots' calls
+alone are heard and each leads to all 8 roots, so that one standing is taken 1,025 times.
 ";
 
 /// One program in the forms that the two sides take.
@@ -119,12 +123,17 @@ fn input(program: &Program) -> Input {
     }
 }
 
-/// The first programs of a shape, by seed, that have so many standings.
-fn of_shape(shape: Shape, least_standings: u32) -> Vec<Input> {
-    let programs = (0..).map(|seed| program_of_shape(&mut Random::new(seed), shape));
+/// The first of these programs that have so many standings.
+fn large(programs: impl Iterator<Item = Program>, least_standings: u32) -> Vec<Input> {
     let inputs = programs.map(|program| input(&program));
     let large = inputs.filter(|input| input.counts[0] >= least_standings);
     large.take(PROGRAMS).collect()
+}
+
+/// The first programs of a shape, by seed, that have so many standings.
+fn of_shape(shape: Shape, least_standings: u32) -> Vec<Input> {
+    let programs = (0..).map(|seed| programs::of_shape(shape, seed));
+    large(programs, least_standings)
 }
 
 fn mean(inputs: &[Input], count: usize) -> u32 {
@@ -168,12 +177,19 @@ fn main() {
         "ratio",
     ];
     print_row("programs a second", names.map(String::from));
+    let wide_heard = (0..).filter_map(programs::wide_all_heard);
+    let full_heard = (0..).map(programs::full_all_heard);
+    let branching = (0..).map(programs::branching);
     let kinds = [
         ("wide, over 2000", of_shape(Shape::Wide, 2000)),
         ("recursive, over 500", of_shape(Shape::Recursive, 500)),
         ("full, over 4000", of_shape(Shape::Full, 4000)),
         ("full, over 10000", of_shape(Shape::Full, 10_000)),
         ("one place calls all 16", vec![input(&hub())]),
+        ("wide, all heard", large(wide_heard, 2000)),
+        ("full, all heard", large(full_heard, 8000)),
+        ("heard, to two states", large(branching, 5000)),
+        ("one place, all roots", vec![input(&hub_of_roots())]),
     ];
     for (kind, inputs) in &kinds {
         measure_row(kind, inputs);
