@@ -6,12 +6,43 @@
  *     gcc -std=c11 -O2 -Iinclude my_program.c target/staticlib/libdesk.a
  *
  * Terms. A program has routines; a routine has nodes (paper: places), which
- * edges (paper: steps) join. An edge's label is an action or a call. The
- * automaton (paper: the rule) goes from state to state by transitions (paper:
- * rule lines), one for each action of a run. A run begins at main's entry in
- * an initial state (paper: start state) and should never arrive in a
- * rejecting one (paper: forbidden). docs/GLOSSARY.md has all terms; "paper"
- * is the scope paper.
+ * edges (paper: steps) join. An edge's label is an action or a call. What
+ * happens in a run is one event after the other: an action, a call of a
+ * routine, or the return from one. The automaton (paper: the rule) goes from
+ * state to state with the events, by transitions (paper: rule lines). A run
+ * begins at main's entry in an initial state (paper: start state) and should
+ * never arrive in a rejecting one (paper: forbidden). docs/GLOSSARY.md has all
+ * terms; "paper" is the scope paper.
+ *
+ * Labels. An edge, frame 53 f n l m, leads from node n to node m of routine f
+ * by the label l. A transition, frame 54 q l s, leads from state q to state s
+ * by the label l. In a program of R routines and A actions a label is one of
+ * these, in hexadecimal as in the file:
+ *
+ *     a         below A           an action; of edges and transitions
+ *     40 + f    with f below R    a call of routine f; of edges and transitions
+ *     60 + f    with f below R    the return from f; of transitions only
+ *
+ * What the automaton hears. By an action it goes where the transitions from
+ * its present state lead; where there is none for the action, the run does not
+ * go on by it. For a call or a return it matters first whether any transition
+ * of the file has its label, from whatever state:
+ *
+ *     none has      the event is not heard: it leaves every state as it is
+ *     some has      it is heard: from each state only the transitions with
+ *                   that label are made. From a state that has none, the call
+ *                   cannot be made, or the routine cannot return; the run does
+ *                   not go on there, and that is no violation
+ *
+ * Each label is asked for by itself: a call that is heard says nothing of its
+ * return, or of calls of other routines. Where routine 2 must not be called in
+ * state 1, say so by a transition to a rejecting state, here 2:
+ *
+ *     54 00 42 00     in state 0 routine 2 may be called, and the state stays
+ *     54 01 42 02     in state 1 a call of routine 2 leads to state 2
+ *
+ * Without the second line the call would only be left out of the runs, and the
+ * program could pass. examples/README.md has this example (clamp).
  *
  * Rows. A file has its transitions one by one, frames 54, or as a table of
  * rows, frames 55; or it has none. A row is
@@ -24,8 +55,10 @@
  * pair if it has the bit of its state and the bit of its action. In an
  * accepted file with rows every state-action pair, of a state and an action of
  * the program, is met by exactly one row, and the program has exactly one
- * transition for it, to that row's next state. What is written always has the
- * transitions one by one. examples/README.md has a table with its rows.
+ * transition for it, to that row's next state. Rows are for actions only: a
+ * file with rows has no transition for a call or a return, and hears none.
+ * What is written always has the transitions one by one. examples/README.md
+ * has a table with its rows.
  *
  * Buffers. A buffer is a pointer and a length in bytes. The pointer has to be
  * valid for that many bytes during the call; with length 0 it is not looked
@@ -74,9 +107,13 @@ extern "C" {
  * routine frame is left out or repeated. */
 #define PALTHRENNI_ORDER 4
 /* A number, or a bit of a row, is outside its range, or an edge leaves the
- * exit. */
+ * exit. Labels have a range too ("Labels", above): that of a transition is an
+ * action, a call or a return, that of an edge an action or a call, of what the
+ * program has. So a return's label, 60 + f, is refused in an edge, and any
+ * label of a routine that is not there in both. */
 #define PALTHRENNI_RANGE 5
-/* The 257th edge, the 257th transition or the 257th row. */
+/* The 257th edge, the 257th transition or the 257th row. Transitions are
+ * counted together, those for actions, for calls and for returns. */
 #define PALTHRENNI_TABLE_FULL 6
 /* The end frame does not say how many frames came before it. */
 #define PALTHRENNI_END_COUNT 7
@@ -111,10 +148,12 @@ extern "C" {
  * has no line at all, or some line of it is not one of hexadecimal, has a kind
  * other than 52 and 53, or another count of numbers than its kind. */
 #define PALTHRENNI_EDIT_LINE 12
-/* A number of the edit is outside its range, or its edge leaves the exit. Of
- * an exchange: so for some frame of the text. If the first frame is a 52, its
- * count of nodes is the one that the edges of its routine are judged by; the
- * edges of every other routine are judged by the program's own count. */
+/* A number of the edit is outside its range, or its edge leaves the exit, as
+ * in 5; so a label that is a return's is refused, also as the new label of a
+ * 3D. Of an exchange: so for some frame of the text. If the first frame is a
+ * 52, its count of nodes is the one that the edges of its routine are judged
+ * by; the edges of every other routine are judged by the program's own
+ * count. */
 #define PALTHRENNI_EDIT_RANGE 13
 /* The edge that is to be dropped or replaced is not there. */
 #define PALTHRENNI_NO_SUCH_EDGE 14
@@ -146,8 +185,10 @@ extern "C" {
 /*
  * A configuration (paper: standing) is where a program can be: in which
  * routine, at which node of it (0 is the entry, 1 the exit), with which root
- * (the state in which the routine was called, or the initial state) and in
- * which state of the automaton now. It has a number below
+ * and in which state of the automaton now. The root is the state in which the
+ * routine began: an initial state where main began the run, else the state
+ * after the move of the call that started it, which is the caller's state
+ * where that call is not heard. A configuration has a number below
  * PALTHRENNI_MARKS_SIZE,
  *
  *     ((routine * 16 + node) * 8 + root) * 8 + state
@@ -208,7 +249,8 @@ uint32_t palthrenni_write(const uint8_t *file, size_t file_len,
  *   violations        set to how many of them are violations
  *   iterations        set to how many times (paper: takings) the analysis
  *                     took a configuration, always the lowest that was
- *                     pending (paper: waiting)
+ *                     pending (paper: waiting); it takes none more than 1025
+ *                     times
  *
  * Returns 1 to 8; then 19 or 20; then 9 or 11, the lower first, if the file is
  * accepted and a buffer has another length; else PALTHRENNI_OK. On
@@ -261,9 +303,10 @@ uint32_t palthrenni_next_violation(const uint8_t *file, size_t file_len,
  * configurations that are marked those stay that have support, through marked
  * ones, back to main's entry in an initial state. A configuration has support
  * by an edge from one that stays: by an action that the automaton allows; by
- * a call, which supports the called entry whether or not the call ever
- * returns; or by a call and an exit of the called routine that stays and has
- * the state of that call as its root.
+ * a call, which supports the called entry with each root that the call can
+ * give, whether or not the call ever returns; or by a call and an exit of the
+ * called routine that stays, where the call can give the exit's root and the
+ * return can lead from the exit's state to the state of the configuration.
  *
  *   file, file_len    the file's bytes, of any length
  *   marks, marks_len  any marks, the program's own or not:
@@ -343,9 +386,10 @@ uint32_t palthrenni_repair_forward(const uint8_t *file, size_t file_len,
  * group) that holds the edited routine, or calls a routine outside it whose
  * summaries (paper: pairs) have changed. A component is routines that call
  * each other in circles in the edited program, or one routine alone; a summary
- * is a root of a routine and a state in which its exit is reached from it. On
- * an add they are the routines that gained a configuration, on a replace
- * those of the drop and of the add together.
+ * is a root of a routine and a state in which its exit is reached from it,
+ * before the return moves the automaton. On an add they are the routines that
+ * gained a configuration, on a replace those of the drop and of the add
+ * together.
  */
 uint32_t palthrenni_repair_inside_out(const uint8_t *file, size_t file_len,
                                       uint8_t *marks, size_t marks_len,
