@@ -1,4 +1,3 @@
-pub mod BitsPastTheEnd
 pub mod PairsComplete
 pub mod PairsAscend
 pub mod RowsMet

@@ -4,6 +4,7 @@ use Prim.Native.Nat.{ℕ, zero, suc, _+_, _*_, _/_, _%_, _^_}
 use mathlib.Core.Bool.{Bool, cond, _&&_}
 use mathlib.Core.List.{List, [], _∷_, map}
 use lib.Dec.{ltb, eqb}
+use Rattle.base.specs.Bits.{bit}
 use Rattle.automaton.specs.Automaton.{Transition, Automaton}
 
 -- how many rows a table has at most
@@ -17,10 +18,6 @@ pub record TableRow : Type 0 where
   pub next : ℕ
 
 -- ---- bits
-
--- bit i of a number is set
-abbrev pub bit : ℕ → ℕ → Bool
-bit i bits = eqb (bits / 2 ^ i % 2) 1
 
 -- no bit at or above n is set
 abbrev pub noBitFrom : ℕ → ℕ → Bool

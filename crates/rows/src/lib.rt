@@ -4,6 +4,7 @@ use automaton::sizes::MAX_TRANSITIONS;
 use automaton::transitions::Transitions;
 use automaton::transitions::no_transitions;
 use automaton::transitions::transition_key;
+use base::bits::has_bit;
 use base::choose;
 use tables::in_use;
 use tables::with_key;
@@ -14,7 +15,7 @@ ghost use Prim.Native.Nat.{_≤_, _<_};
 ghost use lib.Dec.{ltb};
 ghost use lib.ListN.{length, take};
 ghost use Rattle.automaton.specs.Sizes.{maxStates, maxActions};
-ghost use Rattle.rows.specs.Rows.{maxRows, bit, noBitFrom, pairs, meets, timesMet, pairRefusal, nextState};
+ghost use Rattle.rows.specs.Rows.{maxRows, noBitFrom, pairs, meets, timesMet, pairRefusal, nextState};
 ghost use Rattle.rows.specs.Decoded.{rowOf, rowKeysOf, rowsOf, Tabled};
 
 pub const MAX_ROWS: usize = 256;
@@ -69,16 +70,6 @@ pub fn row_key(states: u16, actions: u32, next: u8) -> u64
     ensures { λ r. ⌜ rowOf r ≡ record { states = states; actions = actions; next = next } ⌝ }
 {
     ((states as u64) * 0x100000000 + (actions as u64)) * 256 + (next as u64)
-}
-
-// Whether a bit is set: past the 64 bits none is.
-fn has_bit(i: u8, bits: u64) -> bool
-    ensures { λ r. ⌜ r ≡ bit i bits ⌝ }
-{
-    if i < 64 {
-        return (bits >> i) % 2 == 1;
-    }
-    false
 }
 
 // Whether no bit is set from the n-th on.
