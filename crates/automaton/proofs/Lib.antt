@@ -1,3 +1,6 @@
 pub mod TablesFilled
-pub mod LabelsUnheard
+pub mod MovesListed
 pub mod EventsHeard
+pub mod LabelsFit
+pub mod LabelsUnheard
+pub mod MovesAsked

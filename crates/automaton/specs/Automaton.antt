@@ -1,10 +1,10 @@
 -- The handling rule, as an automaton (paper: the rule).
-use Prim.Native.Nat.{ℕ, _+_, _<_}
+use Prim.Native.Nat.{ℕ, _+_}
 use mathlib.Core.Bool.{Bool, false, cond, _&&_, _||_}
 use mathlib.Core.List.{List, [], _∷_}
-use lib.Dec.{ltb, eqb}
+use lib.Dec.{ltb, leb, eqb}
 use Rattle.tables.specs.Keys.{member}
-use Rattle.automaton.specs.Sizes.{firstCall, firstReturn, maxLabels}
+use Rattle.automaton.specs.Sizes.{firstCall, firstReturn}
 use Rattle.automaton.specs.declared.Event.{Event}
 use Rattle.automaton.specs.declared.Event.the-variants.{Action, Call, Return}
 
@@ -35,11 +35,15 @@ labelOf (Action a) = a
 labelOf (Call f) = callOf f
 labelOf (Return f) = returnOf f
 
--- the label is one of those that stand for such an event
-abbrev pub Labelled : Event → Type 0
-Labelled (Action a) = a < firstCall
-Labelled (Call f) = callOf f < firstReturn
-Labelled (Return f) = returnOf f < maxLabels
+-- an edge's label (paper: a step's label), where there are so many routines and actions: an action or a call of a
+-- routine, never a return
+abbrev pub labelFits : ℕ → ℕ → ℕ → Bool
+labelFits routines actions a = ltb a actions || (leb firstCall a && ltb a (callOf routines))
+
+-- a transition's label (paper: a rule line's label): an action, a call of a routine or a return from one
+abbrev pub eventFits : ℕ → ℕ → ℕ → Bool
+eventFits routines actions l =
+    labelFits routines actions l || (leb firstReturn l && ltb l (returnOf routines))
 
 -- ---- moves
 

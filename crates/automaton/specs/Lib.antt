@@ -2,3 +2,4 @@ pub mod Sizes
 pub mod Automaton
 pub mod Decoded
 pub mod Flags
+pub mod NextStates

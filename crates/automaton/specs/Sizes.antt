@@ -22,6 +22,6 @@ firstReturn = 0x60
 abbrev pub maxLabels : ℕ
 maxLabels = 0x80
 
--- an answer for each state, label and next state
+-- a set of next states for each label and state
 abbrev pub nextStatesSize : ℕ
-nextStatesSize = maxStates * maxLabels * maxStates
+nextStatesSize = maxLabels * maxStates

@@ -1,5 +1,6 @@
 // The automaton by value, and the questions that are asked of it.
 pub mod flags;
+pub mod labels;
 pub mod next;
 pub mod sizes;
 pub mod transitions;

@@ -1,6 +1,8 @@
-// What the automaton does as a table: may it go from one state to another by a label? It serves actions, calls and
-// returns alike.
+// One look at the automaton: a state and a label, be it an action's, a call's or a return's, give all next states as
+// bits. The table of these sets is made once, and everything that follows a move asks it.
 use crate::DecodedAutomaton;
+use crate::labels::Range;
+use crate::labels::is_in_range;
 use crate::sizes::FIRST_CALL;
 use crate::sizes::MAX_LABELS;
 use crate::sizes::MAX_STATES;
@@ -12,18 +14,19 @@ use base::flags::is_set;
 use base::flags::set_flag;
 use tables::in_use;
 ghost use mathlib.Core.Path.{_≡_};
-ghost use mathlib.Core.Bool.{cond};
 ghost use mathlib.Core.List.{map};
-ghost use Prim.Native.Nat.{_<_, _≤_, _+_, _*_};
-ghost use lib.ListN.{length, set};
-ghost use Rattle.base.specs.Flags.{isSet};
-ghost use Rattle.automaton.specs.Sizes.{maxStates, maxLabels, nextStatesSize};
+ghost use Prim.Native.Nat.{_<_, _*_};
+ghost use lib.ListN.{getD, set};
+ghost use Rattle.base.specs.Bits.{withBit};
+ghost use Rattle.automaton.specs.Sizes.{maxStates, maxLabels};
 ghost use Rattle.automaton.specs.Automaton.{Automaton};
 ghost use Rattle.automaton.specs.Decoded.{transitionKeysOf, transitionOf, automatonOf};
-ghost use Rattle.automaton.specs.Flags.{Answers, Placed, Listed, Heard, leftAlone, nextPlace};
+ghost use Rattle.automaton.specs.NextStates.{setAt, Answers, Ranged};
+ghost use Rattle.automaton.specs.NextStates.{Sets, Listed, Heard, withTransition, stayedAt};
 
+// A set for each label and state.
 pub struct NextStates {
-    pub flags: [u8; NEXT_STATES_SIZE],
+    pub sets: [u16; NEXT_STATES_SIZE],
 }
 
 // A flag for each label that some transition has.
@@ -31,40 +34,49 @@ pub struct HeardLabels {
     pub flags: [u8; MAX_LABELS],
 }
 
-// The flag of the transition that has this key. One with a part that is out of range has no flag: its place is past the
-// end.
-fn place_of(key: u32) -> usize
-    ensures { λ r. ⌜ Placed key r ⌝ }
+// The set with state s, too. A set has bits for so many states: hence the `requires`.
+fn with_state(set: u16, s: u8) -> u16
+    requires { ⌜ s < maxStates ⌝ }
+    ensures { λ r. ⌜ r ≡ withBit s set ⌝ }
+{
+    set | (1 << s)
+}
+
+// The set at a place with state s, too.
+fn add_state(sets: &mut [u16], at: usize, s: u8)
+    requires { ⌜ s < maxStates ⌝ }
+    ensures { λ _. ⌜ now (sets .exit)
+        ≡ set (now (sets .entry)) at (withBit s (getD (now (sets .entry)) at 0)) ⌝ }
+{
+    if at < sets.len() {
+        sets[at] = with_state(sets[at], s);
+    }
+}
+
+fn add_transition(sets: &mut [u16], key: u32)
+    ensures { λ _. ⌜ now (sets .exit) ≡ withTransition (transitionOf key) (now (sets .entry)) ⌝ }
 {
     let t = transition(key);
-    let q = t.before as usize;
-    let l = t.label as usize;
-    let s = t.after as usize;
-    if MAX_STATES <= q {
-        return NEXT_STATES_SIZE;
+    if t.before < MAX_STATES as u32 {
+        if t.after < MAX_STATES as u32 {
+            let at = t.label as usize * MAX_STATES + t.before as usize;
+            add_state(sets, at, t.after as u8);
+        }
     }
-    if MAX_LABELS <= l {
-        return NEXT_STATES_SIZE;
-    }
-    if MAX_STATES <= s {
-        return NEXT_STATES_SIZE;
-    }
-    (q * MAX_LABELS + l) * MAX_STATES + s
 }
 
 fn listed_moves(transitions: Transitions) -> NextStates
-    ensures { λ y. ⌜ Listed (map transitionOf (transitionKeysOf transitions)) (y .flags) ⌝ }
+    ensures { λ y. ⌜ Listed (map transitionOf (transitionKeysOf transitions)) (y .sets) ⌝ }
 {
     let keys = transitions.keys;
     let count = in_use(transitions.count, MAX_TRANSITIONS);
-    let mut flags = [0u8; NEXT_STATES_SIZE];
+    let mut sets = [0u16; NEXT_STATES_SIZE];
     let mut i: usize = 0;
     while i < count {
-        let at = place_of(keys[i]);
-        set_flag(&mut flags, at);
+        add_transition(&mut sets, keys[i]);
         i = i + 1;
     }
-    NextStates { flags }
+    NextStates { sets }
 }
 
 fn label_of(key: u32) -> usize
@@ -90,65 +102,64 @@ fn heard_labels(transitions: Transitions) -> HeardLabels
     HeardLabels { flags }
 }
 
-fn set_when(yes: bool, flags: &mut [u8], at: usize)
-    ensures { λ _. ⌜ now (flags .exit) ≡ cond yes (set (now (flags .entry)) at 1) (now (flags .entry)) ⌝ }
-{
-    if yes {
-        set_flag(flags, at);
-    }
-}
-
-// The labels and the states in turn: where label l is not heard and the automaton has state q, l leaves q alone.
-fn leave_alone(heard: &[u8], states: u8, i: usize, next: &mut [u8])
+// The labels and the states in turn: where label l is not heard, and both are in range, l leaves q alone. Past the
+// table there is no label and no state: hence the `requires`.
+fn stayed_at(heard: &[u8], n: Range, i: usize, old: u16) -> u16
     requires { ⌜ i < maxLabels * maxStates ⌝ }
-    ensures { λ _. ⌜ now (next .exit) ≡ leftAlone (now (heard .entry)) states i (now (next .entry)) ⌝ }
+    ensures { λ r. ⌜ r ≡ stayedAt (n .routines) (n .states) (n .actions) (now (heard .entry)) i old ⌝ }
 {
     let l = i / MAX_STATES;
-    let q = i % MAX_STATES;
-    let at = (q * MAX_LABELS + l) * MAX_STATES + q;
-    set_when(!is_set(heard, l) & (q < states as usize), next, at);
+    let q = (i % MAX_STATES) as u8;
+    if !is_set(heard, l) & is_in_range(n, q, l as u8) {
+        return with_state(old, q);
+    }
+    old
 }
 
 // The calls and returns that are not heard leave every state alone.
-fn leave_alone_unheard(heard: &[u8], states: u8, next: &mut [u8])
-    requires { ⌜ length (now next) ≡ nextStatesSize ⌝ }
-    ensures { λ _. ⌜ ((r : Automaton) → r .states ≡ states → Heard (r .transitions) (now (heard .entry))
-        → Listed (r .transitions) (now (next .entry)) → Answers r (now (next .exit))) ⌝ }
+fn stay_unheard(heard: &[u8], n: Range, sets: &mut [u16])
+    requires { ⌜ Sets (now sets) ⌝ }
+    ensures { λ _. ⌜ ((r : Automaton) → r .states ≡ n .states → r .actions ≡ n .actions → Ranged r (n .routines)
+        → Heard (r .transitions) (now (heard .entry)) → Listed (r .transitions) (now (sets .entry))
+        → Answers r (n .routines) (now (sets .exit))) ⌝ }
 {
     let mut i: usize = FIRST_CALL as usize * MAX_STATES;
-    while i < MAX_LABELS * MAX_STATES {
-        leave_alone(heard, states, i, next);
+    while i < NEXT_STATES_SIZE {
+        let set = stayed_at(heard, n, i, sets[i]);
+        sets[i] = set;
         i = i + 1;
     }
 }
 
-pub fn next_states(r: DecodedAutomaton) -> NextStates
-    ensures { λ y. ⌜ Answers (automatonOf r) (y .flags) ⌝ }
+// The table of an automaton in a program with so many routines. What the reader accepts is in range, and a transition
+// outside it would set a bit where there is to be none: hence the `requires`.
+pub fn next_states(r: DecodedAutomaton, routines: u8) -> NextStates
+    requires { ⌜ Ranged (automatonOf r) routines ⌝ }
+    ensures { λ y. ⌜ Answers (automatonOf r) routines (y .sets) ⌝ }
 {
     let transitions = r.transitions;
     let labels = heard_labels(transitions);
     let heard = labels.flags;
     let moves = listed_moves(transitions);
-    let mut flags = moves.flags;
-    leave_alone_unheard(&heard, r.states, &mut flags);
-    NextStates { flags }
+    let mut sets = moves.sets;
+    let range = Range {
+        routines,
+        states: r.states,
+        actions: r.actions,
+    };
+    stay_unheard(&heard, range, &mut sets);
+    NextStates { sets }
 }
 
-// Where the answers for a state and a label stand: one for each next state, in turn. Past the sizes there are none:
-// hence the `requires`.
-pub fn answers_at(q: u8, l: u8) -> usize
-    requires { ⌜ (q < maxStates) × (l < maxLabels) ⌝ }
-    ensures { λ r. ⌜ (r ≡ nextPlace q l 0) × (r + maxStates ≤ nextStatesSize) ⌝ }
+// The one look: all states in which the automaton can be after label l in state q. Outside the table there is none.
+pub fn next_after(sets: &[u16], q: u8, l: u8) -> u16
+    ensures { λ r. ⌜ r ≡ setAt (now (sets .entry)) q l ⌝ }
 {
-    (q as usize * MAX_LABELS + l as usize) * MAX_STATES
-}
-
-// One answer: may it go from q to s by label l? Past the table there is none.
-pub fn may_go(next: &[u8], q: u8, l: u8, s: u8) -> bool
-    ensures { λ r. ⌜ r ≡ isSet (now (next .entry)) (nextPlace q l s) ⌝ }
-{
-    is_set(
-        next,
-        (q as usize * MAX_LABELS + l as usize) * MAX_STATES + s as usize,
-    )
+    if (q as usize) < MAX_STATES {
+        let at = l as usize * MAX_STATES + q as usize;
+        if at < sets.len() {
+            return sets[at];
+        }
+    }
+    0
 }

@@ -13,5 +13,5 @@ pub const FIRST_RETURN: u8 = 0x60;
 // Every label is below this.
 pub const MAX_LABELS: usize = 0x80;
 
-// An answer for each state, label and next state.
-pub const NEXT_STATES_SIZE: usize = MAX_STATES * MAX_LABELS * MAX_STATES;
+// A set of next states for each label and state.
+pub const NEXT_STATES_SIZE: usize = MAX_LABELS * MAX_STATES;

@@ -10,7 +10,8 @@ use borrow.Author.Tests.{ltb-false, leb-true, leb-false, le-leb, lt-leb, eqb-tru
 use Rattle.text.specs.declared.Line.{Line}
 use Rattle.program.specs.Sizes.{maxEdges}
 use Rattle.automaton.specs.Sizes.{firstCall}
-use Rattle.program.specs.Program.{Edge, Program, edgeFits, labelFits, placed}
+use Rattle.program.specs.Program.{Edge, Program, edgeFits, placed}
+use Rattle.automaton.specs.Automaton.{labelFits}
 use Rattle.program.specs.Frames.{num}
 use Rattle.program.specs.Decoded.{edgeOf}
 use Rattle.program.specs.Reading.{edgeIn}

@@ -7,7 +7,8 @@ use lib.Dec.{eqb}
 use lib.ListN.{length}
 use Rattle.text.specs.Lines.{numbers, lineOf, lineFrom, nextFrom}
 use Rattle.text.specs.declared.Line.{Line}
-use Rattle.program.specs.Program.{Program, edgeFits, labelFits}
+use Rattle.program.specs.Program.{Program, edgeFits}
+use Rattle.automaton.specs.Automaton.{labelFits}
 use Rattle.program.specs.Frames.{num}
 use Rattle.program.specs.Reading.{edgeIn}
 use Rattle.edit.specs.Edits.{eventOf}

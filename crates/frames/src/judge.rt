@@ -6,14 +6,13 @@ use crate::kind_of;
 use crate::number;
 use crate::row_in;
 use crate::size_of;
-use automaton::sizes::FIRST_CALL;
-use automaton::sizes::FIRST_RETURN;
+use automaton::labels::event_fits;
+use automaton::labels::label_fits;
 use automaton::sizes::MAX_ACTIONS;
 use automaton::sizes::MAX_STATES;
 use automaton::sizes::MAX_TRANSITIONS;
 use program::DecodedProgram;
 use program::Nodes;
-use program::edges::is_call;
 use program::sizes::MAX_EDGES;
 use program::sizes::MAX_NODES;
 use program::sizes::MAX_ROUTINES;
@@ -23,7 +22,7 @@ use tables::in_use;
 use text::Line;
 ghost use mathlib.Core.Path.{_≡_};
 ghost use lib.ListN.{getD};
-ghost use Rattle.program.specs.Program.{within, countsFit, labelFits, eventFits, placed, edgeFits, transitionFits};
+ghost use Rattle.program.specs.Program.{within, countsFit, placed, edgeFits, transitionFits};
 ghost use Rattle.program.specs.Reading.{due, inPlace, ordered, edgeIn, transitionIn, rowIn, ranged, full};
 ghost use Rattle.program.specs.Reading.{miscounted, lowest};
 ghost use Rattle.program.specs.Decoded.{nodesOf};
@@ -77,21 +76,6 @@ fn counts_fit(r: u8, q: u8, a: u8) -> bool
     inside(1, MAX_ROUTINES as u8, r)
         & inside(1, MAX_STATES as u8, q)
         & inside(1, MAX_ACTIONS as u8, a)
-}
-
-// Whether it is the label of an edge.
-pub fn label_fits(routines: u8, actions: u8, a: u8) -> bool
-    ensures { λ y. ⌜ y ≡ labelFits routines actions a ⌝ }
-{
-    (a < actions) | (is_call(a) & ((a as u16) < FIRST_CALL as u16 + routines as u16))
-}
-
-// Whether it is the label of a transition, which may also be that of a return.
-fn event_fits(routines: u8, actions: u8, l: u8) -> bool
-    ensures { λ y. ⌜ y ≡ eventFits routines actions l ⌝ }
-{
-    label_fits(routines, actions, l)
-        | ((FIRST_RETURN <= l) & ((l as u16) < FIRST_RETURN as u16 + routines as u16))
 }
 
 fn is_placed(nodes: u8, n: u8, m: u8) -> bool

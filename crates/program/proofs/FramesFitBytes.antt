@@ -18,7 +18,8 @@ use Rattle.program.specs.Writing.{nodesFrames, framesOf}
 use Rattle.program.proofs.SectionsAscend.{all-at}
 use Rattle.program.proofs.LinesJudged.{at-most}
 use Rattle.base.proofs.Bools.{both}
-use Rattle.program.proofs.ProgramLimits.{Limits, label-small, transition-small, length-frames, well-formed-limits}
+use Rattle.automaton.proofs.LabelsFit.{label-small}
+use Rattle.program.proofs.ProgramLimits.{Limits, transition-small, length-frames, well-formed-limits}
 use Rattle.program.proofs.FilesAsFrames.{Frames, rowsOf}
 
 bytes-first : (f : List ℕ) (fs : List (List ℕ)) → Bytes f → Frames fs → Frames (f ∷ fs)
@@ -96,7 +97,7 @@ module _ (p : Program) (w : WellFormed p) where
         nodes-small (e .routine) r,
         ltb-true (e .source) n (d .0),
         ltb-true (e .target) n (d .1),
-        label-small p (e .label) limit (a .1),
+        label-small (p .routines) (p .automaton .actions) (omega (arith, limit)) (omega (arith, limit)) (e .label) (a .1),
       )
 
   pub transition-bytes : (t : Transition) → transitionFits p t ≡ true → Bytes (transitionFrame t)

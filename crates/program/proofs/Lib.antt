@@ -3,6 +3,7 @@ pub mod ReadingTurns
 pub mod SectionsAscend
 pub mod LinesJudged
 pub mod ProgramLimits
+pub mod ProgramRanged
 pub mod ProgressSound
 pub mod RefusalsSmall
 pub mod FilesAsFrames

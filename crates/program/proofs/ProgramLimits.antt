@@ -5,21 +5,22 @@ use mathlib.Core.List.{List, [], _∷_, _++_, map, append-assoc}
 use Prim.Native.Nat.{ℕ, suc, _+_, _*_, _≤_, _<_}
 use native.Mathlib.Omega.{arith}
 use native.Mathlib.Nat.{suc-mul}
-use lib.Dec.{ltb, leb}
+use lib.Dec.{ltb}
 use lib.ListN.{length, length-append, length-map}
 use borrow.Author.Tests.{ltb-true}
 use Rattle.text.specs.Hex.{hexLine}
 use Rattle.text.proofs.RoundTrip.{length-hex}
-use Rattle.automaton.specs.Sizes.{maxStates, firstCall, firstReturn, maxLabels}
-use Rattle.automaton.specs.Automaton.{Transition, callOf, returnOf}
-use Rattle.program.specs.Program.{Program, within, countsFit, labelFits, eventFits, transitionFits}
+use Rattle.automaton.specs.Sizes.{maxStates, maxLabels}
+use Rattle.automaton.specs.Automaton.{Transition, eventFits}
+use Rattle.automaton.proofs.LabelsFit.{event-small}
+use Rattle.program.specs.Program.{Program, within, countsFit, transitionFits}
 use Rattle.program.specs.Frames.{packed, keyOf, nodesFrame, edgeFrame, transitionFrame, initialFrame, rejectingFrame, initialKey, rejectingKey}
 use Rattle.program.specs.WellFormed.{All, WellFormed}
 use Rattle.tables.specs.Keys.{Ascending}
 use Rattle.program.specs.Writing.{nodesFrames, framesOf, text, written}
 use Rattle.program.proofs.SectionsAscend.{few}
 use Rattle.program.proofs.LinesJudged.{at-most}
-use Rattle.base.proofs.Bools.{both, either}
+use Rattle.base.proofs.Bools.{both}
 
 -- ---- the limits
 
@@ -78,17 +79,6 @@ well-formed-limits p w =
 
 -- ---- labels and states within the limits
 
--- no return is the label of an edge
-pub label-small : (p : Program) (l : ℕ) → Limits p → labelFits (p .routines) (p .automaton .actions) l ≡ true → l < firstReturn
-label-small p l limit f =
-    either (ltb l (p .automaton .actions)) _ f (λ e. omega (arith, limit, ltb-true l (p .automaton .actions) e))
-    (λ e. omega (arith, limit, ltb-true l (callOf (p .routines)) (both (leb firstCall l) _ e .1)))
-
-event-small : (p : Program) (l : ℕ) → Limits p → eventFits (p .routines) (p .automaton .actions) l ≡ true → l < maxLabels
-event-small p l limit f =
-    either (labelFits (p .routines) (p .automaton .actions) l) _ f (λ e. omega (arith, label-small p l limit e))
-    (λ e. omega (arith, limit, ltb-true l (returnOf (p .routines)) (both (leb firstReturn l) _ e .1)))
-
 -- what a transition that fits says
 pub transition-fits : (p : Program) (t : Transition) → transitionFits p t ≡ true
     → (t .before < p .automaton .states) × (eventFits (p .routines) (p .automaton .actions) (t .label) ≡ true)
@@ -104,7 +94,7 @@ pub transition-small : (p : Program) (t : Transition) → Limits p → transitio
     → (t .before < maxStates) × (t .label < maxLabels) × (t .after < maxStates)
 transition-small p t limit f =
     let x = transition-fits p t f in
-    (omega (arith, limit), event-small p (t .label) limit (x .1), omega (arith, limit))
+    (omega (arith, limit), event-small (p .routines) (p .automaton .actions) (omega (arith, limit)) (omega (arith, limit)) (t .label) (x .1), omega (arith, limit))
 
 -- ---- the longest file
 

@@ -1,11 +1,11 @@
 -- A measuring program, as lists.
 use Prim.Native.Nat.{ℕ, _-_}
-use mathlib.Core.Bool.{Bool, _&&_, _||_, not}
+use mathlib.Core.Bool.{Bool, _&&_, not}
 use mathlib.Core.List.{List, []}
 use lib.Dec.{ltb, leb, eqb}
 use lib.ListN.{getD}
-use Rattle.automaton.specs.Sizes.{maxStates, maxActions, firstCall, firstReturn}
-use Rattle.automaton.specs.Automaton.{Transition, Automaton, callOf, returnOf}
+use Rattle.automaton.specs.Sizes.{maxStates, maxActions, firstCall}
+use Rattle.automaton.specs.Automaton.{Transition, Automaton, labelFits, eventFits}
 use Rattle.program.specs.Sizes.{maxRoutines, maxNodes}
 
 -- an edge leads from one node of a routine to another (paper: a step from place to place);
@@ -53,15 +53,6 @@ within lo hi x = leb lo x && leb x hi
 -- routines, states and actions
 abbrev pub countsFit : ℕ → ℕ → ℕ → Bool
 countsFit r q a = within 1 maxRoutines r && within 1 maxStates q && within 1 maxActions a
-
--- an edge's label (paper: a step's label): an action or a call of a routine, never a return
-abbrev pub labelFits : ℕ → ℕ → ℕ → Bool
-labelFits routines actions a = ltb a actions || (isCall a && ltb a (callOf routines))
-
--- a transition's label (paper: a rule line's label): an action, a call of a routine or a return from one
-abbrev pub eventFits : ℕ → ℕ → ℕ → Bool
-eventFits routines actions l =
-    labelFits routines actions l || (leb firstReturn l && ltb l (returnOf routines))
 
 -- how many nodes a routine may have: an entry and an exit at least
 abbrev pub nodesFit : ℕ → Bool

@@ -9,7 +9,8 @@ returns : tie.Need-returns
 returns c =
     let moves = c .before .before .before .before .before in
     let labels = moves .before .before in
-    c .before .leave-alone-unheard .ensures (automatonOf (labels .before .before .args .r)) refl (labels .heard-labels .ensures) (moves .listed-moves .ensures)
+    let z = labels .before .before in
+    c .before .stay-unheard .ensures (automatonOf (z .args .r)) refl refl (z .pre) (labels .heard-labels .ensures) (moves .listed-moves .ensures)
 
 pub next-states-spec : {M : Type 1} → statement M
 next-states-spec =
