@@ -1,0 +1,4 @@
+pub mod FlagsAsked
+pub mod BitsChanged
+pub mod FlagsChanged
+pub mod FirstFlagFound
