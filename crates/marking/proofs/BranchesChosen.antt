@@ -1,13 +1,15 @@
 -- The branches of a step: which part of its definition a test of the code chooses.
 use Prim.Native.Nat.{ℕ, _≤_, _<_}
 use mathlib.Core.Path.{_≡_, ap, _∙_}
-use mathlib.Core.Bool.{Bool, true, false, cond, _&&_}
+use mathlib.Core.Bool.{Bool, true, false, cond}
 use mathlib.Core.List.{List}
-use lib.Dec.{eqb}
-use borrow.Author.Tests.{lt-ltb, le-ltb, eq-eqb, ne-eqb}
+use lib.ListN.{getD}
+use borrow.Author.Tests.{lt-ltb, le-ltb}
 use Rattle.automaton.specs.Sizes.{maxStates}
+use Rattle.index.specs.Index.{leaves, callsOne}
 use Rattle.program.specs.Sizes.{maxRoutines}
-use Rattle.program.specs.Program.{Edge, isCall, calledBy}
+use Rattle.program.specs.Program.{isCall, calledBy}
+use Rattle.program.specs.Decoded.{edgeOf}
 use Rattle.reach.specs.Configurations.{number}
 use Rattle.reach.specs.Worklist.{Worklist, mark}
 use Rattle.marking.specs.Parts.{Becomes, each, moveStep, callStep, labelStep, edgeStep, stateStep, callerStep}
@@ -40,26 +42,26 @@ module _ (next known : List ℕ) (base q label : ℕ) {m w : List ℕ} where
   unfolding labelStep
   label-action e b = record { becomes = λ k n. rw e (b .becomes k n) }
 
-module _ (next known : List ℕ) (f n r q : ℕ) (e : Edge) {m w : List ℕ} where
-  pub edge-here : {m′ w′ : List ℕ} → eqb (e .routine) f && eqb (e .source) n ≡ true
-      → Becomes (labelStep next known (number f (e .target) r 0) q (e .label)) m w m′ w′ → Becomes (edgeStep next known f n r q e) m w m′ w′
+-- an edge that the index has for the node, and one that it passes over
+module _ (next known : List ℕ) (f n r q : ℕ) (keys : List ℕ) (i : ℕ) where
+  pub edge-here : {m w m′ w′ : List ℕ} → leaves keys f n i ≡ true
+      → Becomes (labelStep next known (number f (edgeOf (getD keys i 0) .target) r 0) q (edgeOf (getD keys i 0) .label)) m w m′ w′
+      → Becomes (edgeStep next known f n r q (edgeOf (getD keys i 0))) m w m′ w′
   unfolding edgeStep
   edge-here t b = record { becomes = λ k c. rw t (b .becomes k c) }
 
-  pub edge-other : eqb (e .routine) f && eqb (e .source) n ≡ false → Becomes (edgeStep next known f n r q e) m w m w
+  pub edge-other : leaves keys f n i ≡ false → (s : Worklist) → edgeStep next known f n r q (edgeOf (getD keys i 0)) s ≡ s
   unfolding edgeStep
-  edge-other t = record { becomes = λ k c. rw t }
+  edge-other t s = rw t
 
-module _ (next : List ℕ) (f r : ℕ) (e : Edge) {m w : List ℕ} where
-  pub caller-here : {m′ w′ : List ℕ} → isCall (e .label) ≡ true → calledBy (e .label) ≡ f
-      → Becomes (each (stateStep next r e) maxStates 0) m w m′ w′ → Becomes (callerStep next f r e) m w m′ w′
+-- an edge that the index has for the routine, and one that it passes over
+module _ (next : List ℕ) (f r : ℕ) (keys : List ℕ) (i : ℕ) where
+  pub caller-here : {m w m′ w′ : List ℕ} → callsOne keys f i ≡ true
+      → Becomes (each (stateStep next r (edgeOf (getD keys i 0))) maxStates 0) m w m′ w′
+      → Becomes (callerStep next f r (edgeOf (getD keys i 0))) m w m′ w′
   unfolding callerStep
-  caller-here t h b = record { becomes = λ k c. rw (t, eq-eqb (calledBy (e .label)) f h) (b .becomes k c) }
+  caller-here t b = record { becomes = λ k c. rw t (b .becomes k c) }
 
-  pub caller-other : isCall (e .label) ≡ true → (calledBy (e .label) ≡ f → ⊥) → Becomes (callerStep next f r e) m w m w
+  pub caller-other : callsOne keys f i ≡ false → (s : Worklist) → callerStep next f r (edgeOf (getD keys i 0)) s ≡ s
   unfolding callerStep
-  caller-other t h = record { becomes = λ k c. rw (t, ne-eqb (calledBy (e .label)) f h) }
-
-  pub caller-none : isCall (e .label) ≡ false → Becomes (callerStep next f r e) m w m w
-  unfolding callerStep
-  caller-none t = record { becomes = λ k c. rw t }
+  caller-other t s = rw t

@@ -1,4 +1,6 @@
 pub mod StepsMark
+pub mod StatesTaken
+pub mod EdgesChased
 pub mod BranchesChosen
 pub mod StepsOfProcedure
 pub mod TakingOfProcedure

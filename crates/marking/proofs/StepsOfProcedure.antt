@@ -1,30 +1,39 @@
 -- What the steps of the code mean: they are the steps of the defined procedure.
-use Prim.Native.Nat.{ℕ, zero, suc, _+_, _≤_, _<_}
+use Prim.Native.Nat.{ℕ, zero, suc, _+_, _-_, _*_, _/_, _%_, _^_, _≤_, _<_}
 use mathlib.Core.Path.{_≡_, refl, sym, ap, _∙_}
-use mathlib.Core.Bool.{Bool, true, false, cond, _&&_}
+use mathlib.Core.Bool.{Bool, true, false, cond, not, _&&_}
 use mathlib.Core.List.{List}
 use native.Mathlib.Omega.{arith}
-use lib.Dec.{eqb}
-use lib.ListN.{length, getD, drop}
+use lib.Dec.{eqb, ltb}
+use lib.ListN.{length, getD, drop, drop-of-length-le}
+use lib.Pow.{field, mod-mod-pow, shr-shr}
 use lib.Seq.{drop-cons}
 use borrow.Author.Tests.{lt-ltb, lt-leb, le-leb, ltb-true, ltb-false, eqb-true}
-use Rattle.automaton.specs.Sizes.{maxStates, firstCall}
-use Rattle.automaton.specs.Automaton.{moves, callOf, labelOf, Labelled}
-use Rattle.automaton.specs.Flags.{nextPlace, Answers}
+use Rattle.base.specs.Bits.{bit}
 use Rattle.base.specs.Flags.{isSet}
+use Rattle.base.proofs.Bools.{never, both, either}
+use Rattle.automaton.specs.Sizes.{maxStates, firstCall}
+use Rattle.automaton.specs.Automaton.{moves, callOf, labelOf, labelFits}
+use Rattle.automaton.specs.NextStates.{setAt, Answers, EventOf}
 use Rattle.automaton.specs.declared.Event.{Event}
 use Rattle.automaton.specs.declared.Event.the-variants.{Action, Call, Return}
+use Rattle.automaton.proofs.MovesAsked.{asked}
 use Rattle.program.specs.Sizes.{maxRoutines}
-use Rattle.program.specs.Program.{Edge, Program, isAction, calledBy}
+use Rattle.program.specs.Program.{Edge, Program, isAction, isCall, calledBy}
+use Rattle.program.specs.WellFormed.{WellFormed}
 use Rattle.program.specs.Decoded.{edgeOf}
+use Rattle.program.proofs.ProgramLimits.{well-formed-limits}
+use Rattle.program.proofs.ProgramRanged.{ranged}
 use Rattle.reach.specs.Configurations.{number}
 use Rattle.reach.specs.Runs.{eventOf}
 use Rattle.reach.specs.Worklist.{Worklist, mark, markWhen, summary, isKnown}
 use Rattle.reach.specs.Worklist.{onEvent, eventWhen, onReturns, rootWhen, onCall, onLabel, labelWhen, onSteps}
 use Rattle.reach.specs.Worklist.{wakeRoots, calls, wakeWhen, wakeStates, callerWhen, wakeCallers}
-use Rattle.reach.proofs.Numbers.{number-state, number-root, summary-from}
+use Rattle.reach.proofs.Numbers.{number-state, number-root}
 use Rattle.reach.proofs.ShapeKept.{mark-by}
-use Rattle.marking.specs.Parts.{each, markFlag, wakeAt, stepsIn, stateStep, callerStep}
+use Rattle.words.specs.Words.{flagsOf}
+use Rattle.words.proofs.FlagsAsked.{flag-at}
+use Rattle.marking.specs.Parts.{each, markState, wakeAt, stepsIn, stateStep, callerStep, endsAt}
 use Rattle.marking.specs.Parts.{moveStep, summaryStep, entryStep, rootStep, labelStep, edgeStep}
 
 -- ---- marking leaves the summaries alone
@@ -73,57 +82,93 @@ unfolding labelWhen
 known-label-when true p f m r q l s = known-label p f m r q l s
 known-label-when false p f m r q l s = refl
 
+-- ---- the known ends of a routine, as a set
+
+-- a bit below k of a number is one of its lowest k
+low-bit : (n k x : ℕ) → x < k → n % 2 ^ k / 2 ^ x % 2 ≡ n / 2 ^ x % 2
+low-bit n k x h =
+    let e : k ≡ k - x - 1 + 1 + x = omega arith in
+    ap (λ (i : ℕ). n % 2 ^ i / 2 ^ x % 2) e ∙ ap (λ (m : ℕ). m % 2) (field n (k - x - 1 + 1) x) ∙ mod-mod-pow (n / 2 ^ x) (k - x - 1) 1
+
+one-of-two : (n : ℕ) → eqb (n % 2) 1 ≡ not (eqb (n % 2) 0)
+one-of-two n = go (n % 2) (omega arith)
+  where
+    go : (m : ℕ) → m < 2 → eqb m 1 ≡ not (eqb m 0)
+    go zero h = refl
+    go (suc zero) h = refl
+    go (suc (suc m)) h = absurd (omega arith)
+
+ends-known : (known : List ℕ) (g y x : ℕ) → y < maxStates → x < maxStates → bit x (endsAt known g y) ≡ isSet (flagsOf known) (summary g y x)
+unfolding summary
+ends-known known g y x hy hx =
+    let w = getD known g 0 in
+    let i : summary g y x / 64 ≡ g = omega arith in
+    let j : summary g y x % 64 ≡ y * maxStates + x = omega arith in
+    let f : w / 2 ^ (y * maxStates) % 2 ^ maxStates / 2 ^ x % 2 ≡ getD (flagsOf known) (summary g y x) 0 =
+    low-bit (w / 2 ^ (y * maxStates)) maxStates x hx ∙ ap (λ (n : ℕ). n % 2) (shr-shr w (y * maxStates) x) ∙ sym (rw (i, j) at (flag-at known (summary g y x))) in
+    one-of-two (w / 2 ^ (y * maxStates) % 2 ^ maxStates / 2 ^ x) ∙ ap (λ (n : ℕ). not (eqb n 0)) f
+
 -- ---- one edge
 
-module _ (p : Program) (next : List ℕ) (ans : Answers (p .automaton) next) where
-  answer : (q : ℕ) (e : Event) (x : ℕ) → q < maxStates → Labelled e → x < maxStates
-      → isSet next (nextPlace q (labelOf e) 0 + x) ≡ moves (p .automaton) q e x
-  answer q e x hq he hx =
-      let i : nextPlace q (labelOf e) 0 + x ≡ nextPlace q (labelOf e) x = omega arith in
-      ap (isSet next) i ∙ ans .answers q e x hq he hx
+module _ (p : Program) (next : List ℕ) (w : WellFormed p) (ans : Answers (p .automaton) (p .routines) next) where
+  -- what is asked of the table are the moves of the program's events
+  answer : (q : ℕ) (e : Event) (x : ℕ) → EventOf (p .automaton) (p .routines) e → bit x (setAt next q (labelOf e)) ≡ moves (p .automaton) q e x
+  answer q e x he = asked (p .automaton) (p .routines) (ranged p w) ans q e x he
 
   module _ (f m r : ℕ) where
-    event-is : (q : ℕ) (e : Event) → q < maxStates → Labelled e → (k x : ℕ) → k + x ≤ maxStates → (s : Worklist)
-        → each (markFlag next (nextPlace q (labelOf e) 0) (number f m r 0)) k x s ≡ onEvent k x p f m r q e s
+    event-is : (q : ℕ) (e : Event) → EventOf (p .automaton) (p .routines) e → (k x : ℕ) (s : Worklist)
+        → each (markState (setAt next q (labelOf e)) (number f m r 0)) k x s ≡ onEvent k x p f m r q e s
     unfolding each onEvent
-    event-is q e hq he zero x h s = refl
-    event-is q e hq he (suc k) x h s = rw (answer q e x hq he (omega arith), number-state f m r x) (event-is q e hq he k (suc x) (omega arith) _)
+    event-is q e he zero x s = refl
+    event-is q e he (suc k) x s = rw (answer q e x he, number-state f m r x) (event-is q e he k (suc x) _)
 
-    event-when-is : (b : Bool) (q : ℕ) (e : Event) → q < maxStates → Labelled e → (s : Worklist)
+    event-when-is : (b : Bool) (q : ℕ) (e : Event) → EventOf (p .automaton) (p .routines) e → (s : Worklist)
         → cond b (moveStep next (number f m r 0) q (labelOf e) s) s ≡ eventWhen b p f m r q e s
     unfolding eventWhen
-    event-when-is true q e hq he s = event-is q e hq he maxStates 0 (omega arith) s
-    event-when-is false q e hq he s = refl
+    event-when-is true q e he s = event-is q e he maxStates 0 s
+    event-when-is false q e he s = refl
 
-    module _ (known : List ℕ) (g : ℕ) (hg : g < maxRoutines) where
-      returns-is : (y k x : ℕ) → k + x ≤ maxStates → (s : Worklist) → s .known ≡ known
+    module _ (known : List ℕ) (g : ℕ) (hg : g < p .routines) where
+      returns-is : (y : ℕ) → y < maxStates → (k x : ℕ) → k + x ≤ maxStates → (s : Worklist) → s .known ≡ flagsOf known
           → each (summaryStep next known (number f m r 0) g y) k x s ≡ onReturns k x p f m r g y s
       unfolding each onReturns
-      returns-is y zero x h s e = refl
-      returns-is y (suc k) x h s e =
+      returns-is y hy zero x h s e = refl
+      returns-is y hy (suc k) x h s e =
           let b = isKnown s g y x in
-          let t : isSet known (summary g y 0 + x) ≡ b = rw (summary-from g y x) (ap (λ (l : List ℕ). isSet l (summary g y x)) (sym e)) in
-          rw (t, event-when-is b x (Return g) (omega arith) (omega arith) s)
-          (returns-is y k (suc x) (omega arith) _ (known-event-when b p f m r x (Return g) s ∙ e))
+          let t : bit x (endsAt known g y) ≡ b = ends-known known g y x hy (omega arith) ∙ ap (λ (l : List ℕ). isSet l (summary g y x)) (sym e) in
+          rw (t, event-when-is b x (Return g) hg s)
+          (returns-is y hy k (suc x) (omega arith) _ (known-event-when b p f m r x (Return g) s ∙ e))
 
-      root-when-is : (b : Bool) (y : ℕ) (s : Worklist) → s .known ≡ known
+      root-when-is : (b : Bool) (y : ℕ) → y < maxStates → (s : Worklist) → s .known ≡ flagsOf known
           → cond b (entryStep next known (number f m r 0) g y s) s ≡ rootWhen b p f m r g y s
       unfolding rootWhen
-      root-when-is true y s e = returns-is y maxStates 0 (omega arith) (mark (number g 0 y y) s) (known-mark (number g 0 y y) s ∙ e)
-      root-when-is false y s e = refl
+      root-when-is true y hy s e = returns-is y hy maxStates 0 (omega arith) (mark (number g 0 y y) s) (known-mark (number g 0 y y) s ∙ e)
+      root-when-is false y hy s e = refl
 
-      call-is : (q : ℕ) → q < maxStates → (k y : ℕ) → k + y ≤ maxStates → (s : Worklist) → s .known ≡ known
+      call-is : (q k y : ℕ) → k + y ≤ maxStates → (s : Worklist) → s .known ≡ flagsOf known
           → each (rootStep next known (number f m r 0) g q) k y s ≡ onCall k y p f m r q g s
       unfolding each onCall
-      call-is q hq zero y h s e = refl
-      call-is q hq (suc k) y h s e =
+      call-is q zero y h s e = refl
+      call-is q (suc k) y h s e =
           let b = moves (p .automaton) q (Call g) y in
-          rw (answer q (Call g) y hq (omega arith) (omega arith), root-when-is b y s e)
-          (call-is q hq k (suc y) (omega arith) _ (known-root-when b p f m r g y s ∙ e))
+          rw (answer q (Call g) y hg, root-when-is b y (omega arith) s e)
+          (call-is q k (suc y) (omega arith) _ (known-root-when b p f m r g y s ∙ e))
 
--- an edge's label is that of an action or calls one of the routines
-module _ (p : Program) (next known : List ℕ) (ans : Answers (p .automaton) next) (q : ℕ) (hq : q < maxStates) where
-  label-is : (f m r label : ℕ) → label < callOf maxRoutines → (s : Worklist) → s .known ≡ known
+-- the label of an edge that fits is that of an action or calls one of the routines
+module _ (p : Program) (w : WellFormed p) (label : ℕ) (fits : labelFits (p .routines) (p .automaton .actions) label ≡ true) where
+  action-fits : label < firstCall → label < p .automaton .actions
+  action-fits h =
+      either (ltb label (p .automaton .actions)) _ fits (λ e. ltb-true label (p .automaton .actions) e)
+      (λ e. absurd (never (both (isCall label) _ e .0) (lt-leb firstCall label h)))
+
+  call-fits : firstCall ≤ label → calledBy label < p .routines
+  call-fits h =
+      either (ltb label (p .automaton .actions)) _ fits
+      (λ e. let k = ltb-true label (p .automaton .actions) e in absurd (omega (arith, well-formed-limits p w)))
+      (λ e. let k = ltb-true label (callOf (p .routines)) (both (isCall label) _ e .1) in omega arith)
+
+module _ (p : Program) (next known : List ℕ) (w : WellFormed p) (ans : Answers (p .automaton) (p .routines) next) (q : ℕ) where
+  label-is : (f m r label : ℕ) → labelFits (p .routines) (p .automaton .actions) label ≡ true → (s : Worklist) → s .known ≡ flagsOf known
       → labelStep next known (number f m r 0) q label s ≡ onLabel p f m r q (eventOf label) s
   unfolding labelStep onLabel
   label-is f m r label l s e = go (isAction label) refl
@@ -131,14 +176,15 @@ module _ (p : Program) (next known : List ℕ) (ans : Answers (p .automaton) nex
       go : (t : Bool) → isAction label ≡ t → labelStep next known (number f m r 0) q label s ≡ onLabel p f m r q (eventOf label) s
       go true t =
           let i = ltb-true label firstCall t in
-          rw (lt-leb firstCall label i, t) (event-is p next ans f m r q (Action label) hq i maxStates 0 (omega arith) s)
+          rw (lt-leb firstCall label i, t) (event-is p next w ans f m r q (Action label) (action-fits p w label l i) maxStates 0 s)
       go false t =
           let i = ltb-false label firstCall t in
           let g = calledBy label in
-          let h : g < maxRoutines = omega arith in
-          rw (le-leb firstCall label i, t, lt-ltb g maxRoutines h) (call-is p next ans f m r known g h q hq maxStates 0 (omega arith) s e)
+          let h = call-fits p w label l i in
+          rw (le-leb firstCall label i, t, lt-ltb g maxRoutines (omega (arith, well-formed-limits p w)))
+          (call-is p next w ans f m r known g h q maxStates 0 (omega arith) s e)
 
-  edge-is : (f n r : ℕ) (d : Edge) → d .label < callOf maxRoutines → (s : Worklist) → s .known ≡ known
+  edge-is : (f n r : ℕ) (d : Edge) → labelFits (p .routines) (p .automaton .actions) (d .label) ≡ true → (s : Worklist) → s .known ≡ flagsOf known
       → edgeStep next known f n r q d s ≡ labelWhen (eqb (d .routine) f && eqb (d .source) n) p f (d .target) r q (eventOf (d .label)) s
   unfolding edgeStep labelWhen
   edge-is f n r d l s e = go (eqb (d .routine) f && eqb (d .source) n) refl
@@ -149,18 +195,18 @@ module _ (p : Program) (next known : List ℕ) (ans : Answers (p .automaton) nex
       go false t = rw t
 
   -- the keys from x on, k of them
-  pub edges-is : (f n r : ℕ) (keys : List ℕ) (count : ℕ) → count ≤ length keys
-      → ((i : ℕ) → i < count → edgeOf (getD keys i 0) .label < callOf maxRoutines)
-      → (k x : ℕ) → k + x ≤ count → (s : Worklist) → s .known ≡ known
-      → each (λ i. edgeStep next known f n r q (edgeOf (getD keys i 0))) k x s ≡ onSteps p (stepsIn (drop x keys) k) f n r q s
+  pub edges-is : (f n r : ℕ) (keys : List ℕ)
+      → ((i : ℕ) → i < length keys → labelFits (p .routines) (p .automaton .actions) (edgeOf (getD keys i 0) .label) ≡ true)
+      → (k x : ℕ) → k + x ≡ length keys → (s : Worklist) → s .known ≡ flagsOf known
+      → each (λ i. edgeStep next known f n r q (edgeOf (getD keys i 0))) k x s ≡ onSteps p (stepsIn (drop x keys)) f n r q s
   unfolding each onSteps
-  edges-is f n r keys count c ls zero x h s e = refl
-  edges-is f n r keys count c ls (suc k) x h s e =
+  edges-is f n r keys ls zero x h s e = rw (let z : length keys ≤ x = omega arith in drop-of-length-le keys z)
+  edges-is f n r keys ls (suc k) x h s e =
       let d = edgeOf (getD keys x 0) in
       let t = eqb (d .routine) f && eqb (d .source) n in
       rw (drop-cons keys x 0 (omega arith))
       (ap (each (λ i. edgeStep next known f n r q (edgeOf (getD keys i 0))) k (suc x)) (edge-is f n r d (ls x (omega arith)) s e)
-      ∙ edges-is f n r keys count c ls k (suc x) (omega arith) _ (known-label-when t p f (d .target) r q (eventOf (d .label)) s ∙ e))
+      ∙ edges-is f n r keys ls k (suc x) (omega arith) _ (known-label-when t p f (d .target) r q (eventOf (d .label)) s ∙ e))
 
 -- ---- callers
 
@@ -175,34 +221,39 @@ module _ (g n q : ℕ) where
   wake-when-is true s = roots-is maxStates 0 s
   wake-when-is false s = refl
 
-module _ (p : Program) (next : List ℕ) (ans : Answers (p .automaton) next) (f r : ℕ) (hf : f < maxRoutines) (hr : r < maxStates) where
-  states-is : (e : Edge) → e .label ≡ callOf f → (k x : ℕ) → k + x ≤ maxStates → (s : Worklist)
+module _ (p : Program) (next : List ℕ) (w : WellFormed p) (ans : Answers (p .automaton) (p .routines) next) (f r : ℕ) where
+  states-is : (e : Edge) → e .label ≡ callOf f → f < p .routines → (k x : ℕ) (s : Worklist)
       → each (stateStep next r e) k x s ≡ wakeStates k x p f r (e .routine) (e .source) s
   unfolding each wakeStates
-  states-is e l zero x h s = refl
-  states-is e l (suc k) x h s =
+  states-is e l hf zero x s = refl
+  states-is e l hf (suc k) x s =
       let b = moves (p .automaton) x (Call f) r in
-      let t : isSet next (nextPlace x (e .label) r) ≡ b = rw l (ans .answers x (Call f) r (omega arith) (omega arith) hr) in
-      rw (t, wake-when-is (e .routine) (e .source) x b s) (states-is e l k (suc x) (omega arith) _)
+      let t : bit r (setAt next x (e .label)) ≡ b = rw l (answer p next w ans x (Call f) r hf) in
+      rw (t, wake-when-is (e .routine) (e .source) x b s) (states-is e l hf k (suc x) _)
 
-  caller-is : (e : Edge) (s : Worklist) → callerStep next f r e s ≡ callerWhen (calls f (eventOf (e .label))) p f r (e .routine) (e .source) s
+  caller-is : (e : Edge) → labelFits (p .routines) (p .automaton .actions) (e .label) ≡ true → (s : Worklist)
+      → callerStep next f r e s ≡ callerWhen (calls f (eventOf (e .label))) p f r (e .routine) (e .source) s
   unfolding callerStep callerWhen calls
-  caller-is e s = go (isAction (e .label)) refl (eqb (calledBy (e .label)) f) refl
+  caller-is e fits s = go (isAction (e .label)) refl (eqb (calledBy (e .label)) f) refl
     where
       go : (t : Bool) → isAction (e .label) ≡ t → (u : Bool) → eqb (calledBy (e .label)) f ≡ u
           → callerStep next f r e s ≡ callerWhen (calls f (eventOf (e .label))) p f r (e .routine) (e .source) s
       go true t u v = rw (lt-leb firstCall (e .label) (ltb-true (e .label) firstCall t), t)
       go false t true u =
           let i = ltb-false (e .label) firstCall t in
-          let l : e .label ≡ callOf f = omega (arith, eqb-true (calledBy (e .label)) f u) in
-          rw (le-leb firstCall (e .label) i, t, u) (states-is e l maxStates 0 (omega arith) s)
+          let d = eqb-true (calledBy (e .label)) f u in
+          let l : e .label ≡ callOf f = omega arith in
+          let h : f < p .routines = omega (arith, call-fits p w (e .label) fits i) in
+          rw (le-leb firstCall (e .label) i, t, u) (states-is e l h maxStates 0 s)
       go false t false u = rw (le-leb firstCall (e .label) (ltb-false (e .label) firstCall t), t, u)
 
-  pub callers-is : (keys : List ℕ) (k x : ℕ) → k + x ≤ length keys → (s : Worklist)
-      → each (λ i. callerStep next f r (edgeOf (getD keys i 0))) k x s ≡ wakeCallers p (stepsIn (drop x keys) k) f r s
+  pub callers-is : (keys : List ℕ)
+      → ((i : ℕ) → i < length keys → labelFits (p .routines) (p .automaton .actions) (edgeOf (getD keys i 0) .label) ≡ true)
+      → (k x : ℕ) → k + x ≡ length keys → (s : Worklist)
+      → each (λ i. callerStep next f r (edgeOf (getD keys i 0))) k x s ≡ wakeCallers p (stepsIn (drop x keys)) f r s
   unfolding each wakeCallers
-  callers-is keys zero x h s = refl
-  callers-is keys (suc k) x h s =
+  callers-is keys ls zero x h s = rw (let z : length keys ≤ x = omega arith in drop-of-length-le keys z)
+  callers-is keys ls (suc k) x h s =
       rw (drop-cons keys x 0 (omega arith))
-      (ap (each (λ i. callerStep next f r (edgeOf (getD keys i 0))) k (suc x)) (caller-is (edgeOf (getD keys x 0)) s)
-      ∙ callers-is keys k (suc x) (omega arith) _)
+      (ap (each (λ i. callerStep next f r (edgeOf (getD keys i 0))) k (suc x)) (caller-is (edgeOf (getD keys x 0)) (ls x (omega arith)) s)
+      ∙ callers-is keys ls k (suc x) (omega arith) _)

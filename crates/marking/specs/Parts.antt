@@ -1,14 +1,16 @@
 -- What the functions that follow one configuration promise of each other; nothing here has to be believed.
-use Prim.Native.Nat.{ℕ, zero, suc, _<_, _+_, _*_}
+use Prim.Native.Nat.{ℕ, zero, suc, _/_, _%_, _+_, _*_, _^_, _<_}
 use mathlib.Core.Path.{_≡_}
-use mathlib.Core.Bool.{cond, _&&_}
+use mathlib.Core.Logic.{_≢_}
+use mathlib.Core.Bool.{true, false, cond, _&&_}
 use mathlib.Core.List.{List, map}
 use lib.Dec.{eqb, ltb}
-use lib.ListN.{getD, take}
+use lib.ListN.{getD}
 use Rattle.automaton.specs.Sizes.{maxStates}
 use Rattle.automaton.specs.Automaton.{callOf, returnOf}
-use Rattle.automaton.specs.Flags.{nextPlace, Answers}
-use Rattle.base.specs.Flags.{isSet}
+use Rattle.automaton.specs.NextStates.{setAt, Answers}
+use Rattle.base.specs.Bits.{bit}
+use Rattle.index.specs.Index.{Indexed}
 use Rattle.program.specs.Sizes.{maxRoutines}
 use Rattle.program.specs.Program.{Edge, Program, isCall, calledBy}
 use Rattle.program.specs.WellFormed.{WellFormed}
@@ -16,49 +18,62 @@ use Rattle.program.specs.Decoded.{edgeOf}
 use Rattle.reach.specs.Sizes.{rootSpan}
 use Rattle.reach.specs.Configurations.{number}
 use Rattle.reach.specs.Runs.{Step, stepOf}
-use Rattle.reach.specs.Worklist.{Worklist, summary, mark, markWhen, wake}
+use Rattle.reach.specs.Worklist.{Worklist, mark, markWhen, wake}
+use Rattle.words.specs.Words.{flagsOf, NoneBelow}
 
--- the worklist of these bytes
+-- a bit for each configuration, and one for each summary: a word for each node, and one for each routine
+abbrev pub pendingWords : ℕ
+pendingWords = 256
+
+abbrev pub knownWords : ℕ
+knownWords = maxRoutines
+
+-- the worklist of these marks, and of the flags that these words have
 abbrev pub worklist : List ℕ → List ℕ → List ℕ → ℕ → Worklist
 worklist marks pending known iterations =
-    record { marks = marks; pending = pending; known = known; iterations = iterations }
+    record { marks = marks; pending = flagsOf pending; known = flagsOf known; iterations = iterations }
 
 -- marks and pending become those that a step gives, whatever the summaries and the count
 pub record Becomes (step : Worklist → Worklist) (marks pending marks′ pending′ : List ℕ) : Type 0 where
   pub becomes : (known : List ℕ) (n : ℕ) → worklist marks′ pending′ known n ≡ step (worklist marks pending known n)
 
--- no number below this one is pending
-pub record NoneBelow (pending : List ℕ) (low : ℕ) : Type 0 where
-  pub none-below : (j : ℕ) → j < low → getD pending j 0 ≡ 0
-
 -- where none below the one was pending, none below the other is now
 abbrev pub Lowers : List ℕ → ℕ → List ℕ → ℕ → Type 0
-Lowers pending low pending′ low′ = NoneBelow pending low → NoneBelow pending′ low′
+Lowers pending low pending′ low′ = NoneBelow (flagsOf pending) low → NoneBelow (flagsOf pending′) low′
 
 -- a step for each number, k of them from x on
 unfoldable pub each : (ℕ → Worklist → Worklist) → ℕ → ℕ → Worklist → Worklist
 each f zero x s = s
 each f (suc k) x s = each f k (suc x) (f x s)
 
--- the number base + x is marked where the flag place + x is set
-abbrev pub markFlag : List ℕ → ℕ → ℕ → ℕ → Worklist → Worklist
-markFlag flags place base x s = markWhen (isSet flags (place + x)) (base + x) s
+-- the lowest state of a set; of the empty one there is none
+pub record LowestOf (set s : ℕ) : Type 0 where
+  pub below : (x : ℕ) → x < s → bit x set ≡ false
+  pub found : set ≢ 0 → (bit s set ≡ true) × (s < 16)
+
+-- the number base + x is marked where state x is in the set
+abbrev pub markState : ℕ → ℕ → ℕ → Worklist → Worklist
+markState set base x s = markWhen (bit x set) (base + x) s
 
 -- the number of root x is woken, base being that of root 0
 abbrev pub wakeAt : ℕ → ℕ → Worklist → Worklist
 wakeAt base x s = wake (base + rootSpan * x) s
 
--- the steps of the keys in use
-abbrev pub stepsIn : List ℕ → ℕ → List Step
-stepsIn keys n = map stepOf (map edgeOf (take n keys))
+-- the steps of these keys
+abbrev pub stepsIn : List ℕ → List Step
+stepsIn keys = map stepOf (map edgeOf keys)
 
 -- the results of label l in state q are marked
 abbrev pub moveStep : List ℕ → ℕ → ℕ → ℕ → Worklist → Worklist
-moveStep next base q l s = each (markFlag next (nextPlace q l 0) base) maxStates 0 s
+moveStep next base q l s = each (markState (setAt next q l) base) maxStates 0 s
+
+-- the states in which g is known to end with root y, as a set
+abbrev pub endsAt : List ℕ → ℕ → ℕ → ℕ
+endsAt known g y = getD known g 0 / 2 ^ (y * maxStates) % 2 ^ maxStates
 
 -- where the summary (y, x) of g is known, the results of its return are marked
 abbrev pub summaryStep : List ℕ → List ℕ → ℕ → ℕ → ℕ → ℕ → Worklist → Worklist
-summaryStep next known base g y x s = cond (isSet known (summary g y 0 + x)) (moveStep next base x (returnOf g) s) s
+summaryStep next known base g y x s = cond (bit x (endsAt known g y)) (moveStep next base x (returnOf g) s) s
 
 -- a call of g that gives root y marks the entry with that root, and what its known summaries give
 abbrev pub entryStep : List ℕ → List ℕ → ℕ → ℕ → ℕ → Worklist → Worklist
@@ -66,8 +81,7 @@ entryStep next known base g y s = each (summaryStep next known base g y) maxStat
 
 -- where a call of g can lead from state q to root y, it gives that root
 abbrev pub rootStep : List ℕ → List ℕ → ℕ → ℕ → ℕ → ℕ → Worklist → Worklist
-rootStep next known base g q y s =
-    cond (isSet next (nextPlace q (callOf g) 0 + y)) (entryStep next known base g y s) s
+rootStep next known base g q y s = cond (bit y (setAt next q (callOf g))) (entryStep next known base g y s) s
 
 -- a call of g in state q: every root in turn
 abbrev pub callStep : List ℕ → List ℕ → ℕ → ℕ → ℕ → Worklist → Worklist
@@ -86,15 +100,16 @@ edgeStep next known f n r q e s =
 -- where a call can lead from state x to root r, what is at its node in that state is woken
 abbrev pub stateStep : List ℕ → ℕ → Edge → ℕ → Worklist → Worklist
 stateStep next r e x s =
-    cond (isSet next (nextPlace x (e .label) r)) (each (wakeAt (number (e .routine) (e .source) 0 x)) maxStates 0 s) s
+    cond (bit r (setAt next x (e .label))) (each (wakeAt (number (e .routine) (e .source) 0 x)) maxStates 0 s) s
 
 -- what an edge that calls f wakes
 unfoldable pub callerStep : List ℕ → ℕ → ℕ → Edge → Worklist → Worklist
 callerStep next f r e s =
-    cond (isCall (e .label)) (cond (eqb (calledBy (e .label)) f) (each (stateStep next r e) maxStates 0 s) s) s
+    cond (isCall (e .label) && eqb (calledBy (e .label)) f) (each (stateStep next r e) maxStates 0 s) s
 
 -- the tables are those of this program
-pub record Tables (p : Program) (keys : List ℕ) (count : ℕ) (next : List ℕ) : Type 0 where
+pub record Tables (p : Program) (keys index next : List ℕ) : Type 0 where
   pub well-formed : WellFormed p
-  pub edges : p .edges ≡ map edgeOf (take count keys)
-  pub answers : Answers (p .automaton) next
+  pub edges : p .edges ≡ map edgeOf keys
+  pub indexed : Indexed keys index
+  pub answers : Answers (p .automaton) (p .routines) next

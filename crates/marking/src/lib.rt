@@ -1,21 +1,30 @@
 // What one iteration marks and sets pending. Here configurations are marked, and marked ones are set pending again.
-// Each function returns a number below which nothing is pending, if there was nothing below the one it was given.
-// Whoever follows has measured both buffers (refusals 9 and 11), and a base is a configuration's number: hence each
-// `requires`.
+// What is pending is a bit for each configuration, in words. Each function returns a number below which nothing is
+// pending, if there was nothing below the one it was given. Whoever follows has measured the marks (refusal 9), and a
+// base is a configuration's number: hence each `requires`.
 mod follow;
 pub mod take;
 
 use automaton::sizes::MAX_STATES;
 use program::sizes::MARKS_SIZE;
+use program::sizes::MAX_ROUTINES;
 use reach::spans::ROOT_SPAN;
+use words::WORD_BITS;
+use words::set_at;
 ghost use mathlib.Core.Path.{_≡_};
-ghost use Prim.Native.Nat.{_<_, _≤_, _+_};
+ghost use Prim.Native.Nat.{_<_, _≤_};
 ghost use lib.ListN.{length};
 ghost use Rattle.automaton.specs.Sizes.{maxStates};
 ghost use Rattle.program.specs.Sizes.{marksSize};
 ghost use Rattle.reach.specs.Configurations.{byteNumbers};
-ghost use Rattle.reach.specs.Worklist.{mark as marked, markWhen, wake as woken};
-ghost use Rattle.marking.specs.Parts.{Becomes, Lowers, each, markFlag, wakeAt};
+ghost use Rattle.reach.specs.Worklist.{mark as marked, wake as woken};
+ghost use Rattle.marking.specs.Parts.{Becomes, Lowers, pendingWords, each, LowestOf, markState, wakeAt};
+
+// A word for each node: the configurations there.
+pub const PENDING_WORDS: usize = MARKS_SIZE / WORD_BITS;
+
+// A word for each routine: its summaries.
+pub const KNOWN_WORDS: usize = MAX_ROUTINES;
 
 fn lower(a: usize, b: usize) -> usize
     ensures { λ r. ⌜ (r ≤ a) × (r ≤ b) ⌝ }
@@ -27,8 +36,8 @@ fn lower(a: usize, b: usize) -> usize
 }
 
 // Marks a configuration; where it was not marked, it becomes pending.
-pub fn mark(marks: &mut [u8], pending: &mut [u8], at: usize, low: usize) -> usize
-    requires { ⌜ (length (now marks) ≡ marksSize) × (length (now pending) ≡ marksSize) ⌝ }
+pub fn mark(marks: &mut [u8], pending: &mut [u64], at: usize, low: usize) -> usize
+    requires { ⌜ (length (now marks) ≡ marksSize) × (length (now pending) ≡ pendingWords) ⌝ }
     ensures { λ r. ⌜ Becomes (marked at)
         (now (marks .entry)) (now (pending .entry)) (now (marks .exit)) (now (pending .exit))
         × Lowers (now (pending .entry)) low (now (pending .exit)) r ⌝ }
@@ -36,59 +45,54 @@ pub fn mark(marks: &mut [u8], pending: &mut [u8], at: usize, low: usize) -> usiz
     if at < MARKS_SIZE {
         if marks[at] == 0 {
             marks[at] = 1;
-            pending[at] = 1;
+            set_at(pending, at);
             return lower(low, at);
         }
     }
     low
 }
 
-fn mark_when(yes: bool, marks: &mut [u8], pending: &mut [u8], at: usize, low: usize) -> usize
-    requires { ⌜ (length (now marks) ≡ marksSize) × (length (now pending) ≡ marksSize) ⌝ }
-    ensures { λ r. ⌜ Becomes (markWhen yes at)
-        (now (marks .entry)) (now (pending .entry)) (now (marks .exit)) (now (pending .exit))
-        × Lowers (now (pending .entry)) low (now (pending .exit)) r ⌝ }
+// The lowest state of a set that is not empty.
+fn lowest_state(set: u16) -> usize
+    ensures { λ s. ⌜ LowestOf set s ⌝ }
 {
-    if yes {
-        return mark(marks, pending, at, low);
-    }
-    low
+    u16::trailing_zeros(set) as usize
 }
 
-// Marks base + s for each state s whose flag is set.
-fn mark_each(
-    flags: &[u8],
-    place: usize,
-    marks: &mut [u8],
-    pending: &mut [u8],
-    base: usize,
-    low: usize,
-) -> usize
-    requires { ⌜ (place + maxStates ≤ length (now flags)) × (base < byteNumbers) ⌝ }
-    requires { ⌜ (length (now marks) ≡ marksSize) × (length (now pending) ≡ marksSize) ⌝ }
-    ensures { λ r. ⌜ Becomes (each (markFlag (now (flags .entry)) place base) maxStates 0)
+// Marks base + s for each state s of a set, the lowest of what is left of it each time. A set has no other bits, but
+// the table could be any: past the states nothing is marked.
+fn mark_each(set: u16, marks: &mut [u8], pending: &mut [u64], base: usize, low: usize) -> usize
+    requires { ⌜ base < byteNumbers ⌝ }
+    requires { ⌜ (length (now marks) ≡ marksSize) × (length (now pending) ≡ pendingWords) ⌝ }
+    ensures { λ r. ⌜ Becomes (each (markState set base) maxStates 0)
         (now (marks .entry)) (now (pending .entry)) (now (marks .exit)) (now (pending .exit))
         × Lowers (now (pending .entry)) low (now (pending .exit)) r ⌝ }
 {
     let mut lowest = low;
+    let mut left = set;
     let mut s: usize = 0;
-    while s < MAX_STATES {
-        lowest = mark_when(flags[place + s] != 0, marks, pending, base + s, lowest);
-        s = s + 1;
+    while left != 0 {
+        let k = lowest_state(left);
+        if MAX_STATES <= s + k {
+            return lowest;
+        }
+        lowest = mark(marks, pending, base + (s + k), lowest);
+        left = (left >> k) / 2;
+        s = s + k + 1;
     }
     lowest
 }
 
 // Sets a marked configuration pending again.
-fn wake(marks: &[u8], pending: &mut [u8], at: usize, low: usize) -> usize
-    requires { ⌜ (length (now marks) ≡ marksSize) × (length (now pending) ≡ marksSize) ⌝ }
+fn wake(marks: &[u8], pending: &mut [u64], at: usize, low: usize) -> usize
+    requires { ⌜ (length (now marks) ≡ marksSize) × (length (now pending) ≡ pendingWords) ⌝ }
     ensures { λ r. ⌜ Becomes (woken at)
         (now (marks .entry)) (now (pending .entry)) (now (marks .entry)) (now (pending .exit))
         × Lowers (now (pending .entry)) low (now (pending .exit)) r ⌝ }
 {
     if at < MARKS_SIZE {
         if marks[at] != 0 {
-            pending[at] = 1;
+            set_at(pending, at);
             return lower(low, at);
         }
     }
@@ -96,9 +100,9 @@ fn wake(marks: &[u8], pending: &mut [u8], at: usize, low: usize) -> usize
 }
 
 // Wakes what has the same node and state as the base, whatever its root.
-fn wake_roots(marks: &[u8], pending: &mut [u8], base: usize, low: usize) -> usize
+fn wake_roots(marks: &[u8], pending: &mut [u64], base: usize, low: usize) -> usize
     requires { ⌜ base < byteNumbers ⌝ }
-    requires { ⌜ (length (now marks) ≡ marksSize) × (length (now pending) ≡ marksSize) ⌝ }
+    requires { ⌜ (length (now marks) ≡ marksSize) × (length (now pending) ≡ pendingWords) ⌝ }
     ensures { λ r. ⌜ Becomes (each (wakeAt base) maxStates 0)
         (now (marks .entry)) (now (pending .entry)) (now (marks .entry)) (now (pending .exit))
         × Lowers (now (pending .entry)) low (now (pending .exit)) r ⌝ }

@@ -9,7 +9,7 @@ use native.Mathlib.Decide.{ℕ-discrete}
 use Rattle.program.specs.Program.{Program}
 use Rattle.program.specs.WellFormed.{WellFormed}
 use Rattle.reach.specs.Sizes.{enoughIterations}
-use Rattle.reach.specs.Configurations.{number, routineOf, nodeOf, rootOf, stateOf, none-set, At}
+use Rattle.reach.specs.Configurations.{number, routineOf, nodeOf, rootOf, stateOf, At}
 use Rattle.reach.specs.Reachable.{Derivable, seeded, Any}
 use Rattle.reach.specs.Worklist.{Worklist, Shape, lowest, summary, work}
 use Rattle.reach.specs.Marks.{Marked, Shows, Between, ClosedBut}
@@ -21,7 +21,7 @@ use Rattle.reach.proofs.ShapeKept.{work-shape}
 use Rattle.reach.proofs.WorklistInvariant.{Closed, Follows}
 use Rattle.reach.proofs.ExitsSettled.{Settled}
 use Rattle.reach.proofs.TakingsBounded.{follow-ends}
-use Rattle.reach.proofs.AnalysisExact.{follow-exact-ended, follow-clear}
+use Rattle.reach.proofs.AnalysisExact.{follow-exact-ended}
 use Rattle.reach.proofs.MarksShown.{shows-marked}
 
 -- the marked configurations of these numbers that are no exits are pending, no others, and the summaries of the marked exits are
@@ -116,6 +116,3 @@ module _ (p : Program) (w : WellFormed p) (low high : ℕ) (s : Worklist) (h : C
   awaits-shows =
       let z = work-shape enoughIterations p (lowest (s .pending) 0) s refl (k .shape) in
       shows-marked (z .marks-length) (z .marks-bits) (follow-exact-ended p w (Marked (s .marks)) proper s awaits-follows awaits-settled)
-
-  pub awaits-clear : work enoughIterations p (lowest (s .pending) 0) s .pending ≡ none-set
-  awaits-clear = follow-clear p w (Marked (s .marks)) proper s awaits-follows awaits-settled

@@ -122,14 +122,6 @@ pub summary-state : (g q x : ℕ) → (g * maxStates + q) * maxStates + x ≡ su
 unfolding summary
 summary-state g q x = omega arith
 
-pub summary-from : (g q x : ℕ) → summary g q 0 + x ≡ summary g q x
-unfolding summary
-summary-from g q x = omega arith
-
-pub summaries-fit : (g q : ℕ) → g < maxRoutines → q < maxStates → summary g q 0 + maxStates ≤ summariesSize
-unfolding summary
-summaries-fit g q a b = omega arith
-
 -- ---- spans: the numbers of a routine and of a node follow one another
 
 pub in-routine : (f i : ℕ) → f * routineSpan ≤ i → i < f * routineSpan + routineSpan → routineOf i ≡ f

@@ -8,11 +8,11 @@ use native.Mathlib.Omega.{arith}
 use lib.Dec.{ltb, leb, eqb}
 use lib.ListN.{getD}
 use borrow.Author.Tests.{ltb-true, ltb-false, eqb-true, eqb-false, not-true}
-use Rattle.automaton.specs.Automaton.{listed, heard, stays, moves, callOf, returnOf}
+use Rattle.automaton.specs.Automaton.{listed, heard, stays, moves, callOf, returnOf, labelFits}
 use Rattle.automaton.proofs.EventsHeard.{listed-in}
 use Rattle.automaton.specs.declared.Event.{Event}
 use Rattle.automaton.specs.declared.Event.the-variants.{Action, Call, Return}
-use Rattle.program.specs.Program.{Edge, Program, within, labelFits, placed, edgeFits, transitionFits}
+use Rattle.program.specs.Program.{Edge, Program, within, placed, edgeFits, transitionFits}
 use Rattle.program.specs.WellFormed.{WellFormed}
 use Rattle.program.proofs.SectionsAscend.{all-at, all-in}
 use Rattle.program.proofs.LinesJudged.{at-most}

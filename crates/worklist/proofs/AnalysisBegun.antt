@@ -8,13 +8,14 @@ use lib.ListN.{length, getD, take, drop, replicate}
 use lib.Seq.{drop-cons}
 use Rattle.program.specs.Program.{Program}
 use Rattle.program.specs.WellFormed.{WellFormed}
-use Rattle.reach.specs.Sizes.{summariesSize, enoughIterations}
+use Rattle.reach.specs.Sizes.{enoughIterations}
 use Rattle.reach.specs.Configurations.{number, none-set}
 use Rattle.reach.specs.Worklist.{Worklist, Shape, lowest, mark, work, opened, blank, analysis}
 use Rattle.reach.proofs.ShapeKept.{opened-shape}
 use Rattle.reach.proofs.TakingsBounded.{analysis-ends}
-use Rattle.reach.proofs.AnalysisExact.{pending-clear}
-use Rattle.marking.specs.Parts.{worklist, Becomes, NoneBelow, each}
+use Rattle.words.specs.Words.{flagsOf, NoneBelow}
+use Rattle.words.proofs.FlagsAsked.{no-flags}
+use Rattle.marking.specs.Parts.{pendingWords, knownWords, worklist, Becomes, each}
 use Rattle.worklist.specs.Parts.{followed}
 
 opened-is : (list : List ℕ) (k x : ℕ) → k + x ≤ length list → (s : Worklist)
@@ -27,7 +28,7 @@ pub all-opened : (list : List ℕ) (n : ℕ) → n ≤ length list → {m w m′
     → Becomes (each (λ i. mark (number 0 0 (getD list i 0) (getD list i 0))) n 0) m w m′ w′ → Becomes (opened (take n list)) m w m′ w′
 all-opened list n h b = record { becomes = λ k c. b .becomes k c ∙ opened-is list n 0 (omega arith) _ }
 
-pub none-yet : (w : List ℕ) → NoneBelow w 0
+pub none-yet : (w : List ℕ) → NoneBelow (flagsOf w) 0
 none-yet w = record { none-below = λ j h. absurd (omega arith) }
 
 -- a count above the length means all
@@ -38,23 +39,28 @@ take-min (suc n) (x ∷ l) =
     let e : min (suc n) (suc (length l)) ≡ suc (min n (length l)) = omega arith in
     rw e (ap (λ (t : List ℕ). x ∷ t) (take-min n l))
 
--- from the opened worklist the procedure comes to its end, with the result of the analysis
-module _ (p : Program) (wf : WellFormed p) (m w : List ℕ) (b : Becomes (opened (p .automaton .initial)) none-set none-set m w) where
-  start-is : worklist m w (replicate summariesSize 0) 0 ≡ opened (p .automaton .initial) blank
-  start-is = b .becomes (replicate summariesSize 0) 0
+-- nothing is pending in words that are 0, and no summary is known
+cleared-is : worklist none-set (replicate pendingWords 0) (replicate knownWords 0) 0 ≡ blank
+unfolding none-set
+cleared-is = rw (no-flags pendingWords, no-flags knownWords)
 
-  result-is : followed p m w (replicate summariesSize 0) ≡ analysis p
+-- from the opened worklist the procedure comes to its end, with the result of the analysis
+module _ (p : Program) (wf : WellFormed p) (m w : List ℕ) (b : Becomes (opened (p .automaton .initial)) none-set (replicate pendingWords 0) m w) where
+  start-is : worklist m w (replicate knownWords 0) 0 ≡ opened (p .automaton .initial) blank
+  start-is = b .becomes (replicate knownWords 0) 0 ∙ ap (opened (p .automaton .initial)) cleared-is
+
+  result-is : followed p m w (replicate knownWords 0) ≡ analysis p
   unfolding analysis
   result-is = ap (λ (s : Worklist). work enoughIterations p (lowest (s .pending) 0) s) start-is
 
-  pub start-shape : Shape (worklist m w (replicate summariesSize 0) 0)
+  pub start-shape : Shape (worklist m w (replicate knownWords 0) 0)
   start-shape = subst Shape (sym start-is) (opened-shape (p .automaton .initial))
 
-  pub comes-to-an-end : lowest (followed p m w (replicate summariesSize 0) .pending) 0 ≡ none
+  pub comes-to-an-end : lowest (followed p m w (replicate knownWords 0) .pending) 0 ≡ none
   comes-to-an-end = ap (λ (s : Worklist). lowest (s .pending) 0) result-is ∙ analysis-ends p wf
 
-  pub analyzed : {m′ w′ k′ : List ℕ} {n : ℕ} → worklist m′ w′ k′ n ≡ followed p m w (replicate summariesSize 0)
-      → (m′ ≡ analysis p .marks) × (w′ ≡ none-set) × (n ≡ analysis p .iterations)
-  analyzed e =
+  pub analyzed : {m′ : List ℕ} (w′ k′ : List ℕ) {n : ℕ} → worklist m′ w′ k′ n ≡ followed p m w (replicate knownWords 0)
+      → (m′ ≡ analysis p .marks) × (n ≡ analysis p .iterations)
+  analyzed w′ k′ e =
       let f = e ∙ result-is in
-      (ap (λ (s : Worklist). s .marks) f, ap (λ (s : Worklist). s .pending) f ∙ pending-clear p wf, ap (λ (s : Worklist). s .iterations) f)
+      (ap (λ (s : Worklist). s .marks) f, ap (λ (s : Worklist). s .iterations) f)

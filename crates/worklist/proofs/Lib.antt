@@ -1,3 +1,4 @@
+pub mod FlagsSet
 pub mod LowestFound
 pub mod LoopFollows
 pub mod AnalysisBegun

@@ -7,45 +7,47 @@ use lib.ListN.{length}
 use borrow.Author.Tests.{lt-ltb, le-ltb}
 use Rattle.program.specs.Sizes.{marksSize}
 use Rattle.program.specs.Program.{Program}
-use Rattle.reach.specs.Sizes.{summariesSize, enoughIterations}
+use Rattle.reach.specs.Sizes.{enoughIterations}
 use Rattle.reach.specs.Worklist.{lowest, takeAt}
 use Rattle.reach.proofs.LoopRuns.{Running, running-from, running-end, running-more, running-turn}
-use Rattle.marking.specs.Parts.{worklist, NoneBelow, Tables}
+use Rattle.words.specs.Words.{flagsOf, NoneBelow}
+use Rattle.marking.specs.Parts.{pendingWords, knownWords, worklist, Tables}
 use Rattle.worklist.specs.Parts.{within, followed, Ends}
 
 -- for every program that these bytes are of, they are on the way to its result
-pub record Going (keys : List ℕ) (count : ℕ) (next m₀ w₀ k₀ m w k : List ℕ) (n at : ℕ) : Type 0 where
+pub record Going (keys index next m₀ w₀ k₀ m w k : List ℕ) (n at : ℕ) : Type 0 where
   pub marks-length : length m ≡ marksSize
-  pub pending-length : length w ≡ marksSize
-  pub known-length : length k ≡ summariesSize
-  pub found : lowest w 0 ≡ within marksSize at
-  pub below : NoneBelow w at
-  pub running : (p : Program) → Ends p keys count next m₀ w₀ k₀ → Running p (followed p m₀ w₀ k₀) (worklist m w k n)
+  pub pending-length : length w ≡ pendingWords
+  pub known-length : length k ≡ knownWords
+  pub found : lowest (flagsOf w) 0 ≡ within marksSize at
+  pub below : NoneBelow (flagsOf w) at
+  pub running : (p : Program) → Ends p keys index next m₀ w₀ k₀ → Running p (followed p m₀ w₀ k₀) (worklist m w k n)
 
-pub going-start : {keys : List ℕ} {count : ℕ} {next m w k : List ℕ} {at : ℕ} (p : Program) → Ends p keys count next m w k
-    → lowest w 0 ≡ within marksSize at → NoneBelow w at → Going keys count next m w k m w k 0 at
-going-start {m = m} {w = w} {k = k} p e f b =
+pub going-start : {keys index next m w k : List ℕ} {at : ℕ} (p : Program) → Ends p keys index next m w k
+    → length w ≡ pendingWords → length k ≡ knownWords → lowest (flagsOf w) 0 ≡ within marksSize at → NoneBelow (flagsOf w) at
+    → Going keys index next m w k m w k 0 at
+going-start {m = m} {w = w} {k = k} p e c d f b =
     record {
       marks-length = e .shape .marks-length;
-      pending-length = e .shape .pending-length;
-      known-length = e .shape .known-length;
+      pending-length = c;
+      known-length = d;
       found = f;
       below = b;
       running = λ q x. running-from q (worklist m w k 0) (x .shape) refl;
     }
 
-module _ {keys : List ℕ} {count : ℕ} {next m₀ w₀ k₀ m w k : List ℕ} {n at : ℕ} (g : Going keys count next m₀ w₀ k₀ m w k n at) where
+module _ {keys index next m₀ w₀ k₀ m w k : List ℕ} {n at : ℕ} (g : Going keys index next m₀ w₀ k₀ m w k n at) where
   module _ (h : at < marksSize) where
-    lowest-is : lowest w 0 ≡ some at
+    lowest-is : lowest (flagsOf w) 0 ≡ some at
     lowest-is = g .found ∙ rw (lt-ltb at marksSize h)
 
-    pub not-used-up : (p : Program) → Ends p keys count next m₀ w₀ k₀ → n < enoughIterations
+    pub not-used-up : (p : Program) → Ends p keys index next m₀ w₀ k₀ → n < enoughIterations
     not-used-up p e = running-more (g .running p e) (e .ends) at lowest-is
 
     pub going-turn : {m′ w′ k′ : List ℕ} {at′ : ℕ}
-        → ((p : Program) → Tables p keys count next → (c : ℕ) → worklist m′ w′ k′ (c + 1) ≡ takeAt p at (worklist m w k c))
-        → length m′ ≡ length m → length w′ ≡ length w → length k′ ≡ length k → lowest w′ 0 ≡ within marksSize at′ → NoneBelow w′ at′
-        → Going keys count next m₀ w₀ k₀ m′ w′ k′ (n + 1) at′
+        → ((p : Program) → Tables p keys index next → (c : ℕ) → worklist m′ w′ k′ (c + 1) ≡ takeAt p at (worklist m w k c))
+        → length m′ ≡ length m → length w′ ≡ length w → length k′ ≡ length k → lowest (flagsOf w′) 0 ≡ within marksSize at′ → NoneBelow (flagsOf w′) at′
+        → Going keys index next m₀ w₀ k₀ m′ w′ k′ (n + 1) at′
     going-turn t a b c f l =
         record {
           marks-length = a ∙ g .marks-length;
@@ -56,5 +58,5 @@ module _ {keys : List ℕ} {count : ℕ} {next m₀ w₀ k₀ m w k : List ℕ} 
           running = λ p e. subst (Running p (followed p m₀ w₀ k₀)) (sym (t p (e .tables) n)) (running-turn (g .running p e) (e .ends) at lowest-is);
         }
 
-  pub going-end : marksSize ≤ at → (p : Program) → Ends p keys count next m₀ w₀ k₀ → worklist m w k n ≡ followed p m₀ w₀ k₀
+  pub going-end : marksSize ≤ at → (p : Program) → Ends p keys index next m₀ w₀ k₀ → worklist m w k n ≡ followed p m₀ w₀ k₀
   going-end h p e = running-end (g .running p e) (g .found ∙ rw (le-ltb at marksSize h))

@@ -1,15 +1,16 @@
 -- The search for the lowest pending number.
-use Prim.Native.Nat.{ℕ, zero, suc, _+_, _≤_, _<_}
+use Prim.Native.Nat.{ℕ, zero, suc, _+_, _<_}
 use mathlib.Core.Path.{_≡_, refl, ap, _∙_}
+use mathlib.Core.Bool.{Bool, true, false, cond}
 use mathlib.Core.Option.{some, none}
 use mathlib.Core.List.{List, [], _∷_}
 use native.Mathlib.Omega.{arith}
+use lib.Dec.{ltb}
 use lib.ListN.{length, getD}
-use borrow.Author.Count.{below-more}
-use borrow.Author.Tests.{eq-eqb, ne-eqb, lt-ltb, le-ltb}
+use borrow.Author.Tests.{eq-eqb, ne-eqb, ltb-true, ltb-false}
 use Rattle.program.specs.Sizes.{marksSize}
 use Rattle.reach.specs.Worklist.{lowest}
-use Rattle.marking.specs.Parts.{NoneBelow}
+use Rattle.words.specs.Words.{FirstFlag}
 use Rattle.worklist.specs.Parts.{within}
 
 found-at : (l : List ℕ) (x r : ℕ) → ((j : ℕ) → j < r → getD l j 0 ≡ 0) → r < length l → (getD l r 0 ≡ 0 → ⊥) → lowest l x ≡ some (x + r)
@@ -25,13 +26,15 @@ unfolding lowest
 not-found [] x z = refl
 not-found (b ∷ l) x z = rw (lowest, eq-eqb b 0 (z 0 (omega arith))) (not-found l (x + 1) (λ j i. z (suc j) (omega arith)))
 
-module _ (l : List ℕ) (r : ℕ) (size : length l ≡ marksSize) (h : NoneBelow l r) where
-  pub is-lowest : r < marksSize → (getD l r 0 ≡ 0 → ⊥) → lowest l 0 ≡ within marksSize r
-  is-lowest k e = found-at l 0 r (h .none-below) (omega arith) e ∙ rw (lt-ltb r marksSize k) (let y : 0 + r ≡ r = omega arith in ap some y)
-
-  pub none-lowest : marksSize ≤ r → lowest l 0 ≡ within marksSize r
-  none-lowest k = not-found l 0 (λ j i. h .none-below j (omega arith)) ∙ rw (le-ltb r marksSize k)
-
--- one number more is not pending
-pub none-here : (l : List ℕ) (i : ℕ) → NoneBelow l i → getD l i 0 ≡ 0 → NoneBelow l (i + 1)
-none-here l i h e = record { none-below = below-more _ i (h .none-below) e }
+-- the first flag that is set is the lowest number that is pending
+pub first-lowest : (l : List ℕ) (r : ℕ) → length l ≡ marksSize → FirstFlag l r → lowest l 0 ≡ within marksSize r
+first-lowest l r size f = go (ltb r marksSize) refl
+  where
+    go : (b : Bool) → ltb r marksSize ≡ b → lowest l 0 ≡ cond b (some r) none
+    go true e =
+        let h = ltb-true r marksSize e in
+        let k = f .found (omega arith) in
+        found-at l 0 r (f .below .none-below) (omega arith) (λ z. omega arith) ∙ (let y : 0 + r ≡ r = omega arith in ap some y)
+    go false e =
+        let h = ltb-false r marksSize e in
+        not-found l 0 (λ j i. f .below .none-below j (omega arith))

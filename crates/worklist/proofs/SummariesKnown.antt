@@ -1,27 +1,29 @@
--- The known summaries are those of the marked exits: what their bytes say of each other.
-use Prim.Native.Nat.{ℕ, _≤_, _<_}
-use mathlib.Core.Path.{_≡_, sym, ap, _∙_}
+-- The known summaries are those of the marked exits: what their flags say of each other.
+use Prim.Native.Nat.{ℕ, _<_}
+use mathlib.Core.Path.{_≡_, ap, _∙_}
+use mathlib.Core.Bool.{cond}
 use mathlib.Core.List.{List}
+use native.Mathlib.Omega.{arith}
 use lib.ListN.{getD}
+use borrow.Author.Tests.{ne-eqb, eq-eqb}
 use Rattle.automaton.specs.Sizes.{maxStates}
 use Rattle.program.specs.Sizes.{maxRoutines}
-use Rattle.reach.specs.Configurations.{number, exitAt}
+use Rattle.reach.specs.Configurations.{number}
 use Rattle.reach.specs.Worklist.{summary}
 use Rattle.reach.proofs.Numbers.{summary-fits, exit-summary}
-use Rattle.base.specs.Flags.{On}
+use Rattle.base.specs.Flags.{isSet, On}
+use Rattle.words.specs.Words.{flagsOf}
 use Rattle.worklist.specs.Parts.{Learnt}
-use Rattle.base.proofs.BytesFilled.{filled-bits}
 
-module _ (marks : List ℕ) {known : List ℕ} (l : Learnt marks known) where
-  pub exit-byte : (g r q : ℕ) → g < maxRoutines → r < maxStates → q < maxStates → getD known (summary g r q) 0 ≡ getD marks (number g 1 r q) 0
-  exit-byte g r q hg hr hq =
-      l .byte (summary g r q) (summary-fits g r q hg hr hq) ∙ ap (λ (i : ℕ). getD marks i 0) (exit-summary g r q hr hq)
+module _ (marks : List ℕ) {known : List ℕ} (l : Learnt marks known) (g r q : ℕ) (hg : g < maxRoutines) (hr : r < maxStates) (hq : q < maxStates) where
+  exit-flag : getD (flagsOf known) (summary g r q) 0 ≡ cond (isSet marks (number g 1 r q)) 1 0
+  exit-flag =
+      l .flags .byte (summary g r q) (summary-fits g r q hg hr hq) ∙ ap (λ (i : ℕ). cond (isSet marks i) 1 0) (exit-summary g r q hr hq)
 
-  pub exit-known : (g r q : ℕ) → g < maxRoutines → r < maxStates → q < maxStates → On marks (number g 1 r q) → On known (summary g r q)
-  exit-known g r q hg hr hq o = record { on = λ e. o .on (sym (exit-byte g r q hg hr hq) ∙ e) }
+  pub exit-known : On marks (number g 1 r q) → On (flagsOf known) (summary g r q)
+  exit-known o =
+      let e : getD (flagsOf known) (summary g r q) 0 ≡ 1 = exit-flag ∙ rw (ne-eqb (getD marks (number g 1 r q) 0) 0 (o .on)) in
+      record { on = λ z. omega (arith, e) }
 
-  pub exit-marked : (g r q : ℕ) → g < maxRoutines → r < maxStates → q < maxStates → On known (summary g r q) → On marks (number g 1 r q)
-  exit-marked g r q hg hr hq o = record { on = λ e. o .on (exit-byte g r q hg hr hq ∙ e) }
-
-  pub known-bits : ((i : ℕ) → getD marks i 0 ≤ 1) → (i : ℕ) → getD known i 0 ≤ 1
-  known-bits b = filled-bits l (λ i. b (exitAt i))
+  pub exit-marked : On (flagsOf known) (summary g r q) → On marks (number g 1 r q)
+  exit-marked o = record { on = λ z. o .on (exit-flag ∙ rw (eq-eqb (getD marks (number g 1 r q) 0) 0 z)) }

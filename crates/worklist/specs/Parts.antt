@@ -1,13 +1,15 @@
 -- What the functions that follow what is pending promise of each other; nothing here has to be believed.
 use Prim.Native.Nat.{ℕ, _≤_, _<_}
 use mathlib.Core.Path.{_≡_}
-use mathlib.Core.Bool.{cond, _&&_}
+use mathlib.Core.Bool.{Bool, cond, not, _&&_}
 use mathlib.Core.Option.{Option, some, none}
 use mathlib.Core.List.{List, map}
 use lib.Dec.{eqb, ltb, leb}
 use lib.ListN.{getD}
 use Rattle.base.specs.Filled.{Filled}
-use Rattle.automaton.specs.Flags.{Answers}
+use Rattle.base.specs.Flags.{isSet}
+use Rattle.automaton.specs.NextStates.{Answers}
+use Rattle.program.specs.Sizes.{marksSize}
 use Rattle.program.specs.Program.{Program}
 use Rattle.program.specs.WellFormed.{WellFormed}
 use Rattle.program.specs.Decoded.{edgeOf}
@@ -15,27 +17,31 @@ use Rattle.reach.specs.Sizes.{enoughIterations, summariesSize}
 use Rattle.reach.specs.Configurations.{nodeOf, exitAt}
 use Rattle.reach.specs.Marks.{ClosedBut}
 use Rattle.reach.specs.Worklist.{Worklist, Shape, lowest, work}
+use Rattle.words.specs.Words.{flagsOf}
 use Rattle.marking.specs.Parts.{worklist, Tables}
 
 -- the known summaries are those of the marked exits
-abbrev pub Learnt : List ℕ → List ℕ → Type 0
-Learnt marks known = Filled (λ i. getD marks (exitAt i) 0) summariesSize known
+pub record Learnt (marks known : List ℕ) : Type 0 where
+  pub flags : Filled (λ i. cond (isSet marks (exitAt i)) 1 0) summariesSize (flagsOf known)
 
 -- what is pending at the start of a part: of the marked numbers from low up to high those that are no exits
-abbrev pub firstPending : ℕ → ℕ → ℕ → ℕ → ℕ
-firstPending low high mark i = cond (leb low i && ltb i high) (cond (eqb (nodeOf i) 1) 0 mark) 0
+abbrev pub isFirst : ℕ → ℕ → ℕ → ℕ → Bool
+isFirst low high mark i = leb low i && ltb i high && (not (eqb (nodeOf i) 1) && not (eqb mark 0))
+
+pub record Awaited (low high : ℕ) (marks pending : List ℕ) : Type 0 where
+  pub flags : Filled (λ i. cond (isFirst low high (getD marks i 0) i) 1 0) marksSize (flagsOf pending)
 
 -- a search's result: a number past the end says that nothing was found
 abbrev pub within : ℕ → ℕ → Option ℕ
 within size r = cond (ltb r size) (some r) none
 
--- what is pending in these bytes, followed to the end
+-- what is pending in these words, followed to the end
 abbrev pub followed : Program → List ℕ → List ℕ → List ℕ → Worklist
-followed p marks pending known = work enoughIterations p (lowest pending 0) (worklist marks pending known 0)
+followed p marks pending known = work enoughIterations p (lowest (flagsOf pending) 0) (worklist marks pending known 0)
 
 -- for this program, following it comes to an end
-pub record Ends (p : Program) (keys : List ℕ) (count : ℕ) (next marks pending known : List ℕ) : Type 0 where
-  pub tables : Tables p keys count next
+pub record Ends (p : Program) (keys index next marks pending known : List ℕ) : Type 0 where
+  pub tables : Tables p keys index next
   pub shape : Shape (worklist marks pending known 0)
   pub ends : lowest (followed p marks pending known .pending) 0 ≡ none
 
@@ -52,5 +58,5 @@ pub record FirstOf (keys : List ℕ) (count f at : ℕ) : Type 0 where
 pub record Followable (p : Program) (steps next : List ℕ) (low high : ℕ) (marks : List ℕ) : Type 0 where
   pub well-formed : WellFormed p
   pub edges : p .edges ≡ map edgeOf steps
-  pub answers : Answers (p .automaton) next
+  pub answers : Answers (p .automaton) (p .routines) next
   pub closed : ClosedBut p low high marks

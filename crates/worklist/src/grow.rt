@@ -23,40 +23,40 @@ ghost use Rattle.reach.specs.Reachable.{Derivable, Any};
 ghost use Rattle.reach.specs.Marks.{Marked, Shows, ClosedBut};
 
 // What follows by all edges of a program, once some were added at the numbers from low up to high.
-fn follow_between(p: DecodedProgram, low: usize, high: usize, marks: &mut [u8], pending: &mut [u8])
-    requires { ⌜ WellFormed (programOf p) × (high ≤ marksSize) × (length (now pending) ≡ marksSize) ⌝ }
+fn follow_between(p: DecodedProgram, low: usize, high: usize, marks: &mut [u8], work: &mut [u8])
+    requires { ⌜ WellFormed (programOf p) × (high ≤ marksSize) × (length (now work) ≡ marksSize) ⌝ }
     requires { ⌜ ClosedBut (programOf p) low high (now marks) ⌝ }
     ensures { λ _. ⌜ Shows (Derivable (programOf p) (Marked (now (marks .entry))) Any) (now (marks .exit))
-        × (now (pending .exit) ≡ none-set) ⌝ }
+        × (now (work .exit) ≡ none-set) ⌝ }
 {
     let rule = p.automaton;
     let edges = p.edges;
     let keys = edges.keys;
-    let table = next_states(rule);
-    let next = table.flags;
+    let table = next_states(rule, p.routines);
+    let next = table.sets;
     let count = in_use(edges.count, MAX_EDGES);
-    follow_part(&keys[..count], &next, marks, pending, low, high);
+    follow_part(&keys[..count], &next, marks, work, low, high);
 }
 
 // Once edges were added that lead from node n of routine f.
-pub fn follow_added(p: DecodedProgram, f: u8, n: u8, marks: &mut [u8], pending: &mut [u8])
+pub fn follow_added(p: DecodedProgram, f: u8, n: u8, marks: &mut [u8], work: &mut [u8])
     requires { ⌜ WellFormed (programOf p) × (f < maxRoutines) × (n < maxNodes)
-        × (length (now pending) ≡ marksSize) ⌝ }
+        × (length (now work) ≡ marksSize) ⌝ }
     requires { ⌜ ClosedBut (programOf p) (number f n 0 0) (number f n 0 0 + nodeSpan) (now marks) ⌝ }
     ensures { λ _. ⌜ Shows (Derivable (programOf p) (Marked (now (marks .entry))) Any) (now (marks .exit))
-        × (now (pending .exit) ≡ none-set) ⌝ }
+        × (now (work .exit) ≡ none-set) ⌝ }
 {
     let low = number_of(f, n, 0, 0);
-    follow_between(p, low, low + NODE_SPAN, marks, pending);
+    follow_between(p, low, low + NODE_SPAN, marks, work);
 }
 
 // Once edges were added anywhere in routine f.
-pub fn follow_routine(p: DecodedProgram, f: u8, marks: &mut [u8], pending: &mut [u8])
-    requires { ⌜ WellFormed (programOf p) × (f < maxRoutines) × (length (now pending) ≡ marksSize) ⌝ }
+pub fn follow_routine(p: DecodedProgram, f: u8, marks: &mut [u8], work: &mut [u8])
+    requires { ⌜ WellFormed (programOf p) × (f < maxRoutines) × (length (now work) ≡ marksSize) ⌝ }
     requires { ⌜ ClosedBut (programOf p) (f * routineSpan) (f * routineSpan + routineSpan) (now marks) ⌝ }
     ensures { λ _. ⌜ Shows (Derivable (programOf p) (Marked (now (marks .entry))) Any) (now (marks .exit))
-        × (now (pending .exit) ≡ none-set) ⌝ }
+        × (now (work .exit) ≡ none-set) ⌝ }
 {
     let low = wide(f) * ROUTINE_SPAN;
-    follow_between(p, low, low + ROUTINE_SPAN, marks, pending);
+    follow_between(p, low, low + ROUTINE_SPAN, marks, work);
 }

@@ -1,4 +1,5 @@
 -- `marking::mark` meets its contract.
+use Rattle.words.proofs.FlagsAsked.{flags-length}
 use Rattle.marking.proofs.StepsMark.{mark-new, mark-old, mark-out, set-lowers}
 use native.Mathlib.Omega.{arith}
 use borrow.Author.Needs.{needs}
@@ -7,11 +8,13 @@ use Rattle.marking.proofs.mark.Tie as tie
 
 returns : tie.Need-returns
 returns c =
-    let z = c .before .before .before .before .before .before in
+    let set = c .before .before .before in
+    let z = set .before .before .before .before .before .before .before in
     let m = z .args .marks .now in
     let w = z .args .pending .now in
     let l = c .lower .ensures in
-    (mark-new m w (z .args .at) (c .before .if2 .taken), set-lowers w (z .args .at) (z .args .low) _ (l .0) (l .1))
+    let f = set .set-at .ensures in
+    (mark-new m w (z .args .at) (set .before .before .if2 .taken) f, set-lowers w _ (z .args .at) (z .args .low) _ f (l .0) (l .1))
 
 returns-2 : tie.Need-returns-2
 returns-2 c =
@@ -25,10 +28,10 @@ returns-3 c =
     let z = c .before .before .before in
     let m = z .args .marks .now in
     let w = z .args .pending .now in
-    (mark-out m w (z .args .at) (omega arith) (omega arith), λ h. h)
+    (mark-out m w (z .args .at) (omega arith) (omega (arith, flags-length w)), λ h. h)
 
 pub mark-spec : {M : Type 1} → statement M
 mark-spec =
     tie.close
-    (tie.spec (λ c. search needs) (λ c. search needs) (λ c. search needs) (λ c κs. search needs) (λ c. search needs)
+    (tie.spec (λ c. search needs) (λ c. search needs) (λ c κs. search needs) (λ c κs. search needs) (λ c. search needs)
     (λ c. search needs) returns returns-2 returns-3)

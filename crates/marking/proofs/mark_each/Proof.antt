@@ -1,49 +1,93 @@
--- `marking::mark_each` meets its contract. The loop's invariant: the states from `s` on are left to try.
+-- `marking::mark_each` meets its contract. The loop's invariant: the states from `s` on are left to mark.
 use Rattle.automaton.specs.Sizes.{maxStates}
-use Rattle.marking.specs.Parts.{markFlag}
-use Rattle.marking.proofs.StepsMark.{Looping, loop-start, loop-turn, loop-end}
+use Rattle.marking.specs.Parts.{markState}
+use Rattle.marking.proofs.StepsMark.{Looping, loop-start, loop-turn, loop-skip, loop-idle}
+use Rattle.marking.proofs.StatesTaken.{Leaving, leaving-all, leaving-next, passed-states, found-state, state-marked, none-marked}
 use mathlib.Core.Path.{sym, _∙_}
 use native.Mathlib.Omega.{arith}
-use Prim.Native.Nat.{_-_}
+use Prim.Native.Nat.{_+_, _-_, _<_}
 use borrow.Author.Needs.{needs}
 use Rattle.marking.proofs.mark_each.Statement.{statement}
 use Rattle.marking.proofs.mark_each.Tie as tie
 
 abbrev Inv-loop : tie.InvT-loop
-Inv-loop flags place marks₀ pending₀ base low lowest₀ s₀ marks pending lowest s =
-    Looping (markFlag flags place base) maxStates marks₀ pending₀ low s marks pending lowest
+Inv-loop set marks₀ pending₀ base low lowest₀ left₀ s₀ marks pending lowest left s =
+    Looping (markState set base) maxStates marks₀ pending₀ low s marks pending lowest × Leaving set s left
 
 abbrev μ-loop : tie.MeasureT-loop
-μ-loop flags place marks₀ pending₀ base low lowest₀ s₀ marks pending lowest s = maxStates - s
+μ-loop set marks₀ pending₀ base low lowest₀ left₀ s₀ marks pending lowest left s = maxStates - s
 
--- the place before
+-- the places before
 abbrev start : tie.At-loop Inv-loop μ-loop → tie.Start Inv-loop μ-loop
-start p = p .before .before .before .before
+start p = p .before .before .before
+
+abbrev sought : tie.After-slice-known4 Inv-loop μ-loop → tie.After-lowest-state Inv-loop μ-loop
+sought c = c .before .before .before .before .before .before .before .before
+
+-- the lowest state of what is left has a bit
+found : (c : tie.After-lowest-state Inv-loop μ-loop) → c .lowest-state .result < 16
+found c = c .lowest-state .ensures .found (c .before .loop-test .taken) .1
 
 loop-holds : tie.Need-loop-holds Inv-loop μ-loop
-loop-holds c = let z = c .before .before .before in loop-start _ maxStates _ _ _ (z .pre .1 .0) (z .pre .1 .1)
+loop-holds c =
+    let z = c .before .before in
+    (loop-start _ maxStates _ _ _ (z .pre .1 .0) (z .pre .1 .1), leaving-all (z .args .set))
 
-mark-when-requires : tie.Need-mark-when-requires Inv-loop μ-loop
-mark-when-requires c κs = let p = c .before .before .before .before in (p .loop .inv .marks-length, p .loop .inv .pending-length)
+add-if1 : tie.Need-add-if1 Inv-loop μ-loop
+add-if1 c = let p = c .before .before in omega (arith, found c, p .loop .inv .0 .within)
+
+same-length : tie.Need-same-length Inv-loop μ-loop
+same-length c = let p = c .before .before .before in p .loop .inv .0 .marks-length ∙ sym (start p .pre .1 .0)
+
+same-length-2 : tie.Need-same-length-2 Inv-loop μ-loop
+same-length-2 c = let p = c .before .before .before in p .loop .inv .0 .pending-length ∙ sym (start p .pre .1 .1)
+
+returns : tie.Need-returns Inv-loop μ-loop
+returns c =
+    let p = c .before .before .before in
+    loop-idle (p .loop .inv .0) (passed-states (p .loop .inv .1) (c .before .lowest-state .ensures) _ (c .if1 .taken))
+
+mark-requires : tie.Need-mark-requires Inv-loop μ-loop
+mark-requires c κs =
+    let p = c .before .before .before .before .before in
+    (p .loop .inv .0 .marks-length, p .loop .inv .0 .pending-length)
+
+shr-left : tie.Need-shr-left Inv-loop μ-loop
+shr-left c = omega (arith, found (sought c))
+
+loop-less : tie.Need-loop-less Inv-loop μ-loop
+loop-less c = omega (arith, c .before .before .before .before .before .before .before .if1 .left)
 
 loop-again : tie.Need-loop-again Inv-loop μ-loop
 loop-again c =
-    let marked = c .before .before .before .before in
-    let p = marked .before .before .before .before .before in
-    let m = marked .mark-when in
-    loop-turn (p .loop .inv) (omega arith) (m .ensures .0) (m .ensures .1) (m .kept .1 .0) (m .kept .1 .1 .0)
+    let k = sought c in
+    let p = k .before .before in
+    let m = c .before .before .before .before .mark in
+    let l = p .loop .inv .1 in
+    let h = c .before .before .before .before .before .before .before .if1 .left in
+    let low = k .lowest-state .ensures in (
+      loop-turn (loop-skip (p .loop .inv .0) (omega arith) (omega (arith, h)) (passed-states l low _ (omega arith))) (omega (arith, h))
+          (state-marked (start p .args .set) (start p .args .base) (p .loop .s + k .lowest-state .result) (found-state l low (k .before .loop-test .taken)) (m .ensures .0)) (m .ensures .1) (m .kept .0) (m .kept .1 .0),
+      leaving-next l low,
+    )
 
-same-length : tie.Need-same-length Inv-loop μ-loop
-same-length c = c .before .loop .inv .marks-length ∙ sym (start (c .before) .pre .1 .0)
+same-length-3 : tie.Need-same-length-3 Inv-loop μ-loop
+same-length-3 c = c .before .loop .inv .0 .marks-length ∙ sym (start (c .before) .pre .1 .0)
 
-same-length-2 : tie.Need-same-length-2 Inv-loop μ-loop
-same-length-2 c = c .before .loop .inv .pending-length ∙ sym (start (c .before) .pre .1 .1)
+same-length-4 : tie.Need-same-length-4 Inv-loop μ-loop
+same-length-4 c = c .before .loop .inv .0 .pending-length ∙ sym (start (c .before) .pre .1 .1)
 
-returns : tie.Need-returns Inv-loop μ-loop
-returns c = loop-end (c .before .loop .inv) (omega arith)
+returns-2 : tie.Need-returns-2 Inv-loop μ-loop
+returns-2 c = let p = c .before in loop-idle (p .loop .inv .0) (none-marked (p .loop .inv .1) (c .loop-test .left) _ _)
+
+-- the next state is one of the automaton's
+small : (c : tie.After-slice-known4 Inv-loop μ-loop) → sought c .before .before .loop .s + sought c .lowest-state .result < maxStates
+small c = omega (arith, c .before .before .before .before .before .before .before .if1 .left)
 
 pub mark-each-spec : {M : Type 1} → statement M
 mark-each-spec =
     tie.close
-    (tie.spec Inv-loop μ-loop loop-holds (λ c. search needs) (λ c. search needs) (λ c. search needs)
-    mark-when-requires (λ c. search needs) (λ c. search needs) loop-again same-length same-length-2 returns)
+    (tie.spec Inv-loop μ-loop loop-holds (λ c κs. search needs) add-if1 same-length same-length-2 returns
+    (λ c. omega (arith, c .before .before .if1 .left)) (λ c. omega (arith, c .before .before .if1 .left, start (c .before .before .before .before .before) .pre .0))
+    mark-requires (λ c. omega (arith, small c)) shr-left (λ c. omega (arith, small c)) (λ c. omega (arith, small c))
+    loop-less loop-again same-length-3 same-length-4 returns-2)

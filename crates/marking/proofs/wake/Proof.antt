@@ -7,11 +7,13 @@ use Rattle.marking.proofs.wake.Tie as tie
 
 returns : tie.Need-returns
 returns c =
-    let z = c .before .before .before .before .before .before in
+    let set = c .before .before .before in
+    let z = set .before .before .before .before .before .before .before in
     let m = z .args .marks .now in
     let w = z .args .pending .now in
     let l = c .lower .ensures in
-    (wake-marked m w (z .args .at) (c .before .if2 .taken), set-lowers w (z .args .at) (z .args .low) _ (l .0) (l .1))
+    let f = set .set-at .ensures in
+    (wake-marked m w (z .args .at) (set .before .before .if2 .taken) f, set-lowers w _ (z .args .at) (z .args .low) _ f (l .0) (l .1))
 
 returns-2 : tie.Need-returns-2
 returns-2 c =
@@ -30,5 +32,4 @@ returns-3 c =
 pub wake-spec : {M : Type 1} → statement M
 wake-spec =
     tie.close
-    (tie.spec (λ c. search needs) (λ c. search needs) (λ c κs. search needs) (λ c. search needs) returns returns-2
-    returns-3)
+    (tie.spec (λ c. search needs) (λ c κs. search needs) (λ c κs. search needs) (λ c. search needs) returns returns-2 returns-3)

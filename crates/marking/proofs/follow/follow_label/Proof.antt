@@ -1,8 +1,5 @@
 -- `marking::follow::follow_label` meets its contract.
 use Rattle.marking.proofs.BranchesChosen.{label-call, label-past, label-action}
-use Rattle.automaton.specs.Sizes.{firstCall}
-use borrow.Author.Tests.{leb-false}
-use native.Mathlib.Omega.{arith}
 use mathlib.Core.Path.{sym, _∙_}
 use borrow.Author.Needs.{needs}
 use Rattle.marking.proofs.follow.follow_label.Statement.{statement}
@@ -30,19 +27,13 @@ returns-2 c =
       λ h. h,
     )
 
-answers-at-requires : tie.Need-answers-at-requires
-answers-at-requires c κs =
-    let z = c .before .before .before .before .before .before in
-    let small = leb-false firstCall (z .args .label) (sym (c .before .is-call .ensures) ∙ c .if1 .left) in
-    (z .pre .0 .3, omega arith)
-
 returns-3 : tie.Need-returns-3
 returns-3 c =
     let marked = c .before .before .before .before in
     let placed = marked .before .before .before in
     let action = placed .before in
     let e = marked .mark-each .ensures in (
-      label-action _ _ _ _ _ (sym (action .before .is-call .ensures) ∙ action .if1 .left) (rw (placed .answers-at .ensures .0) at (e .0)),
+      label-action _ _ _ _ _ (sym (action .before .is-call .ensures) ∙ action .if1 .left) (rw (placed .next-after .ensures) at (e .0)),
       e .1,
     )
 
@@ -50,5 +41,5 @@ pub follow-label-spec : {M : Type 1} → statement M
 follow-label-spec =
     tie.close
     (tie.spec (λ c κs. search needs) called-by-requires (λ c. search needs) (λ c κs. search needs) (λ c. search needs)
-    (λ c. search needs) returns returns-2 answers-at-requires (λ c κs. search needs) (λ c. search needs)
+    (λ c. search needs) returns returns-2 (λ c κs. search needs) (λ c κs. search needs) (λ c. search needs)
     (λ c. search needs) returns-3)

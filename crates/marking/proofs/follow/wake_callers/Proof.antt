@@ -1,43 +1,85 @@
 -- `marking::follow::wake_callers` meets its contract. The loop's invariant: the edges from `i` on are left to try.
+use Rattle.index.specs.Index.{callsOne, seek}
+use Rattle.index.proofs.NumbersSought.{seek-at-least}
 use Rattle.program.specs.Decoded.{edgeOf}
 use Rattle.marking.specs.Parts.{callerStep}
-use Rattle.marking.proofs.StepsMark.{Looping, loop-start, loop-turn, loop-end}
-use mathlib.Core.Path.{refl, sym, _∙_}
-use lib.ListN.{getD}
+use Rattle.marking.proofs.StepsMark.{loop-end}
+use Rattle.marking.proofs.EdgesChased.{Passes, Chasing, chase-start, chase-turn}
+use Rattle.marking.proofs.BranchesChosen.{caller-here, caller-other}
+use mathlib.Core.Path.{_≡_, refl, sym, _∙_}
+use mathlib.Core.List.{List}
+use lib.ListN.{length, getD}
 use native.Mathlib.Omega.{arith}
-use Prim.Native.Nat.{_-_}
+use Prim.Native.Nat.{ℕ, _+_, _-_}
 use borrow.Author.Needs.{needs}
 use Rattle.marking.proofs.follow.wake_callers.Statement.{statement}
 use Rattle.marking.proofs.follow.wake_callers.Tie as tie
 
 abbrev Inv-loop : tie.InvT-loop
-Inv-loop keys count next marks pending₀ f r low lowest₀ i₀ pending lowest i =
-    Looping (λ i. callerStep next f r (edgeOf (getD keys i 0))) count marks pending₀ low i marks pending lowest
+Inv-loop keys index next marks pending₀ f r low lowest₀ i₀ pending lowest i =
+    Chasing (callsOne keys f) (λ j. callerStep next f r (edgeOf (getD keys j 0))) (length keys) marks pending₀ low i marks pending lowest
 
 abbrev μ-loop : tie.MeasureT-loop
-μ-loop keys count next marks pending₀ f r low lowest₀ i₀ pending lowest i = count - i
+μ-loop keys index next marks pending₀ f r low lowest₀ i₀ pending lowest i = length keys - i
+
+-- the place before
+abbrev start : tie.At-loop Inv-loop μ-loop → tie.Start Inv-loop μ-loop
+start p = p .before .before .before .before .before .before .before
+
+-- the place in the loop
+abbrev inside : tie.After-next-caller Inv-loop μ-loop → tie.In-loop Inv-loop μ-loop
+inside c = c .before .before .before .before .before .before .before
+
+passed : (next : List ℕ) (f r : ℕ) (keys : List ℕ) → Passes (callsOne keys f) (λ j. callerStep next f r (edgeOf (getD keys j 0)))
+passed next f r keys = record { passes = λ x e s. caller-other next f r keys x e s }
 
 loop-holds : tie.Need-loop-holds Inv-loop μ-loop
-loop-holds c = let z = c .before .before .before .before in loop-start _ _ _ _ _ (z .pre .1 .0) (z .pre .1 .1)
+loop-holds c =
+    let z = c .before .before .before .before .before .before in
+    let a = z .args in
+    chase-start _ _ _ (passed (a .next .now) (a .f) (a .r) (a .keys .now)) (z .pre .1 .0) (z .pre .1 .1)
+    (c .first-caller .ensures ∙ z .pre .0 .0 .first-caller (a .f) (z .pre .0 .1))
 
-wake-caller-requires : tie.Need-wake-caller-requires Inv-loop μ-loop
-wake-caller-requires c κs = let p = c .before .before .before .before in (p .loop .inv .marks-length, p .loop .inv .pending-length)
+wake-states-requires : tie.Need-wake-states-requires Inv-loop μ-loop
+wake-states-requires c κs = let p = c .before .before .before .before in (p .loop .inv .looping .marks-length, p .loop .inv .looping .pending-length)
+
+-- the index has the next edge that calls the routine
+chained : (c : tie.After-next-caller Inv-loop μ-loop)
+    → let p = inside c .before in let a = start p .args in
+    c .next-caller .result ≡ seek (callsOne (a .keys .now) (a .f)) (length (a .keys .now) - (p .loop .i + 1)) (p .loop .i + 1)
+chained c =
+    let p = inside c .before in
+    let z = start p in
+    let h = inside c .loop-test in
+    c .next-caller .ensures ∙ z .pre .0 .0 .next-caller (z .args .f) (p .loop .i) (z .pre .0 .1) (omega arith) (p .loop .inv .meets (omega arith))
+
+loop-less : tie.Need-loop-less Inv-loop μ-loop
+loop-less c =
+    let p = inside c .before in
+    let a = start p .args in
+    let i = p .loop .i in
+    omega (arith, inside c .loop-test, chained c, seek-at-least (callsOne (a .keys .now) (a .f)) (length (a .keys .now) - (i + 1)) (i + 1))
 
 loop-again : tie.Need-loop-again Inv-loop μ-loop
 loop-again c =
-    let taken = c .before .before .before .before in
-    let p = taken .before .before .before in
-    let w = c .before .before .wake-caller in
-    loop-turn (p .loop .inv) (omega arith) (rw (taken .edge .ensures) at (w .ensures .0)) (w .ensures .1) refl (w .kept .1 .1 .0)
+    let woken = c .before .before .before in
+    let taken = woken .before .before in
+    let p = inside c .before in
+    let a = start p .args in
+    let w = woken .wake-states in
+    let h = inside c .loop-test in
+    chase-turn (p .loop .inv) (passed (a .next .now) (a .f) (a .r) (a .keys .now)) (omega arith)
+    (caller-here (a .next .now) (a .f) (a .r) (a .keys .now) (p .loop .i) (p .loop .inv .meets (omega arith)) (rw (taken .edge .ensures) at (w .ensures .0)))
+    (w .ensures .1) refl (w .kept .1 .1 .0) (chained c)
 
 same-length : tie.Need-same-length Inv-loop μ-loop
-same-length c = let z = c .before .before .before .before .before .before in c .before .loop .inv .pending-length ∙ sym (z .pre .1 .1)
+same-length c = c .before .loop .inv .looping .pending-length ∙ sym (start (c .before) .pre .1 .1)
 
 returns : tie.Need-returns Inv-loop μ-loop
-returns c = loop-end (c .before .loop .inv) (omega arith)
+returns c = loop-end (c .before .loop .inv .looping) (omega arith)
 
 pub wake-callers-spec : {M : Type 1} → statement M
 wake-callers-spec =
     tie.close
-    (tie.spec Inv-loop μ-loop loop-holds (λ c. search needs) (λ c. search needs) (λ c κs. search needs)
-    wake-caller-requires (λ c. search needs) (λ c. search needs) loop-again same-length returns)
+    (tie.spec Inv-loop μ-loop (λ c κs. search needs) loop-holds (λ c. search needs) (λ c. search needs) (λ c κs. search needs)
+    wake-states-requires (λ c κs. search needs) loop-less loop-again same-length returns)

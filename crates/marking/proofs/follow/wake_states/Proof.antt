@@ -25,13 +25,13 @@ loop-holds c = let z = c .before .before .before in loop-start _ maxStates _ _ _
 wake-roots-requires : tie.Need-wake-roots-requires Inv-loop μ-loop
 wake-roots-requires c κs =
     let numbered = c .before in
-    let p = numbered .before .before .before .before in
+    let p = numbered .before .before .before .before .before in
     (numbered .number-of .ensures .1, (p .loop .inv .marks-length, p .loop .inv .pending-length))
 
 loop-again : tie.Need-loop-again Inv-loop μ-loop
 loop-again c =
-    let p = c .before .before .before in
-    let e = c .before .may-go .ensures in
+    let p = c .before .before .before .before in
+    let e = rw (c .before .before .next-after .ensures) at (c .before .has-bit .ensures) in
     ⊎-elim
     (λ w.
     let k = w .3 in
@@ -53,5 +53,5 @@ returns c = loop-end (c .before .loop .inv) (omega arith)
 pub wake-states-spec : {M : Type 1} → statement M
 wake-states-spec =
     tie.close
-    (tie.spec Inv-loop μ-loop loop-holds (λ c. search needs) (λ c κs. search needs) (λ c κs. search needs)
+    (tie.spec Inv-loop μ-loop loop-holds (λ c. search needs) (λ c κs. search needs) (λ c. search needs) (λ c κs. search needs) (λ c κs. search needs)
     wake-roots-requires (λ c. search needs) (λ c. search needs) loop-again same-length returns)

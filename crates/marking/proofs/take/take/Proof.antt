@@ -1,57 +1,64 @@
 -- `marking::take::take` meets its contract.
-use Rattle.reach.proofs.Numbers.{summary-fits}
 use Rattle.marking.proofs.TakingOfProcedure.{at-exit, elsewhere, past-lowest}
-use lib.ListN.{length-set}
-use native.Mathlib.Omega.{arith}
 use mathlib.Core.Path.{_∙_}
 use borrow.Author.Needs.{needs}
 use Rattle.marking.proofs.take.take.Statement.{statement}
 use Rattle.marking.proofs.take.take.Tie as tie
 
-slice-write-known : tie.Need-slice-write-known
-slice-write-known c =
-    let parts = c .before .before .before in
-    let z = parts .before .before .before .before .before .before in
-    let h = parts .parts-of .ensures .in-range in
-    rw (c .summary-of .ensures) (omega (arith, summary-fits _ _ _ (h .routine) (h .root) (h .state), z .pre .0 .3))
+-- the places before
+abbrev cleared : tie.After-struct-known → tie.After-clear-at
+cleared c = c .before .before .before
 
-same-length-2 : tie.Need-same-length-2
-same-length-2 c = c .before .before .wake-callers .kept .1 .1 .1 .1 .0 ∙ simp length-set
+abbrev parts : tie.After-struct-known → tie.After-parts-of
+parts c = cleared c .before .before
+
+abbrev start : tie.After-struct-known → tie.Start
+start c = parts c .before .before .before .before .before .before .before
+
+wake-callers-requires : tie.Need-wake-callers-requires
+wake-callers-requires c κs =
+    let t = c .before .before .before .before .before .before .before .before in
+    let z = start t in
+    ((z .pre .0 .1, parts t .parts-of .ensures .in-range .routine), (z .pre .1 .0, cleared t .clear-at .kept .0 ∙ z .pre .1 .1))
 
 returns : tie.Need-returns
 returns c =
-    let placed = c .before .before .before .before .before in
-    let parts = placed .before .before .before in
-    let z = parts .before .before .before .before .before .before in
+    let placed = c .before .before .before .before .before .before .before .before .before in
+    let t = placed .before .before in
+    let z = start t in
     let a = z .args in
+    let f = cleared t .clear-at .ensures in
+    let d = c .before .before .before .before .before .before .before .set-at .ensures in
     let e = c .before .before .wake-callers .ensures in (
-      rw (placed .summary-of .ensures)
-          (at-exit (a .keys .now) (a .next .now) (a .marks .now) (a .pending .now) (a .known .now) (a .count) (a .i) (z .pre .0 .1)
-          (parts .parts-of .ensures) (placed .before .if1 .taken) (e .0)),
-      λ h. e .1 (past-lowest (a .pending .now) (a .i) h),
+      at-exit (a .keys .now) (a .index .now) (a .next .now) (a .marks .now) (a .pending .now) (a .known .now) (a .i) (parts t .parts-of .ensures) f
+          _ (placed .before .if1 .taken) (rw (placed .summary-of .ensures) at d) (e .0),
+      λ h. e .1 (rw f (past-lowest _ (a .i) h)),
     )
 
-same-length-5 : tie.Need-same-length-5
-same-length-5 c =
-    let followed = c .before .before .before .before in
-    followed .follow-edges .kept .1 .1 .1 .1 .1 .0 ∙ simp length-set
+follow-edges-requires : tie.Need-follow-edges-requires
+follow-edges-requires c κs =
+    let t = c .before .before .before .before in
+    let z = start t in
+    let r = parts t .parts-of .ensures .in-range in
+    ((z .pre .0 .1, z .pre .0 .2, r .routine, r .node), (z .pre .1 .0, cleared t .clear-at .kept .0 ∙ z .pre .1 .1))
 
 returns-2 : tie.Need-returns-2
 returns-2 c =
     let followed = c .before .before .before .before in
     let tested = followed .before .before .before .before in
-    let parts = tested .before .before in
-    let z = parts .before .before .before .before .before .before in
+    let t = tested .before in
+    let z = start t in
     let a = z .args in
+    let f = cleared t .clear-at .ensures in
     let e = followed .follow-edges .ensures in (
-      elsewhere (a .keys .now) (a .next .now) (a .marks .now) (a .pending .now) (a .known .now) (a .count) (a .i) (z .pre .0 .1)
-          (parts .parts-of .ensures) (tested .if1 .left) (e .0),
-      λ h. e .1 (past-lowest (a .pending .now) (a .i) h),
+      elsewhere (a .keys .now) (a .index .now) (a .next .now) (a .marks .now) (a .pending .now) (a .known .now) (a .i) (parts t .parts-of .ensures) f
+          (tested .if1 .left) (e .0),
+      λ h. e .1 (rw f (past-lowest _ (a .i) h)),
     )
 
 pub take-spec : {M : Type 1} → statement M
 take-spec =
     tie.close
-    (tie.spec (λ c κs. search needs) (λ c. search needs) (λ c κs. search needs) slice-write-known (λ c. search needs)
-    (λ c κs. search needs) (λ c. search needs) same-length-2 (λ c. search needs) returns (λ c. search needs)
-    (λ c κs. search needs) (λ c. search needs) same-length-5 (λ c. search needs) returns-2)
+    (tie.spec (λ c κs. search needs) (λ c κs. search needs) (λ c κs. search needs) (λ c κs. search needs) (λ c. search needs)
+    wake-callers-requires (λ c. search needs) (λ c. search needs) (λ c. search needs) returns (λ c. search needs)
+    follow-edges-requires (λ c. search needs) (λ c. search needs) (λ c. search needs) returns-2)

@@ -1,38 +1,46 @@
--- `worklist::exits::summaries_of` meets its contract. The loop's invariant: the flags below `i` are the exits' bytes.
+-- `worklist::exits::summaries_of` meets its contract. The loop's invariant: the flags below `i` are those of the exits.
+use Rattle.base.specs.Flags.{isSet}
 use Rattle.reach.specs.Sizes.{summariesSize}
 use Rattle.reach.specs.Configurations.{exitAt}
-use Rattle.base.proofs.BytesFilled.{Filling, filling-none, filling-more, filling-all}
-use Prim.Native.Nat.{ℕ, _-_}
+use Rattle.marking.specs.Parts.{knownWords}
+use Rattle.worklist.proofs.FlagsSet.{Setting, setting-none, setting-here, setting-other, setting-all}
+use Prim.Native.Nat.{_-_}
 use borrow.Author.Needs.{needs}
+use borrow.Author.Tests.{eq-eqb, ne-eqb}
 use native.Mathlib.Omega.{arith}
-use mathlib.Core.Path.{refl, ap}
-use lib.ListN.{getD}
+use mathlib.Core.Bool.{not}
+use mathlib.Core.Logic.{⊎-elim}
+use mathlib.Core.Path.{sym, ap}
 use Rattle.worklist.proofs.exits.summaries_of.Statement.{statement}
 use Rattle.worklist.proofs.exits.summaries_of.Tie as tie
 
 abbrev Inv-loop : tie.InvT-loop
-Inv-loop marks flags₀ i₀ flags i = Filling (λ j. getD marks (exitAt j) 0) summariesSize flags₀ flags i
+Inv-loop marks words₀ i₀ words i = Setting (λ j. isSet marks (exitAt j)) knownWords words i
 
 abbrev μ-loop : tie.MeasureT-loop
-μ-loop marks flags₀ i₀ flags i = summariesSize - i
+μ-loop marks words₀ i₀ words i = summariesSize - i
 
 loop-holds : tie.Need-loop-holds Inv-loop μ-loop
-loop-holds c = filling-none _ summariesSize _ refl
+loop-holds c = setting-none _ knownWords 0 (λ j h. absurd (omega arith))
 
-array-write-flags : tie.Need-array-write-flags Inv-loop μ-loop
-array-write-flags c = let p = c .before .before .before in omega (arith, p .loop .inv .len)
+slice-aggregate-set-at : tie.Need-slice-aggregate-set-at Inv-loop μ-loop
+slice-aggregate-set-at c = sym (c .before .before .before .before .before .loop .inv .count)
 
 loop-again : tie.Need-loop-again Inv-loop μ-loop
 loop-again c =
-    let p = c .before .before .before in
-    let z = p .before .before in
-    filling-more (p .loop .inv) (omega arith) (ap (λ (j : ℕ). getD (z .args .marks .now) j 0) (c .before .exit-at .ensures .0))
+    let exit = c .before .before in
+    let p = exit .before .before in
+    let e = exit .exit-at .ensures .0 in
+    ⊎-elim
+    (λ w. rw (w .4) (setting-here (p .loop .inv) _ (omega arith) (ap not (ne-eqb _ _ (rw e at (w .0 .taken)))) (w .2 .ensures) (w .2 .kept .0)))
+    (λ w. rw (w .1) (setting-other (p .loop .inv) (ap not (eq-eqb _ _ (rw e at (w .0 .left))))))
+    (c .if1 .came)
 
 returns : tie.Need-returns Inv-loop μ-loop
-returns c = filling-all (c .before .loop .inv) (omega arith)
+returns c = record { flags = setting-all (c .before .loop .inv) (λ j h k. absurd (omega arith)) }
 
 pub summaries-of-spec : {M : Type 1} → statement M
 summaries-of-spec =
     tie.close
-    (tie.spec Inv-loop μ-loop loop-holds (λ c κs. search needs) (λ c. search needs) array-write-flags (λ c. search needs)
+    (tie.spec Inv-loop μ-loop loop-holds (λ c κs. search needs) (λ c. search needs) slice-aggregate-set-at (λ c κs. search needs) (λ c. search needs)
     (λ c. search needs) loop-again returns)

@@ -1,5 +1,5 @@
 -- `worklist::grow::follow_between` meets its contract: the part of the table that is handed on has all edges of the program.
-use Rattle.automaton.specs.Sizes.{nextStatesSize}
+use Rattle.program.proofs.ProgramRanged.{ranged}
 use Rattle.program.specs.Sizes.{maxEdges}
 use Rattle.program.specs.Decoded.{programOf}
 use Rattle.worklist.specs.Parts.{Followable}
@@ -28,10 +28,13 @@ in-table c = let r = room (start c) in let u = c .in-use .ensures in omega arith
 
 followable : (c : tie.After-in-use)
     → Followable (programOf (start c .args .p)) (take (c .in-use .result) (start c .args .p .edges .keys))
-    (tabled c .next-states .result .flags) (start c .args .low) (start c .args .high) (start c .args .marks .now)
+    (tabled c .next-states .result .sets) (start c .args .low) (start c .args .high) (start c .args .marks .now)
 followable c =
     let z = start c in
     all-edges (z .args .p) (room z) (c .in-use .ensures) (z .pre .0 .0) (tabled c .next-states .ensures) (z .pre .1)
+
+next-states-requires : tie.Need-next-states-requires
+next-states-requires c κs = let z = c .before .before .before .before .before in ranged (programOf (z .args .p)) (z .pre .0 .0)
 
 array-share-prefix-keys : tie.Need-array-share-prefix-keys
 array-share-prefix-keys c = in-table c
@@ -45,9 +48,9 @@ follow-part-requires : tie.Need-follow-part-requires
 follow-part-requires c κs =
     let n = c .before .before .before .before in
     let z = start n in
-    let o = tabled n .next-states .ok in
-    let flags : length (tabled n .next-states .result .flags) ≡ nextStatesSize = search (needs, o) in
-    ((flags, z .pre .0 .2, z .pre .0 .1), (_, followable n))
+    let r = room z in
+    let l = length-take-le (n .in-use .result) (z .args .p .edges .keys) (in-table n) in
+    ((omega (arith, l, in-table n), z .pre .0 .2, z .pre .0 .1), (_, followable n))
 
 returns : tie.Need-returns
 returns c =
@@ -59,5 +62,5 @@ returns c =
 pub follow-between-spec : {M : Type 1} → statement M
 follow-between-spec =
     tie.close
-    (tie.spec (λ c κs. search needs) (λ c κs. search needs) array-share-prefix-keys slice-aggregate-follow-part
+    (tie.spec next-states-requires (λ c κs. search needs) array-share-prefix-keys slice-aggregate-follow-part
     (λ c. search needs) follow-part-requires (λ c. search needs) (λ c. search needs) returns)

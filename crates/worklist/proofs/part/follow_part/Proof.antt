@@ -1,44 +1,56 @@
 -- `worklist::part::follow_part` meets its contract: following starts from these marks, so it ends with what follows from them.
-use Rattle.worklist.proofs.PartAwaited.{none-under, part-ends, part-shows, part-clear}
-use native.Mathlib.Omega.{arith}
+use Rattle.worklist.proofs.PartAwaited.{none-under, part-ends, part-shows}
+use Rattle.marking.specs.Parts.{pendingWords, knownWords}
+use Rattle.reach.specs.Configurations.{none-set}
+use Prim.Native.Nat.{ℕ}
+use lib.ListN.{length, replicate}
+use mathlib.Core.Path.{_≡_, ap, _∙_}
 use borrow.Author.Needs.{needs}
 use Rattle.worklist.proofs.part.follow_part.Statement.{statement}
 use Rattle.worklist.proofs.part.follow_part.Tie as tie
 
 -- the places before
+abbrev cleared : tie.After-known2 → tie.After-clear
+cleared c = c .before .before .before .before .before .before
+
 abbrev awaited : tie.After-known2 → tie.After-await-between
-awaited c = c .before .before .before .before .before
+awaited c = cleared c .before .before .before
 
-abbrev learnt : tie.After-await-between → tie.After-summaries-of
-learnt c = c .before .before .before .before
+abbrev learnt : tie.After-known2 → tie.After-summaries-of
+learnt c = awaited c .before .before .before
 
-abbrev start : tie.After-summaries-of → tie.Start
-start c = c .before .before .before .before .before .before
+abbrev indexed : tie.After-known2 → tie.After-index-of
+indexed c = learnt c .before .before .before
+
+abbrev start : tie.After-known2 → tie.Start
+start c = indexed c .before .before .before .before .before
 
 follow-pending-requires : tie.Need-follow-pending-requires
 follow-pending-requires c κs =
-    let a = awaited c in
-    let l = learnt a in
-    let z = start l in
-    let r = z .pre .1 .1 in
-    let pe = a .await-between .ensures in (
-      (omega arith, z .pre .0 .0, none-under (z .args .low) (z .args .high) (z .args .marks .now) pe),
-      (_, part-ends r (l .summaries-of .ensures) pe),
+    let z = start c in
+    let o = awaited c .await-between .ok in
+    let k = learnt c .summaries-of .ok in
+    let pe = awaited c .await-between .ensures in
+    let a : length (awaited c .await-between .result .words) ≡ pendingWords = search (needs, o) in
+    let b : length (learnt c .summaries-of .result .words) ≡ knownWords = search (needs, k) in (
+      (a, b, none-under (z .args .low) (z .args .high) (z .args .marks .now) pe),
+      (_, part-ends (z .pre .1 .1) (indexed c .index-of .ensures) (learnt c .summaries-of .ensures) pe),
     )
 
 returns : tie.Need-returns
+unfolding none-set
 returns c =
-    let f = c .before .before .before .before .before in
-    let a = awaited (f .before) in
-    let l = learnt a in
-    let z = start l in
-    let kn = l .summaries-of .ensures in
-    let pe = a .await-between .ensures in
+    let f = c .before .before .before .before in
+    let b = f .before in
+    let z = start b in
+    let ix = indexed b .index-of .ensures in
+    let kn = learnt b .summaries-of .ensures in
+    let pe = awaited b .await-between .ensures in
     let e = f .follow-pending .ensures in
-    (λ p r. part-shows r kn pe (e p (part-ends r kn pe)), part-clear (z .pre .1 .1) kn pe (e _ (part-ends (z .pre .1 .1) kn pe)))
+    (λ p r. part-shows r ix kn pe _ _ (e p (part-ends r ix kn pe)), cleared b .clear .ensures ∙ ap (λ (n : ℕ). replicate n 0) (z .pre .0 .1))
 
 pub follow-part-spec : {M : Type 1} → statement M
 follow-part-spec =
     tie.close
-    (tie.spec (λ c κs. search needs) (λ c κs. search needs) (λ c. search needs) follow-pending-requires
-    (λ c. search needs) (λ c. search needs) returns)
+    (tie.spec (λ c κs. search needs) (λ c κs. search needs) (λ c κs. search needs) (λ c κs. search needs) (λ c. search needs) (λ c. search needs)
+    (λ c. search needs) follow-pending-requires (λ c. search needs) (λ c. search needs) returns)

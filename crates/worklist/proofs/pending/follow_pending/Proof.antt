@@ -8,16 +8,16 @@ use Rattle.worklist.proofs.pending.follow_pending.Statement.{statement}
 use Rattle.worklist.proofs.pending.follow_pending.Tie as tie
 
 abbrev Inv-loop : tie.InvT-loop
-Inv-loop keys count next marks₀ pending₀ known₀ from iterations₀ at₀ marks pending known iterations at =
-    Going keys count next marks₀ pending₀ known₀ marks pending known iterations at
+Inv-loop keys index next marks₀ pending₀ known₀ from iterations₀ at₀ marks pending known iterations at =
+    Going keys index next marks₀ pending₀ known₀ marks pending known iterations at
 
 abbrev μ-loop : tie.MeasureT-loop
-μ-loop keys count next marks₀ pending₀ known₀ from iterations₀ at₀ marks pending known iterations at =
+μ-loop keys index next marks₀ pending₀ known₀ from iterations₀ at₀ marks pending known iterations at =
     enoughIterations - iterations
 
 -- the places before
 abbrev start : tie.At-loop Inv-loop μ-loop → tie.Start Inv-loop μ-loop
-start p = p .before .before .before .before .before .before .before .before
+start p = p .before .before .before .before .before .before .before .before .before
 
 abbrev tested : tie.After-take Inv-loop μ-loop → tie.In-loop Inv-loop μ-loop
 tested t = t .before .before .before .before
@@ -30,20 +30,20 @@ left c =
     not-used-up (p .loop .inv) (omega arith) (z .1 .0) (z .1 .1)
 
 lowest-pending-requires : tie.Need-lowest-pending-requires Inv-loop μ-loop
-lowest-pending-requires c κs = let z = c .before .before .before .before .before .before in (z .pre .1 .1 .shape .pending-length, z .pre .0 .2)
+lowest-pending-requires c κs = let z = c .before .before .before .before .before .before .before in (z .pre .0 .0, z .pre .0 .2)
 
 loop-holds : tie.Need-loop-holds Inv-loop μ-loop
 loop-holds c =
-    let z = c .before .before .before .before .before .before .before in
+    let z = c .before .before .before .before .before .before .before .before in
     let l = c .lowest-pending .ensures in
-    going-start (z .pre .1 .0) (z .pre .1 .1) (l .0) (l .1)
+    going-start (z .pre .1 .0) (z .pre .1 .1) (z .pre .0 .0) (z .pre .0 .1) (l .0) (l .1)
 
 take-requires : tie.Need-take-requires Inv-loop μ-loop
 take-requires c κs =
     let p = c .before .before .before .before in
     let z = start p in
     let g = p .loop .inv in
-    ((omega arith, z .pre .0 .0, z .pre .0 .1, g .known-length), (g .marks-length, g .pending-length))
+    ((omega arith, z .pre .1 .1 .tables .indexed, g .known-length), (g .marks-length, g .pending-length))
 
 add-iterations : tie.Need-add-iterations Inv-loop μ-loop
 add-iterations c = let taken = c .before .before .before .before .before .before in omega (arith, left (tested taken))
@@ -71,10 +71,10 @@ same-length : tie.Need-same-length Inv-loop μ-loop
 same-length c = let p = c .before in p .loop .inv .marks-length ∙ sym (start p .pre .1 .1 .shape .marks-length)
 
 same-length-2 : tie.Need-same-length-2 Inv-loop μ-loop
-same-length-2 c = let p = c .before in p .loop .inv .pending-length ∙ sym (start p .pre .1 .1 .shape .pending-length)
+same-length-2 c = let p = c .before in p .loop .inv .pending-length ∙ sym (start p .pre .0 .0)
 
 same-length-3 : tie.Need-same-length-3 Inv-loop μ-loop
-same-length-3 c = let p = c .before in p .loop .inv .known-length ∙ sym (start p .pre .1 .1 .shape .known-length)
+same-length-3 c = let p = c .before in p .loop .inv .known-length ∙ sym (start p .pre .0 .1)
 
 returns : tie.Need-returns Inv-loop μ-loop
 returns c = going-end (c .before .loop .inv) (omega arith)

@@ -11,15 +11,11 @@ returns : tie.Need-returns
 unfolding none-set
 returns c =
     let opened = c .before .before .before .before in
-    let second = opened .before .before .before .before .before in
-    let first = second .before .before .before .before in
+    let first = opened .before .before .before .before .before in
     let z = first .before .before .before .before in
-    let m = first .clear .ensures ∙ ap (λ (n : ℕ). replicate n 0) (z .pre .0) in
-    let w = second .clear2 .ensures ∙ ap (λ (n : ℕ). replicate n 0) (z .pre .1) in
-    rw (m, w) at (opened .open-initial .ensures)
+    rw (first .clear .ensures ∙ ap (λ (n : ℕ). replicate n 0) (z .pre .0)) at (opened .open-initial .ensures)
 
 pub begin-spec : {M : Type 1} → statement M
 begin-spec =
     tie.close
-    (tie.spec (λ c κs. search needs) (λ c κs. search needs) (λ c κs. search needs) (λ c. search needs)
-    (λ c. search needs) returns)
+    (tie.spec (λ c κs. search needs) (λ c κs. search needs) (λ c. search needs) (λ c. search needs) returns)
