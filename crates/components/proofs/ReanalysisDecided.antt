@@ -3,12 +3,16 @@ use mathlib.Core.Path.{_≡_, refl, subst, _∙_}
 use mathlib.Core.Logic.{_⊎_, inl, inr, _≢_}
 use mathlib.Core.Bool.{Bool, true, false, not, _&&_, _||_}
 use mathlib.Core.List.{List}
-use Prim.Native.Nat.{ℕ, _+_, _≤_, _<_}
+use Prim.Native.Nat.{ℕ, _+_, _/_, _%_, _^_, _≤_, _<_}
 use native.Mathlib.Omega.{arith}
 use native.Mathlib.Decide.{ℕ-discrete}
 use lib.Dec.{eqb}
-use lib.ListN.{getD}
+use lib.ListN.{length, getD, List·getD-eq-default}
 use borrow.Author.Tests.{eqb-true, eqb-false}
+use Rattle.base.specs.Bits.{bit}
+use Rattle.base.specs.Flags.{isSet}
+use Rattle.words.specs.Words.{wordBits, flagsOf}
+use Rattle.words.proofs.FlagsAsked.{flag-at, flags-length}
 use Rattle.automaton.specs.Sizes.{maxStates}
 use Rattle.program.specs.Sizes.{maxRoutines}
 use Rattle.program.specs.Program.{Edge, isCall, calledBy}
@@ -28,6 +32,17 @@ said-yes x = record { if-yes = λ e. x; if-no = λ e. absurd (let z : _≡_ {A =
 
 pub said-no : {X : Type 0} → (¬ X) → Says false X
 said-no n = record { if-yes = λ e. absurd (let z : _≡_ {A = ℕ} 0 1 = cc in omega arith); if-no = λ e. n }
+
+-- ---- a flag that is a bit of a word
+
+pub known-bit : (ws : List ℕ) (i : ℕ) → bit (i % wordBits) (getD ws (i / wordBits) 0) ≡ isSet (flagsOf ws) i
+known-bit ws i = rw (flag-at ws i) (either-one (getD ws (i / wordBits) 0 / 2 ^ (i % wordBits)))
+  where
+    either-one : (n : ℕ) → eqb (n % 2) 1 ≡ not (eqb (n % 2) 0)
+    either-one n = elim (ℕ-discrete (n % 2) 0) [ yes e ↦ rw e | no e ↦ let o : n % 2 ≡ 1 = omega arith in rw o ]
+
+pub no-known : (ws : List ℕ) (i : ℕ) → length ws ≤ i / wordBits → false ≡ isSet (flagsOf ws) i
+no-known ws i h = rw (List·getD-eq-default (flagsOf ws) 0 {n = i} (omega (arith, flags-length ws)))
 
 -- ---- flags that differ
 

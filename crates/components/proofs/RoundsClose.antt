@@ -9,7 +9,7 @@ use native.Mathlib.Omega.{arith}
 use native.Mathlib.Decide.{ℕ-discrete}
 use lib.ListN.{length, getD}
 use borrow.Author.Tests.{eqb-true, eq-eqb}
-use Rattle.automaton.specs.Flags.{Answers}
+use Rattle.automaton.specs.NextStates.{Answers}
 use Rattle.program.specs.Sizes.{maxRoutines, marksSize}
 use Rattle.program.specs.Program.{Program}
 use Rattle.program.specs.WellFormed.{WellFormed}
@@ -96,7 +96,7 @@ other-routine {f} e h ne same = ne (rw (e, first-number f, ← same) (routine-sp
 
 -- no edge of routine f leads from the configurations of another
 pub turn-followable : {p : Program} {steps next marks : List ℕ} {low : ℕ} (f : ℕ) → low ≡ number f 0 0 0 → Ready p marks
-    → edgesOf (is f) (p .edges) ≡ map edgeOf steps → Answers (p .automaton) next
+    → edgesOf (is f) (p .edges) ≡ map edgeOf steps → Answers (p .automaton) (p .routines) next
     → Followable (onlyOf (is f) p) steps next low (low + routineSpan) marks
 turn-followable {p} f first h e a =
     record {

@@ -15,8 +15,9 @@ use Rattle.reach.specs.Marks.{Marked, Shows, freshMarks}
 use Rattle.base.proofs.SetFlags.{zeros}
 use Rattle.reach.proofs.ShapeKept.{marks-length}
 use Rattle.reach.proofs.AnalysisExact.{analysis-exact}
+use Rattle.words.specs.Words.{flagsOf}
 use Rattle.worklist.specs.Parts.{Learnt}
-use Rattle.worklist.proofs.SummariesKnown.{exit-byte}
+use Rattle.worklist.proofs.SummariesKnown.{exit-known, exit-marked}
 use Rattle.callgraph.specs.Components.{Leads, Together, Anew, Reanalyzed, Member}
 use Rattle.callgraph.specs.Parts.{LeadFlags, rankOf, Joined}
 use Rattle.roots.specs.Roots.{LiveMarked}
@@ -26,7 +27,6 @@ use Rattle.components.specs.PassParts.{Passable}
 use Rattle.components.specs.TurnParts.{DropOf, Ranks, turnOf, firstTurn, endTurn, Working, Turning, CallsDiffering, SomeDiffering}
 use Rattle.callgraph.proofs.ComponentsFromFlags.{called-small, rank-positive, rank-limited, rank-same, rank-less, dec-together}
 use Rattle.callgraph.proofs.CallsByKey.{edgeAt, KeysOf, key-step, step-key}
-use Rattle.roots.proofs.RootsOccur.{byte-tells}
 use Rattle.components.proofs.TurnsWork.{skipped, kept-turn, worked-turn}
 use Rattle.components.proofs.TurnsFinished.{pass-is, passable, reanalyzed-is, first-turn, all-right, cut-fresh}
 
@@ -147,18 +147,20 @@ pub all-cleared : {n : ℕ} {l : List ℕ} → n ≡ marksSize → l ≡ replica
 unfolding none-set
 all-cleared e z = z ∙ ap (λ (n : ℕ). replicate n 0) e
 
-exits-flagged : (marks : List ℕ) {flags : List ℕ} → Learnt marks flags
-    → (f x q : ℕ) → f < maxRoutines → x < maxStates → q < maxStates → (getD flags (summary f x q) 0 ≢ 0) ↔ Marked marks f 1 x q
-exits-flagged marks w f x q hf hx hq =
-    byte-tells marks (record { routine = hf; node = omega arith; root = hx; state = hq }) (exit-byte marks w f x q hf hx hq)
+exits-flagged : (marks : List ℕ) {words : List ℕ} → Learnt marks words
+    → (f x q : ℕ) → f < maxRoutines → x < maxStates → q < maxStates → (getD (flagsOf words) (summary f x q) 0 ≢ 0) ↔ Marked marks f 1 x q
+exits-flagged marks w f x q hf hx hq = (
+  λ o. (record { routine = hf; node = omega arith; root = hx; state = hq }, exit-marked marks w f x q hf hx hq (record { on = o }) .on),
+  λ m. exit-known marks w f x q hf hx hq (record { on = m .1 }) .on,
+)
 
 module _ {p p′ : Program} {edited : ℕ} (h : DropOf p p′ edited) where
   fresh-marked : {marks : List ℕ} → marks ≡ freshMarks p → (f n r q : ℕ) → Marked marks f n r q ↔ Reachable p f n r q
   fresh-marked e f n r q = subst (λ (l : List ℕ). Marked l f n r q ↔ Reachable p f n r q) (sym e) (analysis-exact p (h .old-well-formed) f n r q)
 
-  pub turning-start : {leads roots before marks : List ℕ} → marks ≡ freshMarks p → LeadFlags (Leads p′) leads
+  pub turning-start : {leads roots words marks : List ℕ} → marks ≡ freshMarks p → LeadFlags (Leads p′) leads
       → RootFlags (λ (f x : ℕ). Marked marks f 0 x x) roots
-      → Learnt marks before → Turning p p′ edited leads roots before firstTurn marks (replicate maxRoutines 0) (replicate maxRoutines 0)
+      → Learnt marks words → Turning p p′ edited leads roots (flagsOf words) firstTurn marks (replicate maxRoutines 0) (replicate maxRoutines 0)
   turning-start {marks = marks} e l r b =
       record {
         drop = h;
@@ -171,7 +173,7 @@ module _ {p p′ : Program} {edited : ℕ} (h : DropOf p p′ edited) where
               (λ o. z .0 (y .0 o), λ o. y .1 (z .1 o));
         };
         old-summaries = record {
-          len = b .len;
+          len = b .flags .len;
           flagged = λ f x q hf hx hq.
               let y = exits-flagged marks b f x q hf hx hq in
               let z = fresh-marked e f 1 x q in

@@ -1,4 +1,5 @@
 // Whether a component is to be worked anew.
+use base::bits::has_bit;
 use base::flags::is_set;
 use program::DecodedProgram;
 use program::edges::called_by;
@@ -10,26 +11,41 @@ use reach::configuration::exit_at;
 use reach::configuration::summary_of;
 use reach::spans::NODE_SPAN;
 use tables::in_use;
+use words::WORD_BITS;
+ghost use mathlib.Core.Path.{_≡_};
 ghost use Prim.Native.Nat.{_<_, _≤_};
 ghost use mathlib.Core.Logic.{_⊎_};
 ghost use lib.ListN.{length};
 ghost use Rattle.program.specs.Sizes.{maxRoutines};
 ghost use Rattle.program.specs.WellFormed.{WellFormed};
 ghost use Rattle.program.specs.Decoded.{edgeOf, programOf};
+ghost use Rattle.base.specs.Flags.{isSet};
+ghost use Rattle.words.specs.Words.{flagsOf};
 ghost use Rattle.callgraph.specs.Components.{Member};
 ghost use Rattle.components.specs.TurnParts.{Differs, Says, DifferingEdge, SomeDiffering, CallsDiffering};
 
+// Whether the summary of a place was known: a bit of a word.
+fn is_known(known: &[u64], place: usize) -> bool
+    ensures { λ y. ⌜ y ≡ isSet (flagsOf (now (known .entry))) place ⌝ }
+{
+    let i = place / WORD_BITS;
+    if i < known.len() {
+        return has_bit((place % WORD_BITS) as u8, known[i]);
+    }
+    false
+}
+
 // Whether the summaries of routine g on the sheet are others than before: they follow one another, and so do their
 // exits.
-fn summaries_differ(before: &[u8], marks: &[u8], g: u8) -> bool
+fn summaries_differ(before: &[u64], marks: &[u8], g: u8) -> bool
     requires { ⌜ g < maxRoutines ⌝ }
-    ensures { λ y. ⌜ Says y (Differs (now (before .entry)) (now (marks .entry)) g) ⌝ }
+    ensures { λ y. ⌜ Says y (Differs (flagsOf (now (before .entry))) (now (marks .entry)) g) ⌝ }
 {
     let first = summary_of(g, 0, 0);
     let mut i: usize = 0;
     while i < NODE_SPAN {
         let place = first + i;
-        let was = is_set(before, place);
+        let was = is_known(before, place);
         let is = is_set(marks, exit_at(place));
         if (was & !is) | (!was & is) {
             return true;
@@ -40,9 +56,9 @@ fn summaries_differ(before: &[u8], marks: &[u8], g: u8) -> bool
 }
 
 // Whether the edge of a key is a member's and calls a routine outside whose summaries are others than before.
-fn edge_differs(members: &[u8], before: &[u8], marks: &[u8], key: u32) -> bool
+fn edge_differs(members: &[u8], before: &[u64], marks: &[u8], key: u32) -> bool
     ensures { λ y. ⌜ Says y
-        (DifferingEdge (now (members .entry)) (now (before .entry)) (now (marks .entry)) (edgeOf key)) ⌝ }
+        (DifferingEdge (now (members .entry)) (flagsOf (now (before .entry))) (now (marks .entry)) (edgeOf key)) ⌝ }
 {
     let e = edge(key);
     if !is_set(members, e.routine as usize) {
@@ -61,10 +77,10 @@ fn edge_differs(members: &[u8], before: &[u8], marks: &[u8], key: u32) -> bool
     summaries_differ(before, marks, g)
 }
 
-fn some_differ(keys: &[u32], count: usize, members: &[u8], before: &[u8], marks: &[u8]) -> bool
+fn some_differ(keys: &[u32], count: usize, members: &[u8], before: &[u64], marks: &[u8]) -> bool
     requires { ⌜ count ≤ length (now keys) ⌝ }
-    ensures { λ y. ⌜ Says y
-        (SomeDiffering (now (members .entry)) (now (before .entry)) (now (marks .entry)) (now (keys .entry)) count) ⌝ }
+    ensures { λ y. ⌜ Says y (SomeDiffering (now (members .entry)) (flagsOf (now (before .entry))) (now (marks .entry))
+        (now (keys .entry)) count) ⌝ }
 {
     let mut i: usize = 0;
     while i < count {
@@ -78,10 +94,10 @@ fn some_differ(keys: &[u32], count: usize, members: &[u8], before: &[u8], marks:
 
 // Whether a member calls a routine outside whose summaries are others than before. The edges are those of a well-formed
 // program: hence the `requires`.
-fn calls_differ(p: DecodedProgram, members: &[u8], before: &[u8], marks: &[u8]) -> bool
+fn calls_differ(p: DecodedProgram, members: &[u8], before: &[u64], marks: &[u8]) -> bool
     requires { ⌜ WellFormed (programOf p) ⌝ }
     ensures { λ y. ⌜ Says y
-        (CallsDiffering (programOf p) (now (members .entry)) (now (before .entry)) (now (marks .entry))) ⌝ }
+        (CallsDiffering (programOf p) (now (members .entry)) (flagsOf (now (before .entry))) (now (marks .entry))) ⌝ }
 {
     let edges = p.edges;
     let keys = edges.keys;
@@ -94,13 +110,13 @@ fn calls_differ(p: DecodedProgram, members: &[u8], before: &[u8], marks: &[u8]) 
 pub fn is_reanalyzed(
     p: DecodedProgram,
     members: &[u8],
-    before: &[u8],
+    before: &[u64],
     marks: &[u8],
     edited: u8,
 ) -> bool
     requires { ⌜ WellFormed (programOf p) ⌝ }
     ensures { λ y. ⌜ Says y (Member (now (members .entry)) edited
-        ⊎ CallsDiffering (programOf p) (now (members .entry)) (now (before .entry)) (now (marks .entry))) ⌝ }
+        ⊎ CallsDiffering (programOf p) (now (members .entry)) (flagsOf (now (before .entry))) (now (marks .entry))) ⌝ }
 {
     if is_set(members, edited as usize) {
         return true;

@@ -21,6 +21,7 @@ ghost use Rattle.program.specs.Program.{Program};
 ghost use Rattle.program.specs.Decoded.{programOf};
 ghost use Rattle.reach.specs.Configurations.{none-set};
 ghost use Rattle.reach.specs.Marks.{freshMarks};
+ghost use Rattle.words.specs.Words.{flagsOf};
 ghost use Rattle.callgraph.specs.Components.{Reanalyzed, Member};
 ghost use Rattle.callgraph.specs.Parts.{rankOf};
 ghost use Rattle.components.specs.TurnParts.{DropOf, turnOf, firstTurn, endTurn, Comes, Advances};
@@ -41,25 +42,25 @@ fn work_component(
     p: DecodedProgram,
     leads: &[u8],
     roots: &[u8],
-    before: &[u8],
+    before: &[u64],
     edited: u8,
     f: u8,
     progress: Progress,
     marks: &mut [u8],
-    pending: &mut [u8],
+    work: &mut [u8],
 ) -> Progress
-    requires { ⌜ (f < maxRoutines) × (length (now pending) ≡ marksSize) × (getD (progress .done .flags) f 0 ≡ 0) ⌝ }
-    requires { ⌜ Comes (programOf p) edited (now leads) (now roots) (now before)
+    requires { ⌜ (f < maxRoutines) × (length (now work) ≡ marksSize) × (getD (progress .done .flags) f 0 ≡ 0) ⌝ }
+    requires { ⌜ Comes (programOf p) edited (now leads) (now roots) (flagsOf (now before))
         (turnOf (rankOf (now leads)) f) (now marks) progress ⌝ }
-    ensures { λ r. ⌜ Advances (programOf p) edited (now (leads .entry)) (now (roots .entry)) (now (before .entry))
-        (turnOf (rankOf (now (leads .entry))) f) (now (marks .entry)) progress
+    ensures { λ r. ⌜ Advances (programOf p) edited (now (leads .entry)) (now (roots .entry))
+        (flagsOf (now (before .entry))) (turnOf (rankOf (now (leads .entry))) f) (now (marks .entry)) progress
         (turnOf (rankOf (now (leads .entry))) f + 1) (now (marks .exit)) r ⌝ }
 {
     let c = component(leads, f);
     let members = c.flags;
     let done = join(progress.done, c);
     if is_reanalyzed(p, &members, before, marks, edited) {
-        component_pass(p, &members, roots, marks, pending);
+        component_pass(p, &members, roots, marks, work);
         let reanalyzed = join(progress.reanalyzed, c);
         return Progress { done, reanalyzed };
     }
@@ -72,17 +73,17 @@ fn visit(
     p: DecodedProgram,
     leads: &[u8],
     roots: &[u8],
-    before: &[u8],
+    before: &[u64],
     edited: u8,
     i: usize,
     progress: Progress,
     marks: &mut [u8],
-    pending: &mut [u8],
+    work: &mut [u8],
 ) -> Progress
-    requires { ⌜ length (now pending) ≡ marksSize ⌝ }
-    requires { ⌜ Comes (programOf p) edited (now leads) (now roots) (now before) i (now marks) progress ⌝ }
-    ensures { λ r. ⌜ Advances (programOf p) edited (now (leads .entry)) (now (roots .entry)) (now (before .entry))
-        i (now (marks .entry)) progress (i + 1) (now (marks .exit)) r ⌝ }
+    requires { ⌜ length (now work) ≡ marksSize ⌝ }
+    requires { ⌜ Comes (programOf p) edited (now leads) (now roots) (flagsOf (now before)) i (now marks) progress ⌝ }
+    ensures { λ r. ⌜ Advances (programOf p) edited (now (leads .entry)) (now (roots .entry))
+        (flagsOf (now (before .entry))) i (now (marks .entry)) progress (i + 1) (now (marks .exit)) r ⌝ }
 {
     let f = i % MAX_ROUTINES;
     let done = progress.done;
@@ -102,7 +103,7 @@ fn visit(
         f as u8,
         progress,
         marks,
-        pending,
+        work,
     )
 }
 
@@ -110,21 +111,22 @@ fn visit_all(
     p: DecodedProgram,
     leads: &[u8],
     roots: &[u8],
-    before: &[u8],
+    before: &[u64],
     edited: u8,
     start: Progress,
     marks: &mut [u8],
-    pending: &mut [u8],
+    work: &mut [u8],
 ) -> Progress
-    requires { ⌜ length (now pending) ≡ marksSize ⌝ }
-    requires { ⌜ Comes (programOf p) edited (now leads) (now roots) (now before) firstTurn (now marks) start ⌝ }
-    ensures { λ r. ⌜ Advances (programOf p) edited (now (leads .entry)) (now (roots .entry)) (now (before .entry))
-        firstTurn (now (marks .entry)) start endTurn (now (marks .exit)) r ⌝ }
+    requires { ⌜ length (now work) ≡ marksSize ⌝ }
+    requires { ⌜ Comes (programOf p) edited (now leads) (now roots) (flagsOf (now before)) firstTurn
+        (now marks) start ⌝ }
+    ensures { λ r. ⌜ Advances (programOf p) edited (now (leads .entry)) (now (roots .entry))
+        (flagsOf (now (before .entry))) firstTurn (now (marks .entry)) start endTurn (now (marks .exit)) r ⌝ }
 {
     let mut progress = start;
     let mut i: usize = FIRST_TURN;
     while i < END_TURN {
-        progress = visit(p, leads, roots, before, edited, i, progress, marks, pending);
+        progress = visit(p, leads, roots, before, edited, i, progress, marks, work);
         i = i + 1;
     }
     progress
@@ -133,16 +135,11 @@ fn visit_all(
 // The fresh marks of the program before a drop become those of the program after it, and the routines that were
 // reanalyzed are told. The caller has the marks of the program before, and has measured the buffers (refusal 9): hence
 // the `requires`.
-pub fn drop_inside_out(
-    p: DecodedProgram,
-    edited: u8,
-    marks: &mut [u8],
-    pending: &mut [u8],
-) -> Routines
-    requires { ⌜ length (now pending) ≡ marksSize ⌝ }
+pub fn drop_inside_out(p: DecodedProgram, edited: u8, marks: &mut [u8], work: &mut [u8]) -> Routines
+    requires { ⌜ length (now work) ≡ marksSize ⌝ }
     requires { ⌜ ((old : Program) × DropOf old (programOf p) edited × (now marks ≡ freshMarks old)) ⌝ }
     ensures { λ r. ⌜ ((old : Program) → DropOf old (programOf p) edited → now (marks .entry) ≡ freshMarks old
-        → (now (marks .exit) ≡ freshMarks (programOf p)) × (now (pending .exit) ≡ none-set)
+        → (now (marks .exit) ≡ freshMarks (programOf p)) × (now (work .exit) ≡ none-set)
         × ((f : ℕ) → f < maxRoutines → Member (r .flags) f ↔ Reanalyzed old (programOf p) edited f)) ⌝ }
 {
     let graph = call_graph(p);
@@ -150,7 +147,7 @@ pub fn drop_inside_out(
     let entries = old_roots(marks);
     let roots = entries.flags;
     let exits = summaries_of(marks);
-    let before = exits.flags;
+    let before = exits.words;
     let none = Routines {
         flags: [0u8; MAX_ROUTINES],
     };
@@ -158,8 +155,8 @@ pub fn drop_inside_out(
         done: none,
         reanalyzed: none,
     };
-    let end = visit_all(p, &leads, &roots, &before, edited, start, marks, pending);
+    let end = visit_all(p, &leads, &roots, &before, edited, start, marks, work);
     cut_to_live(p, marks);
-    clear(pending);
+    clear(work);
     end.reanalyzed
 }

@@ -19,7 +19,7 @@ use worklist::part::follow_part;
 ghost use mathlib.Core.Path.{_≡_};
 ghost use Prim.Native.Nat.{_<_};
 ghost use lib.ListN.{length};
-ghost use Rattle.automaton.specs.Flags.{Answers};
+ghost use Rattle.automaton.specs.NextStates.{Answers};
 ghost use Rattle.program.specs.Sizes.{maxRoutines, marksSize};
 ghost use Rattle.program.specs.WellFormed.{WellFormed};
 ghost use Rattle.program.specs.Decoded.{programOf};
@@ -65,12 +65,13 @@ fn turn(
     p: DecodedProgram,
     members: &[u8],
     f: u8,
-    next: &[u8; NEXT_STATES_SIZE],
+    next: &[u16; NEXT_STATES_SIZE],
     marks: &mut [u8],
-    pending: &mut [u8],
+    work: &mut [u8],
 )
-    requires { ⌜ (f < maxRoutines) × (length (now pending) ≡ marksSize) ⌝ }
-    requires { ⌜ Ready (programOf p) (now marks) × Answers (programOf p .automaton) (now next) ⌝ }
+    requires { ⌜ (f < maxRoutines) × (length (now work) ≡ marksSize) ⌝ }
+    requires { ⌜ Ready (programOf p) (now marks)
+        × Answers (programOf p .automaton) (programOf p .routines) (now next) ⌝ }
     ensures { λ _. ⌜ Turn (programOf p) (now (members .entry)) f (now (marks .entry)) (now (marks .exit)) ⌝ }
 {
     if !is_set(members, f as usize) {
@@ -82,30 +83,24 @@ fn turn(
     let from = first_of(&keys, count, f as u32);
     let to = first_of(&keys, count, f as u32 + 1);
     let low = number_of(f, 0, 0, 0);
-    follow_part(
-        &keys[from..to],
-        next,
-        marks,
-        pending,
-        low,
-        low + ROUTINE_SPAN,
-    );
+    follow_part(&keys[from..to], next, marks, work, low, low + ROUTINE_SPAN);
 }
 
 fn round(
     p: DecodedProgram,
     members: &[u8],
-    next: &[u8; NEXT_STATES_SIZE],
+    next: &[u16; NEXT_STATES_SIZE],
     marks: &mut [u8],
-    pending: &mut [u8],
+    work: &mut [u8],
 )
-    requires { ⌜ length (now pending) ≡ marksSize ⌝ }
-    requires { ⌜ Ready (programOf p) (now marks) × Answers (programOf p .automaton) (now next) ⌝ }
+    requires { ⌜ length (now work) ≡ marksSize ⌝ }
+    requires { ⌜ Ready (programOf p) (now marks)
+        × Answers (programOf p .automaton) (programOf p .routines) (now next) ⌝ }
     ensures { λ _. ⌜ Round (programOf p) (now (members .entry)) maxRoutines (now (marks .entry)) (now (marks .exit)) ⌝ }
 {
     let mut f: u8 = 0;
     while f < MAX_ROUTINES as u8 {
-        turn(p, members, f, next, marks, pending);
+        turn(p, members, f, next, marks, work);
         f = f + 1;
     }
 }
@@ -114,17 +109,18 @@ fn round(
 fn rounds(
     p: DecodedProgram,
     members: &[u8],
-    next: &[u8; NEXT_STATES_SIZE],
+    next: &[u16; NEXT_STATES_SIZE],
     marks: &mut [u8],
-    pending: &mut [u8],
+    work: &mut [u8],
 )
-    requires { ⌜ length (now pending) ≡ marksSize ⌝ }
-    requires { ⌜ Ready (programOf p) (now marks) × Answers (programOf p .automaton) (now next) ⌝ }
+    requires { ⌜ length (now work) ≡ marksSize ⌝ }
+    requires { ⌜ Ready (programOf p) (now marks)
+        × Answers (programOf p .automaton) (programOf p .routines) (now next) ⌝ }
     ensures { λ _. ⌜ Shows (ByMembers (programOf p) (now (members .entry)) (now (marks .entry))) (now (marks .exit)) ⌝ }
 {
     loop {
         let before = count_set(marks);
-        round(p, members, next, marks, pending);
+        round(p, members, next, marks, work);
         let after = count_set(marks);
         if after == before {
             return;
@@ -133,24 +129,24 @@ fn rounds(
 }
 
 // The routines of a component are worked anew from their roots, by their own edges and the summaries of the routines
-// that they call outside. Each turn leaves nothing pending, but where there is none the buffer is as it came: so it is
+// that they call outside. Each turn clears the lent working buffer, but where there is none it is as it came: so it is
 // cleared. The caller has the roots and the marks of the others: hence the `requires`.
 pub fn component_pass(
     p: DecodedProgram,
     members: &[u8],
     roots: &[u8],
     marks: &mut [u8],
-    pending: &mut [u8],
+    work: &mut [u8],
 )
-    requires { ⌜ WellFormed (programOf p) × (length (now pending) ≡ marksSize) ⌝ }
+    requires { ⌜ WellFormed (programOf p) × (length (now work) ≡ marksSize) ⌝ }
     requires { ⌜ Passable (programOf p) (now members) (now roots) (now marks) ⌝ }
-    ensures { λ _. ⌜ (now (pending .exit) ≡ none-set)
+    ensures { λ _. ⌜ (now (work .exit) ≡ none-set)
         × Passed (programOf p) (now (members .entry)) (now (roots .entry)) (now (marks .entry)) (now (marks .exit)) ⌝ }
 {
     let automaton = p.automaton;
-    let table = next_states(automaton);
-    let next = table.flags;
+    let table = next_states(automaton, p.routines);
+    let next = table.sets;
     reset(members, roots, marks);
-    rounds(p, members, &next, marks, pending);
-    clear(pending);
+    rounds(p, members, &next, marks, work);
+    clear(work);
 }

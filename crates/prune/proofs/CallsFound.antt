@@ -1,4 +1,5 @@
--- What the searches over states mean: a caller that gives a root, and a caller with an exit from which it is returned to.
+-- What the searches over states mean: a move from a kept configuration, a caller that gives a root, and a caller with an
+-- exit from which it is returned to.
 use mathlib.Core.Path.{_≡_, refl}
 use mathlib.Core.Bool.{Bool, true, _&&_}
 use mathlib.Core.List.{List}
@@ -6,26 +7,39 @@ use Prim.Native.Nat.{ℕ, _+_, _*_, _<_}
 use native.Mathlib.Omega.{arith}
 use lib.Dec.{ltb}
 use borrow.Author.Tests.{ltb-true, lt-ltb}
+use Rattle.base.specs.Bits.{bit}
 use Rattle.base.specs.Flags.{isSet}
 use Rattle.base.proofs.Bools.{both, cond-true}
 use Rattle.automaton.specs.Sizes.{maxStates}
 use Rattle.automaton.specs.Automaton.{callOf, returnOf}
-use Rattle.automaton.specs.Flags.{nextPlace}
+use Rattle.automaton.specs.NextStates.{setAt}
 use Rattle.program.specs.Sizes.{maxRoutines}
 use Rattle.program.specs.Program.{Edge}
 use Rattle.reach.specs.Sizes.{rootSpan}
 use Rattle.reach.specs.Configurations.{number}
 use Rattle.reach.proofs.Numbers.{number-state, number-root}
-use Rattle.prune.specs.Parts.{anyFrom, rootKept, callerKept, exitKept, rootReturns, returnKept}
+use Rattle.prune.specs.Parts.{anyFrom, rootKept, callerKept, moveKept, exitKept, rootReturns, returnKept}
 use Rattle.prune.proofs.SearchesAsk.{found-from, any-from}
 
 module _ (next kept : List ℕ) where
+  -- ---- a move from state x of (f, n, r) to state t by label l
+
+  module _ (f n r x l t : ℕ) where
+    pub move-found : moveKept next kept (number f n r 0) x l t ≡ true
+        → (isSet kept (number f n r x) ≡ true) × (bit t (setAt next x l) ≡ true)
+    unfolding moveKept
+    move-found e = rw (number-state f n r x) at (both (isSet kept (number f n r 0 + x)) (bit t (setAt next x l)) e)
+
+    pub move-there : isSet kept (number f n r x) ≡ true → bit t (setAt next x l) ≡ true → moveKept next kept (number f n r 0) x l t ≡ true
+    unfolding moveKept
+    move-there on e = rw (number-state f n r x, on, e) refl
+
   -- ---- a caller that gives root r
 
   pub record CallerAt (e : Edge) (r : ℕ) : Type 0 where
     pub state : ℕ
     pub state-small : state < maxStates
-    pub gives : isSet next (nextPlace state (e .label) r) ≡ true
+    pub gives : bit r (setAt next state (e .label)) ≡ true
     pub root : ℕ
     pub root-small : root < maxStates
     pub caller : isSet kept (number (e .routine) (e .source) root state) ≡ true
@@ -35,13 +49,13 @@ module _ (next kept : List ℕ) where
     rooted x y = isSet kept (number (e .routine) (e .source) 0 x + rootSpan * y)
 
     abbrev calls : ℕ → Bool
-    calls x = isSet next (nextPlace x (e .label) r) && rootKept kept (number (e .routine) (e .source) 0 x)
+    calls x = bit r (setAt next x (e .label)) && rootKept kept (number (e .routine) (e .source) 0 x)
 
     pub caller-found : callerKept next kept e r ≡ true → CallerAt e r
     unfolding callerKept rootKept
     caller-found h =
         let x = found-from calls maxStates 0 h in
-        let b = both (isSet next (nextPlace (x .at) (e .label) r)) (anyFrom (rooted (x .at)) maxStates 0) (x .test) in
+        let b = both (bit r (setAt next (x .at) (e .label))) (anyFrom (rooted (x .at)) maxStates 0) (x .test) in
         let y = found-from (rooted (x .at)) maxStates 0 (b .1) in
         record {
           state = x .at;
@@ -69,18 +83,18 @@ module _ (next kept : List ℕ) where
     pub caller : isSet kept (number f n r state) ≡ true
     pub root : ℕ
     pub root-small : root < maxStates
-    pub gives : isSet next (nextPlace state (callOf g) root) ≡ true
+    pub gives : bit root (setAt next state (callOf g)) ≡ true
     pub exit-state : ℕ
     pub exit-small : exit-state < maxStates
     pub exit : isSet kept (number g 1 root exit-state) ≡ true
-    pub returns : isSet next (nextPlace exit-state (returnOf g) t) ≡ true
+    pub returns : bit t (setAt next exit-state (returnOf g)) ≡ true
 
   module _ (f n r g t : ℕ) where
     abbrev left : ℕ → ℕ → Bool
-    left s x = isSet kept (number g 1 s 0 + x) && isSet next (nextPlace x (returnOf g) t)
+    left s x = moveKept next kept (number g 1 s 0) x (returnOf g) t
 
     abbrev roots : ℕ → ℕ → Bool
-    roots y s = isSet next (nextPlace y (callOf g) s) && exitKept next kept (number g 1 s 0) (returnOf g) t
+    roots y s = bit s (setAt next y (callOf g)) && exitKept next kept (number g 1 s 0) (returnOf g) t
 
     abbrev called : ℕ → Bool
     called y = isSet kept (number f n r 0 + y) && rootReturns next kept y g t
@@ -92,9 +106,9 @@ module _ (next kept : List ℕ) where
         let y = found-from called maxStates 0 (c .1) in
         let b = both (isSet kept (number f n r 0 + y .at)) (anyFrom (roots (y .at)) maxStates 0) (y .test) in
         let s = found-from (roots (y .at)) maxStates 0 (b .1) in
-        let d = both (isSet next (nextPlace (y .at) (callOf g) (s .at))) (anyFrom (left (s .at)) maxStates 0) (s .test) in
+        let d = both (bit (s .at) (setAt next (y .at) (callOf g))) (anyFrom (left (s .at)) maxStates 0) (s .test) in
         let x = found-from (left (s .at)) maxStates 0 (d .1) in
-        let a = both (isSet kept (number g 1 (s .at) 0 + x .at)) (isSet next (nextPlace (x .at) (returnOf g) t)) (x .test) in
+        let a = move-found g 1 (s .at) (x .at) (returnOf g) t (x .test) in
         record {
           routine = ltb-true g maxRoutines (c .0);
           state = y .at;
@@ -105,7 +119,7 @@ module _ (next kept : List ℕ) where
           gives = d .0;
           exit-state = x .at;
           exit-small = omega (arith, x .below);
-          exit = rw (number-state g 1 (s .at) (x .at)) at (a .0);
+          exit = a .0;
           returns = a .1;
         }
 
@@ -115,8 +129,8 @@ module _ (next kept : List ℕ) where
         let y = c .state in
         let s = c .root in
         let x = c .exit-state in
-        let exit : isSet kept (number g 1 s 0 + x) ≡ true = rw (number-state g 1 s x) (c .exit) in
-        let by-exit = any-from (left s) maxStates 0 x (omega arith) (omega (arith, c .exit-small)) (rw (exit, c .returns) refl) in
+        let leaves = move-there g 1 s x (returnOf g) t (c .exit) (c .returns) in
+        let by-exit = any-from (left s) maxStates 0 x (omega arith) (omega (arith, c .exit-small)) leaves in
         let by-root = any-from (roots y) maxStates 0 s (omega arith) (omega (arith, c .root-small)) (rw (c .gives, by-exit) refl) in
         let caller : isSet kept (number f n r 0 + y) ≡ true = rw (number-state f n r y) (c .caller) in
         let by-caller = any-from called maxStates 0 y (omega arith) (omega (arith, c .state-small)) (rw (caller, by-root) refl) in

@@ -12,13 +12,10 @@ use lib.ListN.{length, getD, set, take, drop, replicate, length-set, length-repl
 use lib.Seq.{take-length, drop-length}
 use borrow.Author.Tests.{eqb-true, eq-eqb, not-false}
 use Rattle.automaton.specs.Automaton.{isInitial}
-use Rattle.automaton.specs.Flags.{Answers}
-use Rattle.automaton.specs.Sizes.{maxTransitions}
+use Rattle.automaton.specs.NextStates.{Answers}
 use Rattle.program.specs.Sizes.{maxEdges}
 use Rattle.tables.specs.Keys.{member}
-use Rattle.automaton.specs.Decoded.{transitionKeysOf, transitionOf}
 use Rattle.base.specs.Flags.{isSet, On}
-use Rattle.automaton.specs.declared.transitions.Transitions.{Transitions}
 use Rattle.program.specs.declared.edges.Edges.{Edges}
 use Rattle.program.specs.Program.{Program}
 use Rattle.program.specs.WellFormed.{WellFormed}
@@ -38,28 +35,28 @@ use Rattle.prune.proofs.SupportFound.{Supported, by-edge, as-called, as
 
 -- ---- what is kept next
 
-module _ (keys transitions next marks kept : List ℕ) (i : ℕ) where
+module _ (keys next marks kept : List ℕ) (i : ℕ) where
   record Next : Type 0 where
     marked : isSet marks i ≡ true
     free : isSet kept i ≡ false
-    supported : supports keys transitions next kept (routineOf i) (nodeOf i) (rootOf i) (stateOf i) ≡ true
+    supported : supports keys next kept (routineOf i) (nodeOf i) (rootOf i) (stateOf i) ≡ true
 
-  next-kept : keepsAt keys transitions next marks kept i ≡ true → Next
+  next-kept : keepsAt keys next marks kept i ≡ true → Next
   unfolding keepsAt
   next-kept e = go (isSet marks i) refl (isSet kept i) refl e
     where
       go : (a : Bool) → isSet marks i ≡ a → (b : Bool) → isSet kept i ≡ b
-          → cond a (cond b false (supports keys transitions next kept (routineOf i) (nodeOf i) (rootOf i) (stateOf i))) false ≡ true → Next
+          → cond a (cond b false (supports keys next kept (routineOf i) (nodeOf i) (rootOf i) (stateOf i))) false ≡ true → Next
       go true x true y e = never e refl
       go true x false y e = record { marked = x; free = y; supported = e }
       go false x b y e = never e refl
 
   keeps-when : isSet marks i ≡ true → isSet kept i ≡ false
-      → supports keys transitions next kept (routineOf i) (nodeOf i) (rootOf i) (stateOf i) ≡ true → keepsAt keys transitions next marks kept i ≡ true
+      → supports keys next kept (routineOf i) (nodeOf i) (rootOf i) (stateOf i) ≡ true → keepsAt keys next marks kept i ≡ true
   unfolding keepsAt
   keeps-when a b c = rw (a, b, c) refl
 
-  pub keeps-free : keepsAt keys transitions next marks kept i ≡ true → getD kept i 0 ≡ 0
+  pub keeps-free : keepsAt keys next marks kept i ≡ true → getD kept i 0 ≡ 0
   keeps-free e = eqb-true (getD kept i 0) 0 (not-false (eqb (getD kept i 0) 0) (next-kept e .free))
 
 -- ---- what is kept has support
@@ -96,19 +93,19 @@ module _ {p : Program} {marks kept : List ℕ} (s : Sound p marks kept) where
 marked-at : (marks : List ℕ) (i : ℕ) → i < 16384 → isSet marks i ≡ true → At (Marked marks) i
 marked-at marks i h e = (parts-in-range i h, rw (number-of i) (set-byte marks i e))
 
-module _ {p : Program} {keys transitions next : List ℕ} (t : Tables p keys transitions next) {marks : List ℕ} where
-  pub keeps-sound : {old new : List ℕ} → Sound p marks old → Keeps (keepsAt keys transitions next marks) old new → Sound p marks new
+module _ {p : Program} {keys next : List ℕ} (t : Tables p keys next) {marks : List ℕ} where
+  pub keeps-sound : {old new : List ℕ} → Sound p marks old → Keeps (keepsAt keys next marks) old new → Sound p marks new
   keeps-sound s same = s
   keeps-sound s (more {kept = kept} l i h e) =
       let s′ = keeps-sound s l in
-      let x = next-kept keys transitions next marks kept i e in
-      let y = supports-sound p keys transitions next t kept (parts-in-range i h) (x .supported) in
+      let x = next-kept keys next marks kept i e in
+      let y = supports-sound p keys next t kept (parts-in-range i h) (x .supported) in
       sound-more s′ i (supported-kept s′ (marked-at marks i h (x .marked)) y)
 
 -- ---- nothing is left to be kept
 
-module _ {p : Program} {keys transitions next : List ℕ} (t : Tables p keys transitions next) (marks new : List ℕ)
-    (settled : (j : ℕ) → j < 16384 → keepsAt keys transitions next marks new j ≡ false) where
+module _ {p : Program} {keys next : List ℕ} (t : Tables p keys next) (marks new : List ℕ)
+    (settled : (j : ℕ) → j < 16384 → keepsAt keys next marks new j ≡ false) where
   -- a marked configuration that has support in kept ones is kept
   closed : {f n r q : ℕ} → Marked marks f n r q → Supported p (Marked new) f n r q → On new (number f n r q)
   closed {f} {n} {r} {q} w s = go (isSet new (number f n r q)) refl
@@ -118,9 +115,9 @@ module _ {p : Program} {keys transitions next : List ℕ} (t : Tables p keys tra
       go false e =
           let i = number f n r q in
           let h = w .0 in
-          let x : supports keys transitions next new (routineOf i) (nodeOf i) (rootOf i) (stateOf i) ≡ true =
-          rw (routine-of h, node-of h, root-of h, state-of h) (supports-found p keys transitions next t new h s) in
-          never (keeps-when keys transitions next marks new i (byte-set marks i (w .1)) e x) (settled i (number-fits h))
+          let x : supports keys next new (routineOf i) (nodeOf i) (rootOf i) (stateOf i) ≡ true =
+          rw (routine-of h, node-of h, root-of h, state-of h) (supports-found p keys next t new h s) in
+          never (keeps-when keys next marks new i (byte-set marks i (w .1)) e x) (settled i (number-fits h))
 
   -- so is all that has support back to a start
   module _ (starts : (q : ℕ) → List·Memᴰ q (p .automaton .initial) → Marked marks 0 0 q q → On new (number 0 0 q q)) where
@@ -131,8 +128,8 @@ module _ {p : Program} {keys transitions next : List ℕ} (t : Tables p keys tra
     all-kept (by-return d e v d′ v′ w) = (w .0, closed w (as-returned e (all-kept d) v (all-kept d′) v′) .on)
 
 -- from the starts, when nothing is left, exactly what has support back to a start is kept
-pub settled-shows : {p : Program} {keys transitions next : List ℕ} → Tables p keys transitions next → (marks : List ℕ) {old new : List ℕ}
-    → Started p marks old 8 → Settled (keepsAt keys transitions next marks) old new → Shows (Kept p marks) new
+pub settled-shows : {p : Program} {keys next : List ℕ} → Tables p keys next → (marks : List ℕ) {old new : List ℕ}
+    → Started p marks old 8 → Settled (keepsAt keys next marks) old new → Shows (Kept p marks) new
 settled-shows {p} t marks {old} {new} a b =
     let s = keeps-sound t (a .sound) (b .keeps) in
     let starts : (q : ℕ) → List·Memᴰ q (p .automaton .initial) → Marked marks 0 0 q q → On new (number 0 0 q q) =
@@ -203,16 +200,13 @@ module _ (n : ℕ) (keys : List ℕ) {size u : ℕ} (room : length keys ≡ size
   pub used-counted : u ≡ length (take u keys)
   used-counted = rw (length-take u keys) (omega arith)
 
-pub its-tables : (p : Program) → WellFormed p → (edges : Edges) (transitions : Transitions) {next : List ℕ} → p .edges ≡ map edgeOf (edgeKeysOf edges)
-    → p .automaton .transitions ≡ map transitionOf (transitionKeysOf transitions) → Answers (p .automaton) next
-    → length (edges .keys) ≡ maxEdges → length (transitions .keys) ≡ maxTransitions
-    → {m k : ℕ} → m ≡ min (edges .count) maxEdges → k ≡ min (transitions .count) maxTransitions
-    → Tables p (take m (edges .keys)) (take k (transitions .keys)) next
-its-tables p w edges transitions e f s a b u v =
+pub its-tables : (p : Program) → WellFormed p → (edges : Edges) {next : List ℕ} → p .edges ≡ map edgeOf (edgeKeysOf edges)
+    → Answers (p .automaton) (p .routines) next → length (edges .keys) ≡ maxEdges → {m : ℕ} → m ≡ min (edges .count) maxEdges
+    → Tables p (take m (edges .keys)) next
+its-tables p w edges e s a u =
     record {
       well-formed = w;
       edges = e ∙ ap (map edgeOf) (sym (in-use-same (edges .count) (edges .keys) a u));
-      transitions = f ∙ ap (map transitionOf) (sym (in-use-same (transitions .count) (transitions .keys) b v));
       answers = s;
     }
 

@@ -16,7 +16,7 @@ use Rattle.tables.specs.Keys.{Ascending}
 use Rattle.program.specs.Decoded.{edgeOf}
 use Rattle.worklist.specs.Parts.{FirstOf}
 use Rattle.worklist.proofs.RoutinePart.{part-starts, before-part, after-part}
-use Rattle.prune.specs.Parts.{anyKey, entrySupports, returnSupports, callSupports, transitionsToTry, actionSupports, edgeSupports, supports, PartOf}
+use Rattle.prune.specs.Parts.{anyFrom, anyKey, entrySupports, returnSupports, callSupports, statesToTry, actionSupports, edgeSupports, supports, PartOf}
 
 -- ---- the part of a list outside which a test fails
 
@@ -56,13 +56,12 @@ its-part {keys} {f} {a} {b} x y up =
 
 -- ---- what an edge of another routine supports
 
-module _ (transitions next kept : List ℕ) (f n r q : ℕ) (no-entry : eqb n 0 && eqb r q ≡ false) where
-  other-supports : (key : ℕ) → edgeOf key .routine ≢ f → edgeSupports transitions next kept f n r q (edgeOf key) ≡ false
-  unfolding edgeSupports callSupports entrySupports returnSupports actionSupports transitionsToTry anyKey
+module _ (next kept : List ℕ) (f n r q : ℕ) (no-entry : eqb n 0 && eqb r q ≡ false) where
+  other-supports : (key : ℕ) → edgeOf key .routine ≢ f → edgeSupports next kept f n r q (edgeOf key) ≡ false
+  unfolding edgeSupports callSupports entrySupports returnSupports actionSupports statesToTry anyFrom
   other-supports key h = rw (no-entry, ne-eqb (edgeOf key .routine) f h) refl
 
   -- the search over the part and the one over the table find the same
-  pub part-supports : {keys part : List ℕ} → PartOf keys f part
-      → supports part transitions next kept f n r q ≡ supports keys transitions next kept f n r q
+  pub part-supports : {keys part : List ℕ} → PartOf keys f part → supports part next kept f n r q ≡ supports keys next kept f n r q
   unfolding supports
-  part-supports z = z .decides (λ key. edgeSupports transitions next kept f n r q (edgeOf key)) other-supports
+  part-supports z = z .decides (λ key. edgeSupports next kept f n r q (edgeOf key)) other-supports

@@ -1,39 +1,34 @@
--- What the search over edges and transitions means: it finds support just where there is some.
+-- What the search over edges and states means: it finds support just where there is some.
 use mathlib.Core.Path.{_≡_, refl, sym, ap, subst, _∙_}
-use mathlib.Core.Logic.{_≢_}
 use mathlib.Core.Bool.{Bool, true, false, cond, _&&_, or-true}
 use mathlib.Core.List.{List, map, List·Memᴰ}
-use Prim.Native.Nat.{ℕ, _+_, _/_, _%_, _<_}
+use Prim.Native.Nat.{ℕ, _≤_, _<_}
 use native.Mathlib.Omega.{arith}
-use lib.Dec.{eqb}
-use lib.ListN.{length, getD, take}
-use lib.Seq.{take-length}
+use lib.Dec.{eqb, ltb, leb}
+use lib.ListN.{getD}
 use borrow.Author.Tests.{eqb-true, ltb-true, ltb-false, leb-true, leb-false, eq-eqb, lt-ltb, le-ltb, lt-leb, le-leb}
+use Rattle.base.specs.Bits.{bit}
 use Rattle.base.specs.Flags.{isSet}
 use Rattle.base.proofs.Bools.{both, either, never, cond-true}
 use Rattle.base.proofs.SetFlags.{set-byte, byte-set}
 use Rattle.automaton.specs.Sizes.{maxStates, firstCall}
-use Rattle.automaton.specs.Automaton.{Transition, callOf, returnOf, moves}
-use Rattle.automaton.specs.Decoded.{transitionOf}
-use Rattle.automaton.specs.Flags.{nextPlace}
+use Rattle.automaton.specs.Automaton.{Automaton, callOf, returnOf, labelOf, labelFits, moves}
+use Rattle.automaton.specs.NextStates.{setAt, EventOf, Ranged}
 use Rattle.automaton.specs.declared.Event.{Event}
 use Rattle.automaton.specs.declared.Event.the-variants.{Action, Call, Return}
-use Rattle.program.specs.Sizes.{maxRoutines}
-use Rattle.automaton.proofs.EventsHeard.{listed-in, in-listed}
-use Rattle.program.proofs.ProgramLimits.{transition-small, well-formed-limits}
-use Rattle.program.specs.Program.{Edge, Program, isAction, isCall, calledBy, transitionFits}
-use Rattle.program.specs.WellFormed.{WellFormed}
+use Rattle.automaton.proofs.MovesAsked.{asked}
+use Rattle.program.specs.Program.{Edge, Program, isAction, isCall, calledBy, placed, edgeFits}
 use Rattle.program.specs.Decoded.{edgeOf}
 use Rattle.program.proofs.SectionsAscend.{all-in}
+use Rattle.program.proofs.ProgramRanged.{ranged}
 use Rattle.reach.specs.Configurations.{Set, InRange, number}
 use Rattle.reach.specs.Runs.{Step, eventOf, stepOf, HasStep, Moves}
 use Rattle.reach.specs.Marks.{Marked}
-use Rattle.reach.proofs.Numbers.{number-state}
 use Rattle.reach.proofs.ProgramInSizes.{Sizes, sizes, map-in, label-call}
-use Rattle.prune.specs.Parts.{anyKey, callerKept, returnKept, entrySupports, returnSupports, callSupports}
-use Rattle.prune.specs.Parts.{transitionSupports, transitionsToTry, actionSupports, edgeSupports, supports, Tables}
-use Rattle.prune.proofs.SearchesAsk.{found-key, any-key, in-map}
-use Rattle.prune.proofs.CallsFound.{CallerAt, caller-found, caller-there, ReturnAt, return-found, return-there}
+use Rattle.prune.specs.Parts.{anyFrom, moveKept, callerKept, returnKept, entrySupports, returnSupports, callSupports}
+use Rattle.prune.specs.Parts.{statesToTry, actionSupports, edgeSupports, supports, Tables}
+use Rattle.prune.proofs.SearchesAsk.{found-from, any-from, found-key, any-key, in-map}
+use Rattle.prune.proofs.CallsFound.{move-found, move-there, CallerAt, caller-found, caller-there, ReturnAt, return-found, return-there}
 
 -- a configuration has support in K by an action, by being called, or after a call
 pub data Supported (p : Program) (K : Set) : ℕ → ℕ → ℕ → ℕ → Type 0 where
@@ -47,26 +42,13 @@ at-entry a b s = rw (a, ← b) s
 
 -- ---- tests
 
--- the transitions are tried for an action that leads there
-tried-transitions : (t : ℕ → Bool) (transitions : List ℕ) (b c : Bool) → anyKey t (take (cond b (cond c 0 (length transitions)) 0) transitions) ≡ true
-    → (b ≡ true) × (c ≡ false) × (anyKey t transitions ≡ true)
-unfolding anyKey
-tried-transitions t transitions true true e = never e refl
-tried-transitions t transitions true false e = (refl, refl, rw (take-length transitions) at e)
-tried-transitions t transitions false c e = never e refl
-
-module _ (kept : List ℕ) (base a q key : ℕ) where
-  transition-found : transitionSupports kept base a q key ≡ true
-      → (key / 0x100 % 256 ≡ a) × (key % 256 ≡ q) × (isSet kept (base + key / 0x10000) ≡ true)
-  unfolding transitionSupports
-  transition-found e =
-      let c = cond-true (eqb (key / 0x100 % 256) a && eqb (key % 256) q) (isSet kept (base + key / 0x10000)) e in
-      let d = both (eqb (key / 0x100 % 256) a) (eqb (key % 256) q) (c .0) in
-      (eqb-true (key / 0x100 % 256) a (d .0), eqb-true (key % 256) q (d .1), c .1)
-
-  transition-supports : key / 0x100 % 256 ≡ a → key % 256 ≡ q → getD kept (base + key / 0x10000) 0 ≢ 0 → transitionSupports kept base a q key ≡ true
-  unfolding transitionSupports
-  transition-supports d e h = rw (eq-eqb (key / 0x100 % 256) a d, eq-eqb (key % 256) q e) (byte-set kept (base + key / 0x10000) h)
+-- the states are tried for an action that leads there
+tried-states : (t : ℕ → Bool) (b c : Bool) → anyFrom t (cond b (cond c 0 maxStates) 0) 0 ≡ true
+    → (b ≡ true) × (c ≡ false) × (anyFrom t maxStates 0 ≡ true)
+unfolding anyFrom
+tried-states t true true e = never e refl
+tried-states t true false e = (refl, refl, e)
+tried-states t false c e = never e refl
 
 -- ---- labels
 
@@ -86,13 +68,24 @@ label-action a b e = go (isAction a) refl e
 label-called : (a g : ℕ) → eventOf a ≡ Call g → (isCall a ≡ true) × (calledBy a ≡ g)
 label-called a g e = let c = label-call a g (isAction a) e in (le-leb firstCall a (ltb-false a firstCall (c .0)), c .1)
 
--- ---- transitions
+edge-label : (p : Program) (e : Edge) → edgeFits p e ≡ true → labelFits (p .routines) (p .automaton .actions) (e .label) ≡ true
+edge-label p e h =
+    let nodes = getD (p .nodes) (e .routine) 0 in
+    both (ltb (e .routine) (p .routines) && placed nodes (e .source) (e .target)) (labelFits (p .routines) (p .automaton .actions) (e .label)) h .1
 
--- a transition of a well-formed program begins in one of its states
-before-small : (p : Program) → WellFormed p → (t : Transition) → List·Memᴰ t (p .automaton .transitions) → t .before < maxStates
-before-small p w t m =
-    let limit = well-formed-limits p w in
-    transition-small p t limit (all-in (transitionFits p) (p .automaton .transitions) (w .transitions-fit) m) .0
+-- the label of an edge, where it fits, is that of an event of the program
+label-event : (r : Automaton) (routines : ℕ) → r .actions ≤ firstCall → (a : ℕ) → labelFits routines (r .actions) a ≡ true
+    → EventOf r routines (eventOf a)
+label-event r routines few a fits = go (isAction a) refl
+  where
+    go : (t : Bool) → isAction a ≡ t → EventOf r routines (cond t (Action a) (Call (calledBy a)))
+    go true e =
+        either (ltb a (r .actions)) (leb firstCall a && ltb a (callOf routines)) fits (ltb-true a (r .actions))
+        (λ h. absurd (omega (arith, ltb-true a firstCall e, leb-true firstCall a (both (leb firstCall a) (ltb a (callOf routines)) h .0))))
+    go false e =
+        either (ltb a (r .actions)) (leb firstCall a && ltb a (callOf routines)) fits
+        (λ h. absurd (omega (arith, few, ltb-true a (r .actions) h, ltb-false a firstCall e)))
+        (λ h. omega (arith, ltb-false a firstCall e, ltb-true a (callOf routines) (both (leb firstCall a) (ltb a (callOf routines)) h .1)))
 
 -- ---- the keys of edges
 
@@ -105,7 +98,7 @@ record Keyed (keys : List ℕ) (f n : ℕ) (l : Event) (t : ℕ) : Type 0 where
   label : eventOf (edgeOf key .label) ≡ l
   target : edgeOf key .target ≡ t
 
-module _ (p : Program) (keys transitions next : List ℕ) (t : Tables p keys transitions next) where
+module _ (p : Program) (keys next : List ℕ) (t : Tables p keys next) where
   z : Sizes p
   z = sizes p (t .well-formed)
 
@@ -129,13 +122,23 @@ module _ (p : Program) (keys transitions next : List ℕ) (t : Tables p keys tra
         target = sym (ap (λ (s : Step). s .target) e);
       }
 
-  -- the answers to a call and a return of a routine
-  module _ (q g s : ℕ) (from : q < maxStates) (known : g < maxRoutines) (to : s < maxStates) where
-    call-answer : isSet next (nextPlace q (callOf g) s) ≡ moves (p .automaton) q (Call g) s
-    call-answer = t .answers .answers q (Call g) s from (omega arith) to
+  -- ---- one look at the automaton, by the event of a step
 
-    return-answer : isSet next (nextPlace q (returnOf g) s) ≡ moves (p .automaton) q (Return g) s
-    return-answer = t .answers .answers q (Return g) s from (omega arith) to
+  in-range : Ranged (p .automaton) (p .routines)
+  in-range = ranged p (t .well-formed)
+
+  event : {f n m : ℕ} {l : Event} → HasStep p f n l m → EventOf (p .automaton) (p .routines) l
+  event h =
+      let x = map-in stepOf (p .edges) h in
+      let fits = edge-label p (x .from) (all-in (edgeFits p) (p .edges) (t .well-formed .edges-fit) (x .member)) in
+      subst (λ (s : Step). EventOf (p .automaton) (p .routines) (s .label)) (sym (x .is))
+      (label-event (p .automaton) (p .routines) (in-range .actions) (x .from .label) fits)
+
+  move-asked : {f n m : ℕ} {l : Event} → HasStep p f n l m → (q s : ℕ) → bit s (setAt next q (labelOf l)) ≡ moves (p .automaton) q l s
+  move-asked {l = l} h q s = asked (p .automaton) (p .routines) in-range (t .answers) q l s (event h)
+
+  return-asked : {f n m g : ℕ} → HasStep p f n (Call g) m → (q s : ℕ) → bit s (setAt next q (returnOf g)) ≡ moves (p .automaton) q (Return g) s
+  return-asked {g = g} h q s = asked (p .automaton) (p .routines) in-range (t .answers) q (Return g) s (event h)
 
   -- ---- what the search finds is support
 
@@ -153,8 +156,8 @@ module _ (p : Program) (keys transitions next : List ℕ) (t : Tables p keys tra
         let is-call : label ≡ callOf f = eqb-true label (callOf f) (d .1) in
         let called : eventOf label ≡ Call f = call-label label (le-leb firstCall label (omega arith)) ∙ ap Call (omega arith) in
         let s : HasStep p from source (Call f) (edgeOf key .target) = rw called at (has-step key h) in
-        let gives = subst (λ (l : ℕ). isSet next (nextPlace (x .state) l r) ≡ true) is-call (x .gives) in
-        let v : Moves p (x .state) (Call f) r = sym (call-answer (x .state) f r (x .state-small) (g .routine) (g .root)) ∙ gives in
+        let gives = subst (λ (l : ℕ). bit r (setAt next (x .state) l) ≡ true) is-call (x .gives) in
+        let v : Moves p (x .state) (Call f) r = sym (move-asked s (x .state) r) ∙ gives in
         let caller : Marked kept from source (x .root) (x .state) =
         (record { routine = z .routine s; node = z .source s; root = x .root-small; state = x .state-small }, set-byte kept _ (x .caller)) in
         at-entry (eqb-true n 0 (u .0)) (eqb-true r q (u .1)) (as-called s v caller)
@@ -173,48 +176,38 @@ module _ (p : Program) (keys transitions next : List ℕ) (t : Tables p keys tra
         let x = return-found next kept f source r called q (w .1) in
         let s : HasStep p f source (Call called) n =
         rw (← (call-label label (w .0)), ← (eqb-true from f (d .0)), ← (eqb-true (edgeOf key .target) n (d .1))) (has-step key h) in
-        let v : Moves p (x .state) (Call called) (x .root) =
-        sym (call-answer (x .state) called (x .root) (x .state-small) (x .routine) (x .root-small)) ∙ x .gives in
-        let v′ : Moves p (x .exit-state) (Return called) q =
-        sym (return-answer (x .exit-state) called q (x .exit-small) (x .routine) (g .state)) ∙ x .returns in
+        let v : Moves p (x .state) (Call called) (x .root) = sym (move-asked s (x .state) (x .root)) ∙ x .gives in
+        let v′ : Moves p (x .exit-state) (Return called) q = sym (return-asked s (x .exit-state) q) ∙ x .returns in
         let caller : Marked kept f source r (x .state) =
         (record { routine = g .routine; node = z .source s; root = g .root; state = x .state-small }, set-byte kept _ (x .caller)) in
         let exit : Marked kept called 1 (x .root) (x .exit-state) =
         (record { routine = x .routine; node = omega arith; root = x .root-small; state = x .exit-small }, set-byte kept _ (x .exit)) in
         as-returned s caller v exit v′
 
-    action-found : (key : ℕ) → List·Memᴰ key keys → actionSupports transitions kept f n r q (edgeOf key) ≡ true → Supported p (Marked kept) f n r q
-    unfolding actionSupports transitionsToTry moves
+    action-found : (key : ℕ) → List·Memᴰ key keys → actionSupports next kept f n r q (edgeOf key) ≡ true → Supported p (Marked kept) f n r q
+    unfolding actionSupports statesToTry
     action-found key h e =
         let label = edgeOf key .label in
         let from = edgeOf key .routine in
         let source = edgeOf key .source in
-        let test : ℕ → Bool = transitionSupports kept (number f source r 0) label q in
-        let c = tried-transitions test transitions (eqb from f && eqb (edgeOf key .target) n) (isCall label) e in
+        let test : ℕ → Bool = λ x. moveKept next kept (number f source r 0) x label q in
+        let c = tried-states test (eqb from f && eqb (edgeOf key .target) n) (isCall label) e in
         let d = both (eqb from f) (eqb (edgeOf key .target) n) (c .0) in
-        let x = found-key test transitions (c .2) in
-        let transition = x .key in
-        let before = transition / 0x10000 in
-        let w = transition-found kept (number f source r 0) label q transition (x .test) in
-        let listed-there = p .automaton .transitions in
-        let there : List·Memᴰ (transitionOf transition) listed-there =
-        subst (λ (ts : List Transition). List·Memᴰ (transitionOf transition) ts) (sym (t .transitions))
-        (in-map transitionOf transitions (x .member)) in
-        let small : before < maxStates = before-small p (t .well-formed) (transitionOf transition) there in
-        let v : Moves p before (Action label) q = rw (w .0, w .1) at (in-listed (transitionOf transition) listed-there there) in
+        let x = found-from test maxStates 0 (c .2) in
+        let w = move-found next kept f source r (x .at) label q (x .test) in
         let s : HasStep p f source (Action label) n =
         rw (← (action-label label (c .1)), ← (eqb-true from f (d .0)), ← (eqb-true (edgeOf key .target) n (d .1))) (has-step key h) in
-        let on = set-byte kept (number f source r 0 + before) (w .2) in
-        let from-there : Marked kept f source r before =
-        (record { routine = g .routine; node = z .source s; root = g .root; state = small }, rw (number-state f source r before) at on) in
+        let v : Moves p (x .at) (Action label) q = sym (move-asked s (x .at) q) ∙ w .1 in
+        let from-there : Marked kept f source r (x .at) =
+        (record { routine = g .routine; node = z .source s; root = g .root; state = omega (arith, x .below) }, set-byte kept _ (w .0)) in
         by-edge s v from-there
 
-    pub supports-sound : supports keys transitions next kept f n r q ≡ true → Supported p (Marked kept) f n r q
+    pub supports-sound : supports keys next kept f n r q ≡ true → Supported p (Marked kept) f n r q
     unfolding supports edgeSupports callSupports
     supports-sound e =
-        let x = found-key (λ key. edgeSupports transitions next kept f n r q (edgeOf key)) keys e in
+        let x = found-key (λ key. edgeSupports next kept f n r q (edgeOf key)) keys e in
         let edge = edgeOf (x .key) in
-        either (callSupports next kept edge f n r q) (actionSupports transitions kept f n r q edge) (x .test)
+        either (callSupports next kept edge f n r q) (actionSupports next kept f n r q edge) (x .test)
         (λ c. either (entrySupports next kept edge f n r q) (returnSupports next kept edge f n r q) c
         (entry-found (x .key) (x .member)) (return-supported (x .key) (x .member)))
         (action-found (x .key) (x .member))
@@ -222,52 +215,44 @@ module _ (p : Program) (keys transitions next : List ℕ) (t : Tables p keys tra
   -- ---- the search finds the support there is
 
   module _ (kept : List ℕ) where
-    by-key : (f n r q key : ℕ) → List·Memᴰ key keys → edgeSupports transitions next kept f n r q (edgeOf key) ≡ true
-        → supports keys transitions next kept f n r q ≡ true
+    by-key : (f n r q key : ℕ) → List·Memᴰ key keys → edgeSupports next kept f n r q (edgeOf key) ≡ true
+        → supports keys next kept f n r q ≡ true
     unfolding supports
-    by-key f n r q key h e = any-key (λ key. edgeSupports transitions next kept f n r q (edgeOf key)) keys h e
+    by-key f n r q key h e = any-key (λ key. edgeSupports next kept f n r q (edgeOf key)) keys h e
 
     entry-there : (f n r q key : ℕ) → n ≡ 0 → r ≡ q → edgeOf key .label ≡ callOf f → CallerAt next kept (edgeOf key) r
-        → edgeSupports transitions next kept f n r q (edgeOf key) ≡ true
+        → edgeSupports next kept f n r q (edgeOf key) ≡ true
     unfolding edgeSupports callSupports entrySupports
     entry-there f n r q key a b c h =
         rw (eq-eqb n 0 a, eq-eqb r q b, eq-eqb (edgeOf key .label) (callOf f) c, caller-there next kept (edgeOf key) r h) refl
 
     return-supports : (f n r q key : ℕ) → edgeOf key .routine ≡ f → edgeOf key .target ≡ n → isCall (edgeOf key .label) ≡ true
         → ReturnAt next kept f (edgeOf key .source) r (calledBy (edgeOf key .label)) q
-        → edgeSupports transitions next kept f n r q (edgeOf key) ≡ true
+        → edgeSupports next kept f n r q (edgeOf key) ≡ true
     unfolding edgeSupports callSupports returnSupports
     return-supports f n r q key a b c h =
         let e = return-there next kept f (edgeOf key .source) r (calledBy (edgeOf key .label)) q h in
         rw (eq-eqb (edgeOf key .routine) f a, eq-eqb (edgeOf key .target) n b, c, e, or-true (entrySupports next kept (edgeOf key) f n r q)) refl
 
-    action-there : (f n r q key transition : ℕ) → edgeOf key .routine ≡ f → edgeOf key .target ≡ n → isCall (edgeOf key .label) ≡ false
-        → List·Memᴰ transition transitions → transition / 0x100 % 256 ≡ edgeOf key .label → transition % 256 ≡ q
-        → getD kept (number f (edgeOf key .source) r (transition / 0x10000)) 0 ≢ 0 → edgeSupports transitions next kept f n r q (edgeOf key) ≡ true
-    unfolding edgeSupports actionSupports transitionsToTry
-    action-there f n r q key transition a b c h d w o =
-        let base = number f (edgeOf key .source) r 0 in
+    action-there : (f n r q key x : ℕ) → edgeOf key .routine ≡ f → edgeOf key .target ≡ n → isCall (edgeOf key .label) ≡ false → x < maxStates
+        → isSet kept (number f (edgeOf key .source) r x) ≡ true → bit q (setAt next x (edgeOf key .label)) ≡ true
+        → edgeSupports next kept f n r q (edgeOf key) ≡ true
+    unfolding edgeSupports actionSupports statesToTry
+    action-there f n r q key x a b c h on v =
+        let source = edgeOf key .source in
         let label = edgeOf key .label in
-        let u = transition-supports kept base label q transition d w (rw (number-state f (edgeOf key .source) r (transition / 0x10000)) o) in
-        let e = any-key (transitionSupports kept base label q) transitions h u in
+        let u = move-there next kept f source r x label q on v in
+        let e = any-from (λ x. moveKept next kept (number f source r 0) x label q) maxStates 0 x (omega arith) (omega arith) u in
         let calls = callSupports next kept (edgeOf key) f n r q in
-        rw (eq-eqb (edgeOf key .routine) f a, eq-eqb (edgeOf key .target) n b, c, take-length transitions, e, or-true calls) refl
+        rw (eq-eqb (edgeOf key .routine) f a, eq-eqb (edgeOf key .target) n b, c, e, or-true calls) refl
 
-    pub supports-found : {f n r q : ℕ} → InRange f n r q → Supported p (Marked kept) f n r q → supports keys transitions next kept f n r q ≡ true
-    unfolding moves
+    pub supports-found : {f n r q : ℕ} → InRange f n r q → Supported p (Marked kept) f n r q → supports keys next kept f n r q ≡ true
     supports-found {f} {n} {r} {q} i (by-edge {a = a} {y = y} e v o) =
         let x = keyed e in
         let c = label-action (edgeOf (x .key) .label) a (x .label) in
-        let there =
-        subst (λ (ts : List Transition). List·Memᴰ (record { before = y; label = a; after = q }) ts) (t .transitions)
-        (listed-in y a q (p .automaton .transitions) v) in
-        let l = map-in transitionOf transitions there in
-        let before : y ≡ l .from / 0x10000 = ap (λ (s : Transition). s .before) (l .is) in
-        let action : a ≡ l .from / 0x100 % 256 = ap (λ (s : Transition). s .label) (l .is) in
-        let after : q ≡ l .from % 256 = ap (λ (s : Transition). s .after) (l .is) in
         by-key f n r q (x .key) (x .member)
-        (action-there f n r q (x .key) (l .from) (x .routine) (x .target) (c .0) (l .member) (sym action ∙ sym (c .1)) (sym after)
-        (rw (x .source, ← before) (o .1)))
+        (action-there f n r q (x .key) y (x .routine) (x .target) (c .0) (o .0 .state) (rw (x .source) (byte-set kept _ (o .1)))
+        (rw (c .1) (move-asked e y q ∙ v)))
     supports-found {f} {n} {r} {q} i (as-called {x = x} {y = y} e v o) =
         let k = keyed e in
         let label = edgeOf (k .key) .label in
@@ -277,7 +262,7 @@ module _ (p : Program) (keys transitions next : List ℕ) (t : Tables p keys tra
         let caller : CallerAt next kept (edgeOf (k .key)) r = record {
           state = y;
           state-small = o .0 .state;
-          gives = rw is-call (call-answer y f r (o .0 .state) (i .routine) (i .root) ∙ v);
+          gives = rw is-call (move-asked e y r ∙ v);
           root = x;
           root-small = o .0 .root;
           caller = rw (k .routine, k .source) (byte-set kept _ (o .1));
@@ -294,10 +279,10 @@ module _ (p : Program) (keys transitions next : List ℕ) (t : Tables p keys tra
           caller = rw (k .source) (byte-set kept _ (o .1));
           root = s;
           root-small = o′ .0 .root;
-          gives = call-answer y g s (o .0 .state) (o′ .0 .routine) (o′ .0 .root) ∙ v;
+          gives = move-asked e y s ∙ v;
           exit-state = x;
           exit-small = o′ .0 .state;
           exit = byte-set kept _ (o′ .1);
-          returns = return-answer x g q (o′ .0 .state) (o′ .0 .routine) (i .state) ∙ v′;
+          returns = return-asked e x q ∙ v′;
         } in
         by-key f n r q (k .key) (k .member) (return-supports f n r q (k .key) (k .routine) (k .target) (c .0) (rw (c .1) here))

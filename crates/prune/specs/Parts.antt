@@ -5,14 +5,14 @@ use mathlib.Core.Logic.{_≢_}
 use mathlib.Core.Bool.{Bool, true, false, cond, _&&_, _||_}
 use mathlib.Core.List.{List, [], _∷_, map, List·Memᴰ}
 use lib.Dec.{eqb, ltb}
-use lib.ListN.{length, getD, set, take}
+use lib.ListN.{length, getD, set}
 use Rattle.program.specs.Sizes.{maxRoutines, marksSize}
 use Rattle.automaton.specs.Sizes.{maxStates}
-use Rattle.automaton.specs.Decoded.{transitionOf}
+use Rattle.base.specs.Bits.{bit}
 use Rattle.base.specs.Flags.{isSet, countSet, On}
 use Rattle.program.specs.Program.{Edge, Program, isCall, calledBy}
 use Rattle.automaton.specs.Automaton.{callOf, returnOf}
-use Rattle.automaton.specs.Flags.{nextPlace, Answers}
+use Rattle.automaton.specs.NextStates.{setAt, Answers}
 use Rattle.program.specs.WellFormed.{WellFormed}
 use Rattle.program.specs.Decoded.{edgeOf}
 use Rattle.reach.specs.Sizes.{rootSpan}
@@ -32,7 +32,7 @@ unfoldable pub anyKey : (ℕ → Bool) → List ℕ → Bool
 anyKey t [] = false
 anyKey t (k ∷ ks) = t k || anyKey t ks
 
--- ---- what supports a configuration (f, n, r, q), by the kept bytes and the answers of the automaton
+-- ---- what supports a configuration (f, n, r, q), by the kept bytes and the sets of next states
 
 -- some root of the configurations from this number on is kept
 unfoldable pub rootKept : List ℕ → ℕ → Bool
@@ -41,18 +41,20 @@ rootKept kept base = anyFrom (λ x. isSet kept (base + rootSpan * x)) maxStates 
 -- from some state the edge's call gives root r, and its source is kept in that state
 unfoldable pub callerKept : List ℕ → List ℕ → Edge → ℕ → Bool
 callerKept next kept e r =
-    anyFrom (λ x. isSet next (nextPlace x (e .label) r) && rootKept kept (number (e .routine) (e .source) 0 x))
-    maxStates 0
+    anyFrom (λ x. bit r (setAt next x (e .label)) && rootKept kept (number (e .routine) (e .source) 0 x)) maxStates 0
+
+-- the configuration from this number on is kept in state x, and label l may lead from x to t
+unfoldable pub moveKept : List ℕ → List ℕ → ℕ → ℕ → ℕ → ℕ → Bool
+moveKept next kept base x l t = isSet kept (base + x) && bit t (setAt next x l)
 
 -- for some state the exit from this number on is kept in it, and a return of label l leads from it to t
 unfoldable pub exitKept : List ℕ → List ℕ → ℕ → ℕ → ℕ → Bool
-exitKept next kept exit l t = anyFrom (λ x. isSet kept (exit + x) && isSet next (nextPlace x l t)) maxStates 0
+exitKept next kept exit l t = anyFrom (λ x. moveKept next kept exit x l t) maxStates 0
 
 -- from state y the call of g gives some root with which g returns to state t
 unfoldable pub rootReturns : List ℕ → List ℕ → ℕ → ℕ → ℕ → Bool
 rootReturns next kept y g t =
-    anyFrom (λ s. isSet next (nextPlace y (callOf g) s) && exitKept next kept (number g 1 s 0) (returnOf g) t)
-    maxStates 0
+    anyFrom (λ s. bit s (setAt next y (callOf g)) && exitKept next kept (number g 1 s 0) (returnOf g) t) maxStates 0
 
 -- for some state the caller from this number on is kept in it, and a call of g from it returns to state t
 unfoldable pub returnKept : List ℕ → List ℕ → ℕ → ℕ → ℕ → Bool
@@ -74,29 +76,21 @@ returnSupports next kept e f n r q =
 unfoldable pub callSupports : List ℕ → List ℕ → Edge → ℕ → ℕ → ℕ → ℕ → Bool
 callSupports next kept e f n r q = entrySupports next kept e f n r q || returnSupports next kept e f n r q
 
--- the transition has this action and this state after it, and the configuration before it is kept
-unfoldable pub transitionSupports : List ℕ → ℕ → ℕ → ℕ → ℕ → Bool
-transitionSupports kept base a q key =
-    cond (eqb (transitionOf key .label) a && eqb (transitionOf key .after) q)
-    (isSet kept (base + transitionOf key .before)) false
+-- how many states before are to be tried for an edge: all for an action that leads to node n of routine f, else none
+unfoldable pub statesToTry : Edge → ℕ → ℕ → ℕ
+statesToTry e f n = cond (eqb (e .routine) f && eqb (e .target) n) (cond (isCall (e .label)) 0 maxStates) 0
 
--- how many transitions are to be tried for an edge: all for an action that leads to node n of routine f, else none
-unfoldable pub transitionsToTry : Edge → ℕ → ℕ → ℕ → ℕ
-transitionsToTry e f n count = cond (eqb (e .routine) f && eqb (e .target) n) (cond (isCall (e .label)) 0 count) 0
-
+-- the edge leads to it by an action, from some state in which its source is kept
 unfoldable pub actionSupports : List ℕ → List ℕ → ℕ → ℕ → ℕ → ℕ → Edge → Bool
-actionSupports transitions kept f n r q e =
-    anyKey (transitionSupports kept (number f (e .source) r 0) (e .label) q)
-    (take (transitionsToTry e f n (length transitions)) transitions)
+actionSupports next kept f n r q e =
+    anyFrom (λ x. moveKept next kept (number f (e .source) r 0) x (e .label) q) (statesToTry e f n) 0
 
-unfoldable pub edgeSupports : List ℕ → List ℕ → List ℕ → ℕ → ℕ → ℕ → ℕ → Edge → Bool
-edgeSupports transitions next kept f n r q e =
-    callSupports next kept e f n r q || actionSupports transitions kept f n r q e
+unfoldable pub edgeSupports : List ℕ → List ℕ → ℕ → ℕ → ℕ → ℕ → Edge → Bool
+edgeSupports next kept f n r q e = callSupports next kept e f n r q || actionSupports next kept f n r q e
 
--- some edge, with some transition, supports it
-unfoldable pub supports : List ℕ → List ℕ → List ℕ → List ℕ → ℕ → ℕ → ℕ → ℕ → Bool
-supports keys transitions next kept f n r q =
-    anyKey (λ key. edgeSupports transitions next kept f n r q (edgeOf key)) keys
+-- some edge supports it
+unfoldable pub supports : List ℕ → List ℕ → List ℕ → ℕ → ℕ → ℕ → ℕ → Bool
+supports keys next kept f n r q = anyKey (λ key. edgeSupports next kept f n r q (edgeOf key)) keys
 
 -- this part of the keys has the edges of routine f: a test that fails for every edge of another routine is met by one
 -- of all just where it is met by one of these
@@ -105,10 +99,10 @@ pub record PartOf (keys : List ℕ) (f : ℕ) (part : List ℕ) : Type 0 where
       → anyKey t part ≡ anyKey t keys
 
 -- the configuration of number i is marked, not yet kept, and supported
-unfoldable pub keepsAt : List ℕ → List ℕ → List ℕ → List ℕ → List ℕ → ℕ → Bool
-keepsAt keys transitions next marks kept i =
-    cond (isSet marks i) (cond (isSet kept i) false (supports keys transitions next kept (routineOf i) (nodeOf i)
-    (rootOf i) (stateOf i))) false
+unfoldable pub keepsAt : List ℕ → List ℕ → List ℕ → List ℕ → ℕ → Bool
+keepsAt keys next marks kept i =
+    cond (isSet marks i) (cond (isSet kept i) false (supports keys next kept (routineOf i) (nodeOf i) (rootOf i)
+    (stateOf i))) false
 
 -- ---- keeping one after another
 
@@ -134,12 +128,11 @@ pub record Settled (test : List ℕ → ℕ → Bool) (old new : List ℕ) : Typ
 
 -- ---- what the kept bytes mean
 
--- the tables are those of this program, and the answers those of its automaton
-pub record Tables (p : Program) (keys transitionKeys next : List ℕ) : Type 0 where
+-- the edges are those of this program, and the sets of next states those of its automaton
+pub record Tables (p : Program) (keys next : List ℕ) : Type 0 where
   pub well-formed : WellFormed p
   pub edges : p .edges ≡ map edgeOf keys
-  pub transitions : p .automaton .transitions ≡ map transitionOf transitionKeys
-  pub answers : Answers (p .automaton) next
+  pub answers : Answers (p .automaton) (p .routines) next
 
 -- every byte is 0 or 1, and what is kept has support back to a start
 pub record Sound (p : Program) (marks kept : List ℕ) : Type 0 where

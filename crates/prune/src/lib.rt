@@ -1,11 +1,10 @@
-// The keeping: of the marks of a sheet those stay that have support back to a start through marked configurations.
+// The keeping: of the marks of a sheet those stay that have support back to a start through marked configurations. The
+// marks and what is kept of them have a byte for each configuration: hence each `requires` about their lengths.
 mod support;
 
 use automaton::flags::initial_flags;
 use automaton::next::next_states;
 use automaton::sizes::MAX_STATES;
-use automaton::sizes::MAX_TRANSITIONS;
-use automaton::transitions::Transitions;
 use base::flags::clear;
 use checks::checked_program;
 use program::DecodedProgram;
@@ -28,8 +27,8 @@ ghost use Prim.Native.Nat.{_+_, _*_, _<_};
 ghost use lib.ListN.{length, set};
 ghost use Rattle.automaton.specs.Sizes.{maxStates};
 ghost use Rattle.program.specs.Sizes.{maxRoutines, marksSize};
-ghost use Rattle.automaton.specs.Decoded.{transitionKeysOf, transitionOf};
-ghost use Rattle.automaton.specs.Flags.{Starts, Answers};
+ghost use Rattle.automaton.specs.Flags.{Starts};
+ghost use Rattle.automaton.specs.NextStates.{Answers};
 ghost use Rattle.base.specs.Flags.{isSet};
 ghost use Rattle.program.specs.Program.{Program};
 ghost use Rattle.program.specs.Frames.{edgeKey};
@@ -79,16 +78,14 @@ fn keep_starts(initial: &[u8; MAX_STATES], marks: &[u8], kept: &mut [u8])
 fn keep_at(
     keys: &[u32],
     part: &[u32],
-    transitions: &[u32],
-    next: &[u8],
+    next: &[u16],
     marks: &[u8],
     kept: &mut [u8],
     i: usize,
 ) -> bool
     requires { ⌜ (i < marksSize) × PartOf (now keys) (routineOf i) (now part) ⌝ }
     requires { ⌜ (length (now marks) ≡ marksSize) × (length (now kept) ≡ marksSize) ⌝ }
-    ensures { λ y. ⌜ (y ≡ keepsAt (now (keys .entry)) (now (transitions .entry)) (now (next .entry))
-        (now (marks .entry)) (now (kept .entry)) i)
+    ensures { λ y. ⌜ (y ≡ keepsAt (now (keys .entry)) (now (next .entry)) (now (marks .entry)) (now (kept .entry)) i)
         × (now (kept .exit) ≡ cond y (set (now (kept .entry)) i 1) (now (kept .entry))) ⌝ }
 {
     if marks[i] == 0 {
@@ -97,7 +94,7 @@ fn keep_at(
     if kept[i] != 0 {
         return false;
     }
-    if has_support(keys, part, transitions, next, kept, parts_of(i)) {
+    if has_support(keys, part, next, kept, parts_of(i)) {
         kept[i] = 1;
         return true;
     }
@@ -109,23 +106,21 @@ fn keep_at(
 fn keep_numbers(
     keys: &[u32],
     part: &[u32],
-    transitions: &[u32],
-    next: &[u8],
+    next: &[u16],
     marks: &[u8],
     kept: &mut [u8],
     f: u32,
 ) -> bool
     requires { ⌜ (f < maxRoutines) × PartOf (now keys) f (now part) ⌝ }
     requires { ⌜ (length (now marks) ≡ marksSize) × (length (now kept) ≡ marksSize) ⌝ }
-    ensures { λ y. ⌜ Passed (keepsAt (now (keys .entry)) (now (transitions .entry)) (now (next .entry))
-        (now (marks .entry))) (now (kept .entry)) (now (kept .exit)) y
-        (f * routineSpan) (f * routineSpan + routineSpan) ⌝ }
+    ensures { λ y. ⌜ Passed (keepsAt (now (keys .entry)) (now (next .entry)) (now (marks .entry))) (now (kept .entry))
+        (now (kept .exit)) y (f * routineSpan) (f * routineSpan + routineSpan) ⌝ }
 {
     let first = f as usize * ROUTINE_SPAN;
     let mut more = false;
     let mut i = first;
     while i < first + ROUTINE_SPAN {
-        let one = keep_at(keys, part, transitions, next, marks, kept, i);
+        let one = keep_at(keys, part, next, marks, kept, i);
         more = more | one;
         i = i + 1;
     }
@@ -134,37 +129,29 @@ fn keep_numbers(
 
 // The turn of routine f in a pass: its part of the table is found once for all its numbers. The table ascends, else its
 // edges might lie anywhere: hence the `requires`.
-fn keep_routine(
-    keys: &[u32],
-    transitions: &[u32],
-    next: &[u8],
-    marks: &[u8],
-    kept: &mut [u8],
-    f: u32,
-) -> bool
+fn keep_routine(keys: &[u32], next: &[u16], marks: &[u8], kept: &mut [u8], f: u32) -> bool
     requires { ⌜ (f < maxRoutines) × Ascending 0 (map edgeKey (map edgeOf (now keys))) ⌝ }
     requires { ⌜ (length (now marks) ≡ marksSize) × (length (now kept) ≡ marksSize) ⌝ }
-    ensures { λ y. ⌜ Passed (keepsAt (now (keys .entry)) (now (transitions .entry)) (now (next .entry))
-        (now (marks .entry))) (now (kept .entry)) (now (kept .exit)) y
-        (f * routineSpan) (f * routineSpan + routineSpan) ⌝ }
+    ensures { λ y. ⌜ Passed (keepsAt (now (keys .entry)) (now (next .entry)) (now (marks .entry))) (now (kept .entry))
+        (now (kept .exit)) y (f * routineSpan) (f * routineSpan + routineSpan) ⌝ }
 {
     let from = first_of(keys, keys.len(), f);
     let to = first_of(keys, keys.len(), f + 1);
-    keep_numbers(keys, &keys[from..to], transitions, next, marks, kept, f)
+    keep_numbers(keys, &keys[from..to], next, marks, kept, f)
 }
 
 // One pass over all numbers, routine by routine. Says whether it kept one more. The table ascends, so that each
 // routine's edges are one part of it: hence the `requires`.
-fn keep_pass(keys: &[u32], transitions: &[u32], next: &[u8], marks: &[u8], kept: &mut [u8]) -> bool
+fn keep_pass(keys: &[u32], next: &[u16], marks: &[u8], kept: &mut [u8]) -> bool
     requires { ⌜ Ascending 0 (map edgeKey (map edgeOf (now keys))) ⌝ }
     requires { ⌜ (length (now marks) ≡ marksSize) × (length (now kept) ≡ marksSize) ⌝ }
-    ensures { λ y. ⌜ Passed (keepsAt (now (keys .entry)) (now (transitions .entry)) (now (next .entry))
-        (now (marks .entry))) (now (kept .entry)) (now (kept .exit)) y 0 marksSize ⌝ }
+    ensures { λ y. ⌜ Passed (keepsAt (now (keys .entry)) (now (next .entry)) (now (marks .entry))) (now (kept .entry))
+        (now (kept .exit)) y 0 marksSize ⌝ }
 {
     let mut more = false;
     let mut f: u32 = 0;
     while f < MAX_ROUTINES as u32 {
-        let another = keep_routine(keys, transitions, next, marks, kept, f);
+        let another = keep_routine(keys, next, marks, kept, f);
         more = more | another;
         f = f + 1;
     }
@@ -172,44 +159,35 @@ fn keep_pass(keys: &[u32], transitions: &[u32], next: &[u8], marks: &[u8], kept:
 }
 
 // Passes until one keeps nothing more. The table ascends, as a pass asks: hence the `requires`.
-fn keep_all(keys: &[u32], transitions: &[u32], next: &[u8], marks: &[u8], kept: &mut [u8])
+fn keep_all(keys: &[u32], next: &[u16], marks: &[u8], kept: &mut [u8])
     requires { ⌜ Ascending 0 (map edgeKey (map edgeOf (now keys))) ⌝ }
     requires { ⌜ (length (now marks) ≡ marksSize) × (length (now kept) ≡ marksSize) ⌝ }
-    ensures { λ _. ⌜ Settled (keepsAt (now (keys .entry)) (now (transitions .entry)) (now (next .entry))
-        (now (marks .entry))) (now (kept .entry)) (now (kept .exit)) ⌝ }
+    ensures { λ _. ⌜ Settled (keepsAt (now (keys .entry)) (now (next .entry)) (now (marks .entry))) (now (kept .entry))
+        (now (kept .exit)) ⌝ }
 {
     let mut more = true;
     while more {
-        more = keep_pass(keys, transitions, next, marks, kept);
+        more = keep_pass(keys, next, marks, kept);
     }
 }
 
-// Passes over the tables of a program in which the starts are kept: what is kept in the end is all that has support.
-// From here on the tables are cut to what is in use. The table of edges ascends, as a well-formed program's does: hence
-// the `requires`.
-fn keep_supported(
-    edges: Edges,
-    transitions: Transitions,
-    next: &[u8],
-    marks: &[u8],
-    kept: &mut [u8],
-)
+// Passes over the edges of a program of which the starts are kept: what is kept in the end is all that has support.
+// From here on the table is cut to what is in use. It ascends, as a well-formed program's does: hence the `requires`.
+fn keep_supported(edges: Edges, next: &[u16], marks: &[u8], kept: &mut [u8])
     requires { ⌜ Ascending 0 (map edgeKey (map edgeOf (edgeKeysOf edges))) ⌝ }
     requires { ⌜ (length (now marks) ≡ marksSize) × (length (now kept) ≡ marksSize) ⌝ }
     ensures { λ _. ⌜ ((p : Program) → WellFormed p → p .edges ≡ map edgeOf (edgeKeysOf edges)
-        → p .automaton .transitions ≡ map transitionOf (transitionKeysOf transitions)
-        → Answers (p .automaton) (now (next .entry))
+        → Answers (p .automaton) (p .routines) (now (next .entry))
         → Started p (now (marks .entry)) (now (kept .entry)) maxStates
         → Shows (Kept p (now (marks .entry))) (now (kept .exit))) ⌝ }
 {
     let keys = edges.keys;
-    let transition_keys = transitions.keys;
     let m = in_use(edges.count, MAX_EDGES);
-    let k = in_use(transitions.count, MAX_TRANSITIONS);
-    keep_all(&keys[..m], &transition_keys[..k], next, marks, kept);
+    keep_all(&keys[..m], next, marks, kept);
 }
 
-// What stays of the marks. It is gathered in a buffer of its own, so that a mark is never its own support.
+// What stays of the marks. It is gathered in a buffer of its own, so that a mark is never its own support. The table of
+// next states asks for an automaton in range, as a well-formed program has: hence the `requires`.
 fn keep(p: DecodedProgram, marks: &[u8], kept: &mut [u8])
     requires { ⌜ WellFormed (programOf p) ⌝ }
     requires { ⌜ (length (now marks) ≡ marksSize) × (length (now kept) ≡ marksSize) ⌝ }
@@ -217,14 +195,13 @@ fn keep(p: DecodedProgram, marks: &[u8], kept: &mut [u8])
 {
     let automaton = p.automaton;
     let edges = p.edges;
-    let transitions = automaton.transitions;
     let initial = initial_flags(automaton);
     let flags = initial.flags;
-    let answers = next_states(automaton);
-    let next = answers.flags;
+    let answers = next_states(automaton, p.routines);
+    let next = answers.sets;
     clear(kept);
     keep_starts(&flags, marks, kept);
-    keep_supported(edges, transitions, &next, marks, kept);
+    keep_supported(edges, &next, marks, kept);
 }
 
 // Of the marks those stay, as 1, that have support back to a start through marked configurations; all else becomes 0.

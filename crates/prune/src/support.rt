@@ -1,10 +1,10 @@
-// Whether a configuration (f, n, r, q) has support through kept ones: the search over edges and transitions. `next` has
-// the answers of the automaton: by them calls and returns move.
-use automaton::next::may_go;
+// Whether a configuration (f, n, r, q) has support through kept ones: the search over edges and states. `next` has the
+// sets of next states of the automaton: by them actions, calls and returns move.
+use automaton::next::next_after;
 use automaton::sizes::FIRST_CALL;
 use automaton::sizes::FIRST_RETURN;
 use automaton::sizes::MAX_STATES;
-use automaton::transitions::transition;
+use base::bits::has_bit;
 use base::flags::is_set;
 use program::edges::DecodedEdge;
 use program::edges::called_by;
@@ -15,15 +15,24 @@ use reach::configuration::Configuration;
 use reach::configuration::number_of;
 use reach::spans::ROOT_SPAN;
 ghost use mathlib.Core.Path.{_≡_};
-ghost use Prim.Native.Nat.{_<_, _≤_};
+ghost use Prim.Native.Nat.{_<_};
+ghost use Rattle.base.specs.Bits.{bit};
+ghost use Rattle.automaton.specs.NextStates.{setAt};
 ghost use Rattle.program.specs.Sizes.{maxRoutines};
 ghost use Rattle.program.specs.Decoded.{edgeView};
 ghost use Rattle.reach.specs.Configurations.{byteNumbers};
-ghost use Rattle.prune.specs.Parts.{rootKept, callerKept, exitKept, rootReturns, returnKept};
-ghost use Rattle.prune.specs.Parts.{entrySupports, returnSupports, callSupports};
-ghost use Rattle.prune.specs.Parts.{transitionSupports, transitionsToTry, supports, PartOf};
+ghost use Rattle.prune.specs.Parts.{rootKept, callerKept, moveKept, exitKept, rootReturns, returnKept};
+ghost use Rattle.prune.specs.Parts.{entrySupports, returnSupports, callSupports, statesToTry, supports, PartOf};
 
-// Whether some root of the configurations from a number on is kept.
+// Whether label l may lead from state x to state s.
+fn may_go(next: &[u16], x: u8, l: u8, s: u8) -> bool
+    ensures { λ y. ⌜ y ≡ bit s (setAt (now (next .entry)) x l) ⌝ }
+{
+    has_bit(s, next_after(next, x, l) as u64)
+}
+
+// Whether some root of the configurations from a number on is kept. The number is one of a configuration: hence the
+// `requires`.
 fn root_kept(kept: &[u8], base: usize) -> bool
     requires { ⌜ base < byteNumbers ⌝ }
     ensures { λ y. ⌜ y ≡ rootKept (now (kept .entry)) base ⌝ }
@@ -39,7 +48,7 @@ fn root_kept(kept: &[u8], base: usize) -> bool
 }
 
 // Whether from some state the edge's call gives root r, and its source is kept in that state.
-fn caller_kept(next: &[u8], kept: &[u8], e: DecodedEdge, r: u8) -> bool
+fn caller_kept(next: &[u16], kept: &[u8], e: DecodedEdge, r: u8) -> bool
     ensures { λ y. ⌜ y ≡ callerKept (now (next .entry)) (now (kept .entry)) (edgeView e) r ⌝ }
 {
     let mut x: u8 = 0;
@@ -52,15 +61,24 @@ fn caller_kept(next: &[u8], kept: &[u8], e: DecodedEdge, r: u8) -> bool
     false
 }
 
+// Whether the configuration from a number on is kept in state x, and label l may lead from x to t. The number is one of
+// a configuration: hence the `requires`.
+fn move_kept(next: &[u16], kept: &[u8], base: usize, x: u8, l: u8, t: u8) -> bool
+    requires { ⌜ base < byteNumbers ⌝ }
+    ensures { λ y. ⌜ y ≡ moveKept (now (next .entry)) (now (kept .entry)) base x l t ⌝ }
+{
+    is_set(kept, base + x as usize) && may_go(next, x, l, t)
+}
+
 // Whether for some state the exit from a number on is kept in it, and a return of label l leads from it to t. The
 // number is one of a configuration: hence the `requires`.
-fn exit_kept(next: &[u8], kept: &[u8], exit: usize, l: u8, t: u8) -> bool
+fn exit_kept(next: &[u16], kept: &[u8], exit: usize, l: u8, t: u8) -> bool
     requires { ⌜ exit < byteNumbers ⌝ }
     ensures { λ y. ⌜ y ≡ exitKept (now (next .entry)) (now (kept .entry)) exit l t ⌝ }
 {
     let mut x: u8 = 0;
     while x < MAX_STATES as u8 {
-        if is_set(kept, exit + x as usize) && may_go(next, x, l, t) {
+        if move_kept(next, kept, exit, x, l, t) {
             return true;
         }
         x = x + 1;
@@ -70,15 +88,14 @@ fn exit_kept(next: &[u8], kept: &[u8], exit: usize, l: u8, t: u8) -> bool
 
 // Whether from state y the call of g gives some root with which g returns to state t. A routine past the sizes has no
 // labels: hence the `requires`.
-fn root_returns(next: &[u8], kept: &[u8], y: u8, g: u8, t: u8) -> bool
+fn root_returns(next: &[u16], kept: &[u8], y: u8, g: u8, t: u8) -> bool
     requires { ⌜ g < maxRoutines ⌝ }
     ensures { λ z. ⌜ z ≡ rootReturns (now (next .entry)) (now (kept .entry)) y g t ⌝ }
 {
+    let roots = next_after(next, y, FIRST_CALL + g) as u64;
     let mut s: u8 = 0;
     while s < MAX_STATES as u8 {
-        if may_go(next, y, FIRST_CALL + g, s)
-            && exit_kept(next, kept, number_of(g, 1, s, 0), FIRST_RETURN + g, t)
-        {
+        if has_bit(s, roots) && exit_kept(next, kept, number_of(g, 1, s, 0), FIRST_RETURN + g, t) {
             return true;
         }
         s = s + 1;
@@ -88,7 +105,7 @@ fn root_returns(next: &[u8], kept: &[u8], y: u8, g: u8, t: u8) -> bool
 
 // Whether for some state the caller from a number on is kept in it, and a call of g from it returns to state t. A
 // routine past the sizes never returns: it has no labels. The number is one of a configuration: hence the `requires`.
-fn return_kept(next: &[u8], kept: &[u8], caller: usize, g: u8, t: u8) -> bool
+fn return_kept(next: &[u16], kept: &[u8], caller: usize, g: u8, t: u8) -> bool
     requires { ⌜ caller < byteNumbers ⌝ }
     ensures { λ z. ⌜ z ≡ returnKept (now (next .entry)) (now (kept .entry)) caller g t ⌝ }
 {
@@ -105,8 +122,9 @@ fn return_kept(next: &[u8], kept: &[u8], caller: usize, g: u8, t: u8) -> bool
     false
 }
 
-// A called entry has support where a call that gives its root is made, whether it returns or not.
-fn entry_supports(next: &[u8], kept: &[u8], e: DecodedEdge, c: Configuration) -> bool
+// A called entry has support where a call that gives its root is made, whether it returns or not. A routine past the
+// sizes has no label: hence the `requires`.
+fn entry_supports(next: &[u16], kept: &[u8], e: DecodedEdge, c: Configuration) -> bool
     requires { ⌜ c .routine < maxRoutines ⌝ }
     ensures { λ y. ⌜ y ≡ entrySupports (now (next .entry)) (now (kept .entry)) (edgeView e) (c .routine) (c .node)
         (c .root) (c .state) ⌝ }
@@ -118,7 +136,7 @@ fn entry_supports(next: &[u8], kept: &[u8], e: DecodedEdge, c: Configuration) ->
 }
 
 // After a call there is support where the caller is kept, and an exit of the called routine from which it returns.
-fn return_supports(next: &[u8], kept: &[u8], e: DecodedEdge, c: Configuration) -> bool
+fn return_supports(next: &[u16], kept: &[u8], e: DecodedEdge, c: Configuration) -> bool
     ensures { λ y. ⌜ y ≡ returnSupports (now (next .entry)) (now (kept .entry)) (edgeView e) (c .routine) (c .node)
         (c .root) (c .state) ⌝ }
 {
@@ -132,7 +150,9 @@ fn return_supports(next: &[u8], kept: &[u8], e: DecodedEdge, c: Configuration) -
     false
 }
 
-fn call_supports(next: &[u8], kept: &[u8], e: DecodedEdge, c: Configuration) -> bool
+// By a call the edge gives support in two ways. The routine is in range, as that of an entry has to be: hence the
+// `requires`.
+fn call_supports(next: &[u16], kept: &[u8], e: DecodedEdge, c: Configuration) -> bool
     requires { ⌜ c .routine < maxRoutines ⌝ }
     ensures { λ y. ⌜ y ≡ callSupports (now (next .entry)) (now (kept .entry)) (edgeView e) (c .routine) (c .node)
         (c .root) (c .state) ⌝ }
@@ -143,36 +163,24 @@ fn call_supports(next: &[u8], kept: &[u8], e: DecodedEdge, c: Configuration) -> 
     return_supports(next, kept, e, c)
 }
 
-// A transition on the action to state q gives support where the configuration in the state before it is kept.
-fn transition_supports(kept: &[u8], base: usize, action: u8, q: u8, key: u32) -> bool
-    requires { ⌜ base < byteNumbers ⌝ }
-    ensures { λ y. ⌜ y ≡ transitionSupports (now (kept .entry)) base action q key ⌝ }
-{
-    let t = transition(key);
-    if (t.label == action as u32) & (t.after == q as u32) {
-        return is_set(kept, base + t.before as usize);
-    }
-    false
-}
-
-// How many transitions are to be tried: none for an edge that is no action or leads elsewhere.
-fn transitions_to_try(e: DecodedEdge, f: u8, n: u8, count: usize) -> usize
-    ensures { λ r. ⌜ (r ≡ transitionsToTry (edgeView e) f n count) × (r ≤ count) ⌝ }
+// How many states before are to be tried: none for an edge that is no action or leads elsewhere.
+fn states_to_try(e: DecodedEdge, f: u8, n: u8) -> u8
+    ensures { λ r. ⌜ r ≡ statesToTry (edgeView e) f n ⌝ }
 {
     if (e.routine == f) & (e.target == n) {
         if is_call(e.label) {
             return 0;
         }
-        return count;
+        return MAX_STATES as u8;
     }
     0
 }
 
 // The search ends at the first support found. The configuration is in range: hence the `requires`.
-fn supported(keys: &[u32], transitions: &[u32], next: &[u8], kept: &[u8], c: Configuration) -> bool
+fn supported(keys: &[u32], next: &[u16], kept: &[u8], c: Configuration) -> bool
     requires { ⌜ c .routine < maxRoutines ⌝ }
-    ensures { λ y. ⌜ y ≡ supports (now (keys .entry)) (now (transitions .entry)) (now (next .entry)) (now (kept .entry))
-        (c .routine) (c .node) (c .root) (c .state) ⌝ }
+    ensures { λ y. ⌜ y ≡ supports (now (keys .entry)) (now (next .entry)) (now (kept .entry)) (c .routine) (c .node)
+        (c .root) (c .state) ⌝ }
 {
     let mut found = false;
     let mut i: usize = 0;
@@ -182,15 +190,15 @@ fn supported(keys: &[u32], transitions: &[u32], next: &[u8], kept: &[u8], c: Con
             found = true;
             break 'scan;
         }
-        let end = transitions_to_try(e, c.routine, c.node, transitions.len());
+        let end = states_to_try(e, c.routine, c.node);
         let base = number_of(c.routine, e.source, c.root, 0);
-        let mut j: usize = 0;
-        while j < end {
-            if transition_supports(kept, base, e.label, c.state, transitions[j]) {
+        let mut x: u8 = 0;
+        while x < end {
+            if move_kept(next, kept, base, x, e.label, c.state) {
                 found = true;
                 break 'scan;
             }
-            j = j + 1;
+            x = x + 1;
         }
         i = i + 1;
     }
@@ -200,20 +208,13 @@ fn supported(keys: &[u32], transitions: &[u32], next: &[u8], kept: &[u8], c: Con
 // A called entry may have its support in any routine: the whole table is searched. Every other configuration has it by
 // the edges of its own routine alone, and `part` has these: a shorter search gives the same answer. The caller has cut
 // the part out of the table, and the configuration is in range: hence the `requires`.
-pub fn has_support(
-    keys: &[u32],
-    part: &[u32],
-    transitions: &[u32],
-    next: &[u8],
-    kept: &[u8],
-    c: Configuration,
-) -> bool
+pub fn has_support(keys: &[u32], part: &[u32], next: &[u16], kept: &[u8], c: Configuration) -> bool
     requires { ⌜ (c .routine < maxRoutines) × PartOf (now keys) (c .routine) (now part) ⌝ }
-    ensures { λ y. ⌜ y ≡ supports (now (keys .entry)) (now (transitions .entry)) (now (next .entry)) (now (kept .entry))
-        (c .routine) (c .node) (c .root) (c .state) ⌝ }
+    ensures { λ y. ⌜ y ≡ supports (now (keys .entry)) (now (next .entry)) (now (kept .entry)) (c .routine) (c .node)
+        (c .root) (c .state) ⌝ }
 {
     if (c.node == 0) & (c.root == c.state) {
-        return supported(keys, transitions, next, kept, c);
+        return supported(keys, next, kept, c);
     }
-    supported(part, transitions, next, kept, c)
+    supported(part, next, kept, c)
 }

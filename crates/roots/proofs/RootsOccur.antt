@@ -5,28 +5,35 @@ use mathlib.Core.Logic.{_↔_, _≢_}
 use mathlib.Core.Bool.{Bool, true, false, cond, _&&_, not}
 use mathlib.Core.List.{List, List·Memᴰ}
 use native.Mathlib.Omega.{arith}
-use lib.Dec.{eqb}
+use lib.Dec.{eqb, leb, ltb}
 use lib.ListN.{length, getD, take, replicate, length-replicate}
 use lib.Seq.{getD-take, length-take-le}
-use borrow.Author.Tests.{eqb-false, ne-eqb, leb-true, not-true}
+use borrow.Author.Tests.{eqb-false, ne-eqb, leb-true, ltb-true, not-true}
 use Rattle.automaton.specs.Sizes.{maxStates, firstCall}
-use Rattle.automaton.specs.Automaton.{Automaton, callOf, moves}
-use Rattle.automaton.specs.Flags.{nextPlace, Answers}
+use Rattle.automaton.specs.Automaton.{callOf, labelFits, moves}
+use Rattle.automaton.specs.NextStates.{setAt, Answers}
 use Rattle.automaton.specs.Decoded.{automatonOf}
 use Rattle.automaton.specs.declared.Event.the-variants.{Call}
+use Rattle.automaton.proofs.MovesAsked.{asked}
+use Rattle.base.specs.Bits.{bit}
 use Rattle.base.specs.Flags.{isSet, On}
-use Rattle.program.specs.Sizes.{maxRoutines, marksSize}
-use Rattle.program.specs.Program.{Edge, Program, isCall, calledBy}
+use Rattle.program.specs.Sizes.{marksSize}
+use Rattle.program.specs.Program.{Edge, Program, edgeFits, isCall, calledBy, placed}
+use Rattle.program.specs.WellFormed.{WellFormed}
 use Rattle.program.specs.Decoded.{programOf}
 use Rattle.program.specs.declared.DecodedProgram.{DecodedProgram}
-use Rattle.base.proofs.Bools.{both}
+use Rattle.program.proofs.ProgramLimits.{well-formed-limits}
+use Rattle.program.proofs.ProgramRanged.{ranged}
+use Rattle.program.proofs.SectionsAscend.{all-in}
+use Rattle.base.proofs.Bools.{both, either}
 use Rattle.reach.specs.Sizes.{nodeSpan, rootsSize}
 use Rattle.reach.specs.Configurations.{InRange, number, routineOf, rootOf, stateOf, rootPlace, entryAt}
-use Rattle.reach.specs.Runs.{Moves}
+use Rattle.reach.specs.Runs.{Step, stepOf, HasStep, Moves}
 use Rattle.reach.specs.Marks.{Marked, Shows}
 use Rattle.base.proofs.SetFlags.{none-on}
 use Rattle.reach.proofs.Numbers.{number-fits, routine-of, root-of, state-of, root-small, state-small, first-node, first-range, root-place-fits, root-place-apart, entry-root}
-use Rattle.reach.proofs.ProgramInSizes.{sizes, after-small}
+use Rattle.reach.proofs.Labels.{label-calls}
+use Rattle.reach.proofs.ProgramInSizes.{map-in, sizes, after-small}
 use Rattle.base.specs.Filled.{Filled}
 use Rattle.worklist.proofs.AnalysisBegun.{take-min}
 use Rattle.base.proofs.BytesFilled.{filled-bits}
@@ -39,7 +46,7 @@ use Rattle.roots.specs.Parts.{RootFlags, rootsAfterCall, rootsWhenMarked
 -- ---- bytes of the marks, as flags
 
 -- a byte that is a mark's tells of the mark
-pub byte-tells : (marks : List ℕ) {f n r q v : ℕ} → InRange f n r q → v ≡ getD marks (number f n r q) 0 → (v ≢ 0) ↔ Marked marks f n r q
+byte-tells : (marks : List ℕ) {f n r q v : ℕ} → InRange f n r q → v ≡ getD marks (number f n r q) 0 → (v ≢ 0) ↔ Marked marks f n r q
 byte-tells marks h e = (λ x. (h, λ z. x (e ∙ z)), λ m z. m .1 (sym e ∙ z))
 
 pub entries-flagged : (marks : List ℕ) {flags : List ℕ} → Filled (λ i. getD marks (entryAt i) 0) rootsSize flags
@@ -84,7 +91,7 @@ module _ (p : Program) (marks : List ℕ) where
 abbrev pub MarkedRule : List ℕ → List ℕ → Edge → ℕ → List ℕ → ℕ → Type 0
 MarkedRule marks next e x l j =
     (isSet marks (number (e .routine) (e .source) (rootOf x) (stateOf x)) ≡ true)
-    × One (λ s. Copy (isSet next (nextPlace (stateOf x) (e .label) s)) (rootPlace (e .routine) (rootOf x)) (rootPlace (calledBy (e .label)) s))
+    × One (λ s. Copy (bit s (setAt next (stateOf x) (e .label))) (rootPlace (e .routine) (rootOf x)) (rootPlace (calledBy (e .label)) s))
     maxStates 0 l j
 
 -- the rule of an edge
@@ -94,14 +101,30 @@ RootsRule marks next e l j = (isCall (e .label) ≡ true) × One (MarkedRule mar
 abbrev pub RootsRules : List ℕ → List ℕ → List ℕ → ℕ → List ℕ → ℕ → Type 0
 RootsRules marks next keys count = One (λ i. RootsRule marks next (edgeAt keys i)) count 0
 
+-- a routine that is called is one of the program
+call-fits : (routines actions a : ℕ) → actions ≤ firstCall → isCall a ≡ true → labelFits routines actions a ≡ true → calledBy a < routines
+call-fits routines actions a few t h =
+    let low = leb-true firstCall a t in
+    either (ltb a actions) _ h (λ e. absurd (omega (arith, ltb-true a actions e)))
+    (λ e. omega (arith, ltb-true a (callOf routines) (both (leb firstCall a) _ e .1)))
+
+called-within : (p : Program) → WellFormed p → {f n g m : ℕ} → HasStep p f n (Call g) m → g < p .routines
+called-within p w {g = g} h =
+    let z = map-in stepOf (p .edges) h in
+    let e = z .from in
+    let c = label-calls (e .label) g (sym (ap (λ (x : Step). x .label) (z .is))) in
+    let there = ltb (e .routine) (p .routines) && placed (getD (p .nodes) (e .routine) 0) (e .source) (e .target) in
+    let fits = both there _ (all-in (edgeFits p) (p .edges) (w .edges-fit) (z .member)) .1 in
+    rw (← (c .1)) (call-fits (p .routines) (p .automaton .actions) (e .label) (omega (arith, well-formed-limits p w .actions)) (c .0) fits)
+
 -- the table answers by the label of an edge that calls
-call-answer : {r : Automaton} {next : List ℕ} → Answers r next → (q a s : ℕ) → q < maxStates
-    → isCall a ≡ true → calledBy a < maxRoutines → s < maxStates
-    → isSet next (nextPlace q a s) ≡ moves r q (Call (calledBy a)) s
-call-answer w q a s hq t hg hs =
+call-answer : {p : Program} {next : List ℕ} → WellFormed p → Answers (p .automaton) (p .routines) next
+    → {f n m : ℕ} (q a s : ℕ) → isCall a ≡ true → HasStep p f n (Call (calledBy a)) m
+    → bit s (setAt next q a) ≡ moves (p .automaton) q (Call (calledBy a)) s
+call-answer {p} wf w q a s t h =
     let low = leb-true firstCall a t in
     let is : callOf (calledBy a) ≡ a = omega arith in
-    rw is at (w .answers q (Call (calledBy a)) s hq (omega (arith, hg)) hs)
+    rw is at (asked (p .automaton) (p .routines) (ranged p wf) w q (Call (calledBy a)) s (called-within p wf h))
 
 set-byte : (l : List ℕ) (j : ℕ) → isSet l j ≡ true → getD l j 0 ≢ 0
 set-byte l j e = eqb-false (getD l j 0) 0 (not-true (eqb (getD l j 0) 0) e)
@@ -109,7 +132,7 @@ set-byte l j e = eqb-false (getD l j 0) 0 (not-true (eqb (getD l j 0) 0) e)
 byte-set : (l : List ℕ) (j : ℕ) → getD l j 0 ≢ 0 → isSet l j ≡ true
 byte-set l j h = ap not (ne-eqb (getD l j 0) 0 h)
 
-module _ {p : Program} {keys next : List ℕ} {count : ℕ} (o : KeysOf p keys count) (w : Answers (p .automaton) next) (marks : List ℕ) where
+module _ {p : Program} {keys next : List ℕ} {count : ℕ} (o : KeysOf p keys count) (w : Answers (p .automaton) (p .routines) next) (marks : List ℕ) where
   marked-obeys : (i x : ℕ) → i < count → isCall (edgeAt keys i .label) ≡ true
       → Obeys (LiveAt p marks) (MarkedRule marks next (edgeAt keys i) x) (rootsWhenMarked marks next (edgeAt keys i) x)
   unfolding rootsWhenMarked
@@ -126,8 +149,8 @@ module _ {p : Program} {keys next : List ℕ} {count : ℕ} (o : KeysOf p keys c
       let m : Marked marks f n r q = (in-range, set-byte marks (number f n r q) y) in
       obeys-turns maxStates 0 (λ s low high.
       let hs : s < maxStates = omega arith in
-      obeys-copy (isSet next (nextPlace q a s)) (rootPlace f r) (rootPlace (calledBy a) s) (λ v u.
-      let move : Moves p q (Call (calledBy a)) s = sym (call-answer w q a s (state-small x) t (z .called step) hs) ∙ v in
+      obeys-copy (bit s (setAt next q a)) (rootPlace f r) (rootPlace (calledBy a) s) (λ v u.
+      let move : Moves p q (Call (calledBy a)) s = sym (call-answer (o .well-formed) w q a s t step) ∙ v in
       to-place p marks hs (called (from-place p marks (root-small x) u) m step move))))
 
   edge-obeys : (i : ℕ) → i < count → Obeys (LiveAt p marks) (RootsRule marks next (edgeAt keys i)) (rootsByEdge marks next (edgeAt keys i))
@@ -144,7 +167,7 @@ module _ {p : Program} {keys next : List ℕ} {count : ℕ} (o : KeysOf p keys c
 -- the flags at the start are those of this program's initial states
 pub record Started (p : Program) (keys : List ℕ) (count : ℕ) (next l₀ : List ℕ) : Type 0 where
   pub keyed : KeysOf p keys count
-  pub answered : Answers (p .automaton) next
+  pub answered : Answers (p .automaton) (p .routines) next
   pub list : List ℕ
   pub used : ℕ
   pub fits : used ≤ length list
@@ -152,7 +175,7 @@ pub record Started (p : Program) (keys : List ℕ) (count : ℕ) (next l₀ : Li
   pub start : l₀ ≡ rootsOfMain list used (replicate rootsSize 0)
 
 pub started : (d : DecodedProgram) {keys : List ℕ} {count : ℕ} {next l₀ : List ℕ} → KeysOf (programOf d) keys count
-    → Answers (automatonOf (d .automaton)) next
+    → Answers (automatonOf (d .automaton)) (d .routines) next
     → length (d .automaton .initial .list) ≡ maxStates
     → l₀ ≡ rootsOfMain (d .automaton .initial .list) (min (d .automaton .initial .count) maxStates) (replicate rootsSize 0)
     → Started (programOf d) keys count next l₀
@@ -222,8 +245,8 @@ module _ {p : Program} {keys : List ℕ} {count : ℕ} {next l₀ : List ℕ} (b
           let on : isSet marks (number (edge .routine) (edge .source) (rootOf x) (stateOf x)) ≡ true =
           rw (ur, uq, ← (y .caller), ← (y .source)) (byte-set marks (number f n r q) (m .1))
           in
-          let goes : isSet next (nextPlace (stateOf x) (edge .label) s) ≡ true =
-          rw uq (call-answer (b .answered) q (edge .label) s hq (y .is-call) (rw (y .called) at hg) hs ∙ (rw (y .called) at t))
+          let goes : bit s (setAt next (stateOf x) (edge .label)) ≡ true =
+          rw uq (call-answer (b .keyed .well-formed) (b .answered) q (edge .label) s (y .is-call) (rw (y .called) at h) ∙ (rw (y .called) at t))
           in
           let root : On l (rootPlace (edge .routine) (rootOf x)) = rw (ur, ← (y .caller)) (set-for v) in
           let to : rootPlace g′ s ≡ rootPlace (calledBy (edge .label)) s = ap (λ (u : ℕ). rootPlace u s) (y .called) in

@@ -4,7 +4,8 @@ use mathlib.Core.Bool.{cond, _&&_}
 use mathlib.Core.List.{List}
 use lib.ListN.{getD, set}
 use Rattle.automaton.specs.Sizes.{maxStates}
-use Rattle.automaton.specs.Flags.{nextPlace}
+use Rattle.automaton.specs.NextStates.{setAt}
+use Rattle.base.specs.Bits.{bit}
 use Rattle.base.specs.Flags.{isSet}
 use Rattle.program.specs.Sizes.{maxRoutines}
 use Rattle.program.specs.Program.{Edge, isCall, calledBy}
@@ -19,14 +20,14 @@ RootFlags R flags = Flagged rootPlace maxRoutines maxStates R flags
 
 -- ---- the roots that occur
 
--- the label a is that of a call, q is the state of a configuration and `from` the place of its root's flag: where this
--- flag is set, the state s after the call's move is a root of the called routine
-abbrev pub copyRoot : List ℕ → ℕ → ℕ → ℕ → ℕ → List ℕ → List ℕ
-copyRoot next from q a s l = copyWhen (isSet next (nextPlace q a s)) from (rootPlace (calledBy a) s) l
+-- where the flag at `from` is set and state s is one of those after the call's move, s is a root of g
+abbrev pub copyRoot : ℕ → ℕ → ℕ → ℕ → List ℕ → List ℕ
+copyRoot after from g s l = copyWhen (bit s after) from (rootPlace g s) l
 
--- every state after the move
+-- the label a is that of a call, q is the state of a configuration and `from` the place of its root's flag: where this
+-- flag is set, every state after the call's move is a root of the called routine
 abbrev pub rootsAfterCall : List ℕ → ℕ → ℕ → ℕ → List ℕ → List ℕ
-rootsAfterCall next from q a l = inTurn (copyRoot next from q a) maxStates 0 l
+rootsAfterCall next from q a l = inTurn (copyRoot (setAt next q a) from (calledBy a)) maxStates 0 l
 
 -- the configuration at the edge's source that has the root and the state of number x, where it is marked
 unfoldable pub rootsWhenMarked : List ℕ → List ℕ → Edge → ℕ → List ℕ → List ℕ

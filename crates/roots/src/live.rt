@@ -1,9 +1,10 @@
 // The roots that occur: passes over the edges until nothing more is set.
 use crate::Roots;
 use automaton::States;
-use automaton::next::may_go;
+use automaton::next::next_after;
 use automaton::next::next_states;
 use automaton::sizes::MAX_STATES;
+use base::bits::has_bit;
 use base::flags::count_set;
 use base::flags::is_set;
 use base::flags::set_flag;
@@ -53,22 +54,23 @@ fn roots_of_main(initial: States, live: &mut [u8])
 // What a configuration in state q adds by the label of a call, where the flag of its own root is set: every state after
 // the call's move is a root of the called routine. A call has the same label on an edge and for the automaton; an
 // action calls nothing: hence the `requires`.
-fn roots_after_call(next: &[u8], from: usize, q: u8, label: u8, live: &mut [u8])
+fn roots_after_call(next: &[u16], from: usize, q: u8, label: u8, live: &mut [u8])
     requires { ⌜ isCall label ≡ true ⌝ }
     ensures { λ _. ⌜ now (live .exit) ≡ rootsAfterCall (now (next .entry)) from q label (now (live .entry)) ⌝ }
 {
     let g = called_by(label);
+    let set = next_after(next, q, label) as u64;
     let mut s: u8 = 0;
     while s < MAX_STATES as u8 {
         let to = root_place(g, s);
-        copy_when(may_go(next, q, label, s), live, from, to);
+        copy_when(has_bit(s, set), live, from, to);
         s = s + 1;
     }
 }
 
 // A configuration at the source of an edge that calls, with the root and the state of number x: the first numbers have
 // every root and state in turn, hence the `requires`.
-fn roots_when_marked(marks: &[u8], next: &[u8], e: DecodedEdge, x: usize, live: &mut [u8])
+fn roots_when_marked(marks: &[u8], next: &[u16], e: DecodedEdge, x: usize, live: &mut [u8])
     requires { ⌜ (isCall (e .label) ≡ true) × (x < nodeSpan) ⌝ }
     ensures { λ _. ⌜ now (live .exit)
         ≡ rootsWhenMarked (now (marks .entry)) (now (next .entry)) (edgeView e) x (now (live .entry)) ⌝ }
@@ -81,7 +83,7 @@ fn roots_when_marked(marks: &[u8], next: &[u8], e: DecodedEdge, x: usize, live: 
 }
 
 // What an edge adds, by the configurations at its source. An action calls nothing: hence the `requires`.
-fn roots_by_call(marks: &[u8], next: &[u8], e: DecodedEdge, live: &mut [u8])
+fn roots_by_call(marks: &[u8], next: &[u16], e: DecodedEdge, live: &mut [u8])
     requires { ⌜ isCall (e .label) ≡ true ⌝ }
     ensures { λ _. ⌜ now (live .exit)
         ≡ rootsByCall (now (marks .entry)) (now (next .entry)) (edgeView e) (now (live .entry)) ⌝ }
@@ -93,7 +95,7 @@ fn roots_by_call(marks: &[u8], next: &[u8], e: DecodedEdge, live: &mut [u8])
     }
 }
 
-fn roots_by_edge(marks: &[u8], next: &[u8], key: u32, live: &mut [u8])
+fn roots_by_edge(marks: &[u8], next: &[u16], key: u32, live: &mut [u8])
     ensures { λ _. ⌜ now (live .exit)
         ≡ rootsByEdge (now (marks .entry)) (now (next .entry)) (edgeOf key) (now (live .entry)) ⌝ }
 {
@@ -103,7 +105,7 @@ fn roots_by_edge(marks: &[u8], next: &[u8], key: u32, live: &mut [u8])
     }
 }
 
-fn roots_by_edges(marks: &[u8], next: &[u8], keys: &[u32], count: usize, live: &mut [u8])
+fn roots_by_edges(marks: &[u8], next: &[u16], keys: &[u32], count: usize, live: &mut [u8])
     requires { ⌜ count ≤ length (now keys) ⌝ }
     ensures { λ _. ⌜ now (live .exit) ≡ rootsByEdges (now (marks .entry)) (now (next .entry))
         (now (keys .entry)) count (now (live .entry)) ⌝ }
@@ -116,7 +118,7 @@ fn roots_by_edges(marks: &[u8], next: &[u8], keys: &[u32], count: usize, live: &
 }
 
 // One pass over the edges; whether it has set a flag more.
-fn roots_further(marks: &[u8], next: &[u8], keys: &[u32], count: usize, live: &mut [u8]) -> bool
+fn roots_further(marks: &[u8], next: &[u16], keys: &[u32], count: usize, live: &mut [u8]) -> bool
     requires { ⌜ count ≤ length (now keys) ⌝ }
     ensures { λ r. ⌜ (now (live .exit) ≡ rootsByEdges (now (marks .entry)) (now (next .entry))
         (now (keys .entry)) count (now (live .entry)))
@@ -138,8 +140,8 @@ pub fn live_roots(p: DecodedProgram, marks: &[u8]) -> Roots
     let count = in_use(edges.count, MAX_EDGES);
     let automaton = p.automaton;
     let initial = automaton.initial;
-    let moves = next_states(automaton);
-    let next = moves.flags;
+    let table = next_states(automaton, p.routines);
+    let next = table.sets;
     let mut flags = [0u8; ROOTS_SIZE];
     roots_of_main(initial, &mut flags);
     let mut more = true;

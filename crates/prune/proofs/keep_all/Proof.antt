@@ -6,11 +6,11 @@ use Rattle.prune.proofs.keep_all.Statement.{statement}
 use Rattle.prune.proofs.keep_all.Tie as tie
 
 abbrev Inv-loop : tie.InvT-loop
-Inv-loop keys transitions next marks kept₀ more₀ kept more =
-    Passing (keepsAt keys transitions next marks) kept₀ kept more
+Inv-loop keys next marks kept₀ more₀ kept more =
+    Passing (keepsAt keys next marks) kept₀ kept more
 
 abbrev μ-loop : tie.MeasureT-loop
-μ-loop keys transitions next marks kept₀ more₀ kept more = left kept more
+μ-loop keys next marks kept₀ more₀ kept more = left kept more
 
 loop-holds : tie.Need-loop-holds Inv-loop μ-loop
 loop-holds c = passing-none _ _
@@ -18,13 +18,13 @@ loop-holds c = passing-none _ _
 keep-pass-requires : tie.Need-keep-pass-requires Inv-loop μ-loop
 keep-pass-requires c κs =
     let p = c .before .before in
-    let z = p .before .before .before .before .before .before .pre in
+    let z = p .before .before .before .before .before .pre in
     (z .0, (z .1 .0, p .loop .inv .len ∙ z .1 .1))
 
 loop-less : tie.Need-loop-less Inv-loop μ-loop
 loop-less c =
     let p = c .before .before .before .before .before in
-    let z = p .before .before .before .before .before .before .pre in
+    let z = p .before .before .before .before .before .pre in
     left-less _ _ (c .before .before .keep-pass .ensures) (p .loop .inv .len ∙ z .1 .1) (c .before .before .before .before .loop-test .taken)
 
 loop-again : tie.Need-loop-again Inv-loop μ-loop

@@ -11,7 +11,7 @@ use Rattle.prune.proofs.keep_at.Tie as tie
 returns : tie.Need-returns
 unfolding keepsAt
 returns c =
-    let start = c .before .before .before .before .before .before .before .before in
+    let start = c .before .before .before .before .before .before .before in
     let unmarked : getD (start .args .marks .now) (start .args .i) 0 ≡ 0 = c .if1 .taken in
     (rw (eq-eqb _ _ unmarked) refl, refl)
 
@@ -22,7 +22,7 @@ returns-2 c = (rw (ne-eqb _ _ (c .before .before .if1 .left), ne-eqb _ _ (c .if2
 has-support-requires : tie.Need-has-support-requires
 has-support-requires c κs =
     let parts = c .parts-of .ensures in
-    let start = c .before .before .before .before .before .before .before .before .before .before .before .before in
+    let start = c .before .before .before .before .before .before .before .before .before .before .before in
     (parts .in-range .routine, rw (parts-routine parts) (start .pre .0 .1))
 
 returns-3 : tie.Need-returns-3

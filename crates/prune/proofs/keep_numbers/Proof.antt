@@ -12,11 +12,11 @@ use Rattle.prune.proofs.keep_numbers.Statement.{statement}
 use Rattle.prune.proofs.keep_numbers.Tie as tie
 
 abbrev Inv-loop : tie.InvT-loop
-Inv-loop keys part transitions next marks kept₀ f first more₀ i₀ kept more i =
-    (first ≤ i) × (i ≤ first + routineSpan) × Passed (keepsAt keys transitions next marks) kept₀ kept more first i
+Inv-loop keys part next marks kept₀ f first more₀ i₀ kept more i =
+    (first ≤ i) × (i ≤ first + routineSpan) × Passed (keepsAt keys next marks) kept₀ kept more first i
 
 abbrev μ-loop : tie.MeasureT-loop
-μ-loop keys part transitions next marks kept₀ f first more₀ i₀ kept more i = first + routineSpan - i
+μ-loop keys part next marks kept₀ f first more₀ i₀ kept more i = first + routineSpan - i
 
 loop-holds : tie.Need-loop-holds Inv-loop μ-loop
 loop-holds c = (omega arith, omega arith, pass-none _ _ _)
@@ -24,7 +24,7 @@ loop-holds c = (omega arith, omega arith, pass-none _ _ _)
 keep-at-requires : tie.Need-keep-at-requires Inv-loop μ-loop
 keep-at-requires c κs =
     let p = c .before .before in
-    let s = p .before .before .before .before .before .before .before in
+    let s = p .before .before .before .before .before .before in
     let z = s .pre in
     let e = in-routine (s .args .f) (p .loop .i) (omega arith) (omega arith) in
     ((omega arith, rw e (z .0 .1)), (z .1 .0, p .loop .inv .2 .len ∙ z .1 .1))
@@ -32,10 +32,10 @@ keep-at-requires c κs =
 loop-again : tie.Need-loop-again Inv-loop μ-loop
 loop-again c =
     let p = c .before .before .before .before .before in
-    let z = p .before .before .before .before .before .before .before .pre in
+    let z = p .before .before .before .before .before .before .pre in
     let n = p .loop .inv .2 .len in
     let e = c .before .before .keep-at .ensures in
-    (omega arith, omega arith, pass-turn _ (p .loop .inv .2) (omega arith) (omega arith) (keeps-free _ _ _ _ _ _) _ (e .0) (e .1))
+    (omega arith, omega arith, pass-turn _ (p .loop .inv .2) (omega arith) (omega arith) (keeps-free _ _ _ _ _) _ (e .0) (e .1))
 
 same-length : tie.Need-same-length Inv-loop μ-loop
 same-length c = c .before .loop .inv .2 .len
@@ -43,7 +43,7 @@ same-length c = c .before .loop .inv .2 .len
 returns : tie.Need-returns Inv-loop μ-loop
 returns c =
     let p = c .before .loop in
-    let s = c .before .before .before .before .before .before .before .before in
+    let s = c .before .before .before .before .before .before .before in
     let e : s .args .f * routineSpan + routineSpan ≡ p .i = omega arith in
     rw e (p .inv .2)
 

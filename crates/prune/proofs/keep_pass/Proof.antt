@@ -11,11 +11,11 @@ use Rattle.prune.proofs.keep_pass.Statement.{statement}
 use Rattle.prune.proofs.keep_pass.Tie as tie
 
 abbrev Inv-loop : tie.InvT-loop
-Inv-loop keys transitions next marks kept₀ more₀ f₀ kept more f =
-    (f ≤ maxRoutines) × Passed (keepsAt keys transitions next marks) kept₀ kept more 0 (f * routineSpan)
+Inv-loop keys next marks kept₀ more₀ f₀ kept more f =
+    (f ≤ maxRoutines) × Passed (keepsAt keys next marks) kept₀ kept more 0 (f * routineSpan)
 
 abbrev μ-loop : tie.MeasureT-loop
-μ-loop keys transitions next marks kept₀ more₀ f₀ kept more f = maxRoutines - f
+μ-loop keys next marks kept₀ more₀ f₀ kept more f = maxRoutines - f
 
 loop-holds : tie.Need-loop-holds Inv-loop μ-loop
 loop-holds c = (omega arith, pass-none _ _ 0)
@@ -23,7 +23,7 @@ loop-holds c = (omega arith, pass-none _ _ 0)
 keep-routine-requires : tie.Need-keep-routine-requires Inv-loop μ-loop
 keep-routine-requires c κs =
     let p = c .before .before in
-    let z = p .before .before .before .before .before .before .pre in
+    let z = p .before .before .before .before .before .pre in
     ((omega arith, z .0), (z .1 .0, p .loop .inv .1 .len ∙ z .1 .1))
 
 loop-again : tie.Need-loop-again Inv-loop μ-loop

@@ -15,7 +15,7 @@ part-keep-numbers-start c = let x = part-starts (c .before .first-of .ensures) (
 keep-numbers-requires : tie.Need-keep-numbers-requires
 keep-numbers-requires c κs =
     let p = c .before .before in
-    let z = p .before .before .before .before .before .before .before .pre in
+    let z = p .before .before .before .before .before .before .pre in
     ((z .0 .0, its-part (p .before .first-of .ensures) (p .first-of2 .ensures) (z .0 .1)), z .1)
 
 pub keep-routine-spec : {M : Type 1} → statement M

@@ -4,7 +4,6 @@ use mathlib.Core.List.{List, map}
 use Prim.Native.Nat.{ℕ}
 use lib.ListN.{length}
 use borrow.Author.Needs.{needs}
-use Rattle.automaton.specs.Sizes.{maxTransitions}
 use Rattle.program.specs.Sizes.{maxEdges}
 use Rattle.program.specs.Frames.{edgeKey}
 use Rattle.tables.specs.Keys.{Ascending}
@@ -14,54 +13,35 @@ use Rattle.prune.proofs.KeptExact.{used-fits, used-counted, its-tables,
 use Rattle.prune.proofs.keep_supported.Statement.{statement}
 use Rattle.prune.proofs.keep_supported.Tie as tie
 
--- the tables have room for so many keys
+abbrev start : tie.After-in-use → tie.Start
+start used = used .before .before .before .before .before
+
+-- the table has room for so many keys
 edges-room : (z : tie.Start) → length (z .args .edges .keys) ≡ maxEdges
 edges-room z = search needs
 
-transitions-room : (z : tie.Start) → length (z .args .transitions .keys) ≡ maxTransitions
-transitions-room z = search needs
-
 array-share-prefix-keys : tie.Need-array-share-prefix-keys
-array-share-prefix-keys c =
-    let used = c .before in
-    let z = used .before .before .before .before .before .before in
-    used-fits _ (z .args .edges .keys) (edges-room z) (used .in-use .ensures)
+array-share-prefix-keys c = used-fits _ (start c .args .edges .keys) (edges-room (start c)) (c .in-use .ensures)
 
 slice-aggregate-keep-all : tie.Need-slice-aggregate-keep-all
-slice-aggregate-keep-all c =
-    let used = c .before .before in
-    used-counted _ _ (edges-room (used .before .before .before .before .before .before)) (used .in-use .ensures)
-
-array-share-prefix-transition-keys : tie.Need-array-share-prefix-transition-keys
-array-share-prefix-transition-keys c =
-    let used = c .before in
-    let z = used .before .before .before .before .before .before .before in
-    used-fits _ (z .args .transitions .keys) (transitions-room z) (used .in-use2 .ensures)
-
-slice-aggregate-keep-all-2 : tie.Need-slice-aggregate-keep-all-2
-slice-aggregate-keep-all-2 c =
-    let used = c .before .before in
-    used-counted _ _ (transitions-room (used .before .before .before .before .before .before .before)) (used .in-use2 .ensures)
+slice-aggregate-keep-all c = let used = c .before in used-counted _ _ (edges-room (start used)) (used .in-use .ensures)
 
 keep-all-requires : tie.Need-keep-all-requires
 keep-all-requires c κs =
-    let used = c .before .before .before .before in
-    let z = used .before .before .before .before .before .before in
+    let used = c .before .before in
+    let z = start used in
     let same = in-use-same (z .args .edges .count) (z .args .edges .keys) (edges-room z) (used .in-use .ensures) in
     (subst (λ (ks : List ℕ). Ascending 0 (map edgeKey (map edgeOf ks))) (sym same) (z .pre .0), z .pre .1)
 
 returns : tie.Need-returns
-returns c p w e f a s =
-    let used2 = c .before .before .before .before .before .before in
-    let used = used2 .before in
-    let z = used .before .before .before .before .before .before in
-    let t =
-    its-tables p w (z .args .edges) (z .args .transitions) e f a (edges-room z) (transitions-room z) (used .in-use .ensures)
-    (used2 .in-use2 .ensures) in
+returns c p w e a s =
+    let used = c .before .before .before .before .before in
+    let z = start used in
+    let t = its-tables p w (z .args .edges) e a (edges-room z) (used .in-use .ensures) in
     settled-shows t (z .args .marks .now) s (c .before .before .keep-all .ensures)
 
 pub keep-supported-spec : {M : Type 1} → statement M
 keep-supported-spec =
     tie.close
-    (tie.spec (λ c κs. search needs) (λ c κs. search needs) array-share-prefix-keys slice-aggregate-keep-all
-    array-share-prefix-transition-keys slice-aggregate-keep-all-2 keep-all-requires (λ c. search needs) returns)
+    (tie.spec (λ c κs. search needs) array-share-prefix-keys slice-aggregate-keep-all keep-all-requires (λ c. search needs)
+    returns)

@@ -2,6 +2,7 @@
 use Rattle.components.proofs.ReanalysisDecided.{said-yes, said-no, none-more}
 use Rattle.components.specs.TurnParts.{DifferingEdge}
 use Rattle.program.specs.Decoded.{edgeOf}
+use Rattle.words.specs.Words.{flagsOf}
 use borrow.Author.Needs.{needs}
 use native.Mathlib.Omega.{arith}
 use Prim.Native.Nat.{ℕ, _<_, _-_}
@@ -10,7 +11,7 @@ use Rattle.components.proofs.decide.some_differ.Statement.{statement}
 use Rattle.components.proofs.decide.some_differ.Tie as tie
 
 abbrev Inv-loop : tie.InvT-loop
-Inv-loop keys count members before marks i₀ i = (j : ℕ) → j < i → ¬ (DifferingEdge members before marks (edgeOf (getD keys j 0)))
+Inv-loop keys count members before marks i₀ i = (j : ℕ) → j < i → ¬ (DifferingEdge members (flagsOf before) marks (edgeOf (getD keys j 0)))
 
 abbrev μ-loop : tie.MeasureT-loop
 μ-loop keys count members before marks i₀ i = count - i

@@ -1,5 +1,6 @@
 -- `components::decide::summaries_differ` meets its contract. The loop's invariant: no summary before the `i`-th differs.
 use Rattle.reach.specs.Sizes.{nodeSpan}
+use Rattle.words.specs.Words.{flagsOf}
 use Rattle.components.proofs.ReanalysisDecided.{ApartAt, said-yes, said-no, apart-yes, apart-no, place-fits, found-differs, none-differs, none-more}
 use borrow.Author.Needs.{needs}
 use native.Mathlib.Omega.{arith}
@@ -8,7 +9,7 @@ use Rattle.components.proofs.decide.summaries_differ.Statement.{stateme
 use Rattle.components.proofs.decide.summaries_differ.Tie as tie
 
 abbrev Inv-loop : tie.InvT-loop
-Inv-loop before marks g first i₀ i = (j : ℕ) → j < i → ¬ (ApartAt before marks g j)
+Inv-loop before marks g first i₀ i = (j : ℕ) → j < i → ¬ (ApartAt (flagsOf before) marks g j)
 
 abbrev μ-loop : tie.MeasureT-loop
 μ-loop before marks g first i₀ i = nodeSpan - i
@@ -36,7 +37,7 @@ returns c =
     let at = was .before .before in
     let first = at .before in
     let z = first .before .before .before in
-    let apart = rw (is .is-set2 .ensures, exit .exit-at .ensures .0, was .is-set .ensures, first .summary-of .ensures) at (c .if1 .taken) in
+    let apart = rw (is .is-set .ensures, exit .exit-at .ensures .0, was .is-known .ensures, first .summary-of .ensures) at (c .if1 .taken) in
     said-yes (found-differs _ _ (z .args .g) (z .pre) (at .loop .i) (omega arith) (apart-yes _ _ apart))
 
 loop-again : tie.Need-loop-again Inv-loop μ-loop
@@ -45,7 +46,7 @@ loop-again c =
     let exit = is .before in
     let was = exit .before in
     let at = was .before .before in
-    let alike = rw (is .is-set2 .ensures, exit .exit-at .ensures .0, was .is-set .ensures, at .before .summary-of .ensures) at (c .if1 .left) in
+    let alike = rw (is .is-set .ensures, exit .exit-at .ensures .0, was .is-known .ensures, at .before .summary-of .ensures) at (c .if1 .left) in
     none-more _ (at .loop .inv) (apart-no _ _ alike)
 
 returns-2 : tie.Need-returns-2 Inv-loop μ-loop

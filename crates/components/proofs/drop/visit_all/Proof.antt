@@ -5,18 +5,19 @@ use mathlib.Core.Path.{_≡_, sym, _∙_}
 use lib.ListN.{length}
 use Rattle.program.specs.Sizes.{marksSize}
 use Rattle.program.specs.Decoded.{programOf}
+use Rattle.words.specs.Words.{flagsOf}
 use Rattle.components.specs.TurnParts.{firstTurn, endTurn, Advances}
 use Rattle.components.proofs.TurnsTaken.{turning-end}
 use Rattle.components.proofs.drop.visit_all.Statement.{statement}
 use Rattle.components.proofs.drop.visit_all.Tie as tie
 
 abbrev Inv-loop : tie.InvT-loop
-Inv-loop p leads roots before edited marks₀ pending₀ progress₀ i₀ marks pending progress i =
-    (i ≤ endTurn) × (length pending ≡ marksSize)
-    × Advances (programOf p) edited leads roots before firstTurn marks₀ progress₀ i marks progress
+Inv-loop p leads roots before edited marks₀ work₀ progress₀ i₀ marks work progress i =
+    (i ≤ endTurn) × (length work ≡ marksSize)
+    × Advances (programOf p) edited leads roots (flagsOf before) firstTurn marks₀ progress₀ i marks progress
 
 abbrev μ-loop : tie.MeasureT-loop
-μ-loop p leads roots before edited marks₀ pending₀ progress₀ i₀ marks pending progress i = endTurn - i
+μ-loop p leads roots before edited marks₀ work₀ progress₀ i₀ marks work progress i = endTurn - i
 
 loop-holds : tie.Need-loop-holds Inv-loop μ-loop
 loop-holds c = (omega arith, c .before .before .before .before .before .pre .0, λ old t. t)

@@ -1,5 +1,6 @@
 -- `components::pass::component_pass` meets its contract.
 use Rattle.components.proofs.PassDerives.{first-ready, passed}
+use Rattle.program.proofs.ProgramRanged.{ranged}
 use Rattle.reach.specs.Configurations.{none-set}
 use Prim.Native.Nat.{ℕ}
 use mathlib.Core.Path.{ap, _∙_}
@@ -7,6 +8,9 @@ use lib.ListN.{replicate}
 use borrow.Author.Needs.{needs}
 use Rattle.components.proofs.pass.component_pass.Statement.{statement}
 use Rattle.components.proofs.pass.component_pass.Tie as tie
+
+next-states-requires : tie.Need-next-states-requires
+next-states-requires c κs = ranged _ (c .before .before .before .before .before .pre .0 .0)
 
 rounds-requires : tie.Need-rounds-requires
 rounds-requires c κs =
@@ -29,5 +33,5 @@ returns c =
 pub component-pass-spec : {M : Type 1} → statement M
 component-pass-spec =
     tie.close
-    (tie.spec (λ c κs. search needs) (λ c κs. search needs) rounds-requires (λ c κs. search needs)
+    (tie.spec next-states-requires (λ c κs. search needs) rounds-requires (λ c κs. search needs)
     (λ c. search needs) (λ c. search needs) returns)

@@ -12,11 +12,11 @@ use Rattle.components.proofs.pass.round.Statement.{statement}
 use Rattle.components.proofs.pass.round.Tie as tie
 
 abbrev Inv-loop : tie.InvT-loop
-Inv-loop p members next marks₀ pending₀ f₀ marks pending f =
-    (f ≤ maxRoutines) × (length pending ≡ marksSize) × Round (programOf p) members f marks₀ marks
+Inv-loop p members next marks₀ work₀ f₀ marks work f =
+    (f ≤ maxRoutines) × (length work ≡ marksSize) × Round (programOf p) members f marks₀ marks
 
 abbrev μ-loop : tie.MeasureT-loop
-μ-loop p members next marks₀ pending₀ f₀ marks pending f = maxRoutines - f
+μ-loop p members next marks₀ work₀ f₀ marks work f = maxRoutines - f
 
 loop-holds : tie.Need-loop-holds Inv-loop μ-loop
 loop-holds c = (omega arith, c .before .before .before .pre .0, round-none (c .before .before .before .pre .1 .0))

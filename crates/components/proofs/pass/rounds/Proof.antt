@@ -12,10 +12,10 @@ use Rattle.components.proofs.pass.rounds.Statement.{statement}
 use Rattle.components.proofs.pass.rounds.Tie as tie
 
 abbrev Inv-loop : tie.InvT-loop
-Inv-loop p members next marks₀ pending₀ marks pending = (length pending ≡ marksSize) × Grows (programOf p) members marks₀ marks
+Inv-loop p members next marks₀ work₀ marks work = (length work ≡ marksSize) × Grows (programOf p) members marks₀ marks
 
 abbrev μ-loop : tie.MeasureT-loop
-μ-loop p members next marks₀ pending₀ marks pending = marksSize - countSet marks
+μ-loop p members next marks₀ work₀ marks work = marksSize - countSet marks
 
 loop-holds : tie.Need-loop-holds Inv-loop μ-loop
 loop-holds c = let z = c .before .before .before .pre in (z .0, grows-none (z .1 .0))

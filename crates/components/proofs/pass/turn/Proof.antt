@@ -52,15 +52,21 @@ add-follow-part c = omega (arith, c .before .before .before .before .before .num
 
 follow-part-requires : tie.Need-follow-part-requires
 follow-part-requires c κs =
-    let low = c .before .before .before .before .before in
+    let part = c .before .before .before in
+    let low = part .before .before in
     let to = low .before in
     let from = to .before .before in
     let used = from .before .before in
     let z = used .before .before .before .before .before .before .before .before in
     let e = routine-edges (z .args .p .edges .count) (room z) (used .in-use .ensures) (from .first-of .ensures) (to .first-of2 .ensures) (z .pre .1 .0 .well-formed .edges-ascend) in
-    let size = c .before .before .follow-part-arg2 .given .0 in
-    let first = low .number-of .ensures .0 in
-    ((size, z .pre .0 .1, omega (arith, z .pre .0 .0, first, first-number (z .args .f))), (_, turn-followable (z .args .f) first (z .pre .1 .0) e (z .pre .1 .1)))
+    let first = low .number-of .ensures .0 in (
+      (
+        omega (arith, part .follow-part-arg .given, to .first-of2 .ensures .within, used .in-use .ensures),
+        z .pre .0 .1,
+        omega (arith, z .pre .0 .0, first, first-number (z .args .f)),
+      ),
+      (_, turn-followable (z .args .f) first (z .pre .1 .0) e (z .pre .1 .1)),
+    )
 
 returns-2 : tie.Need-returns-2
 returns-2 c =

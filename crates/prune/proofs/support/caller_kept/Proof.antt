@@ -4,8 +4,8 @@ use mathlib.Core.Logic.{⊎-elim}
 use mathlib.Core.Bool.{_&&_}
 use Prim.Native.Nat.{_-_}
 use Rattle.automaton.specs.Sizes.{maxStates}
-use Rattle.automaton.specs.Flags.{nextPlace}
-use Rattle.base.specs.Flags.{isSet}
+use Rattle.automaton.specs.NextStates.{setAt}
+use Rattle.base.specs.Bits.{bit}
 use Rattle.reach.specs.Configurations.{number}
 use Rattle.prune.specs.Parts.{rootKept, callerKept}
 use Rattle.prune.proofs.SearchesAsk.{both-met, first-fails, second-fails, Trying, try-all, try-found, try-next, try-none}
@@ -15,7 +15,7 @@ use Rattle.prune.proofs.support.caller_kept.Tie as tie
 
 abbrev Inv-loop : tie.InvT-loop
 Inv-loop next kept e r x₀ x =
-    Trying (λ j. isSet next (nextPlace j (e .label) r) && rootKept kept (number (e .routine) (e .source) 0 j)) maxStates x
+    Trying (λ j. bit r (setAt next j (e .label)) && rootKept kept (number (e .routine) (e .source) 0 j)) maxStates x
 
 abbrev μ-loop : tie.MeasureT-loop
 μ-loop next kept e r x₀ x = maxStates - x

@@ -5,8 +5,8 @@ use mathlib.Core.Bool.{_&&_}
 use Prim.Native.Nat.{_-_}
 use Rattle.automaton.specs.Sizes.{maxStates}
 use Rattle.automaton.specs.Automaton.{callOf, returnOf}
-use Rattle.automaton.specs.Flags.{nextPlace}
-use Rattle.base.specs.Flags.{isSet}
+use Rattle.automaton.specs.NextStates.{setAt}
+use Rattle.base.specs.Bits.{bit}
 use Rattle.reach.specs.Configurations.{number}
 use Rattle.prune.specs.Parts.{exitKept, rootReturns}
 use Rattle.prune.proofs.SearchesAsk.{both-met, first-fails, second-fails, Trying, try-all, try-found, try-next, try-none}
@@ -15,11 +15,11 @@ use Rattle.prune.proofs.support.root_returns.Statement.{statement}
 use Rattle.prune.proofs.support.root_returns.Tie as tie
 
 abbrev Inv-loop : tie.InvT-loop
-Inv-loop next kept y g t s₀ s =
-    Trying (λ j. isSet next (nextPlace y (callOf g) j) && exitKept next kept (number g 1 j 0) (returnOf g) t) maxStates s
+Inv-loop next kept y g t roots s₀ s =
+    Trying (λ j. bit j (setAt next y (callOf g)) && exitKept next kept (number g 1 j 0) (returnOf g) t) maxStates s
 
 abbrev μ-loop : tie.MeasureT-loop
-μ-loop next kept y g t s₀ s = maxStates - s
+μ-loop next kept y g t roots s₀ s = maxStates - s
 
 loop-holds : tie.Need-loop-holds Inv-loop μ-loop
 loop-holds c = try-all _ _
@@ -31,14 +31,16 @@ returns c =
     let numbered = found .before in
     let given = numbered .before in
     let asked = given .before in
-    let first = sym (asked .may-go .ensures) ∙ given .if1 .taken in
+    let looked = asked .before .before .before .next-after in
+    let first = sym (rw (looked .ensures) at (asked .has-bit .ensures)) ∙ given .if1 .taken in
     let second = sym (rw (numbered .number-of .ensures .0) at (found .exit-kept .ensures)) ∙ c .if2 .taken in
     try-found (asked .before .before .loop .inv) (asked .before .loop-test .taken) (both-met first second)
 
 loop-again : tie.Need-loop-again Inv-loop μ-loop
 loop-again c =
     let asked = c .before in
-    let may = sym (asked .may-go .ensures) in
+    let looked = asked .before .before .before .next-after in
+    let may = sym (rw (looked .ensures) at (asked .has-bit .ensures)) in
     try-next (asked .before .before .loop .inv) (asked .before .loop-test .taken)
     (⊎-elim (λ w. second-fails (may ∙ w .0 .taken) (sym (rw (w .1 .ensures .0) at (w .2 .ensures)) ∙ w .3 .left))
     (λ w. first-fails _ (may ∙ w .left)) (c .if1 .came))
@@ -50,5 +52,6 @@ returns-2 c = try-none (c .before .loop .inv) (c .loop-test .left)
 pub root-returns-spec : {M : Type 1} → statement M
 root-returns-spec =
     tie.close
-    (tie.spec Inv-loop μ-loop loop-holds (λ c. search needs) (λ c. search needs) (λ c κs. search needs) (λ c κs. search needs)
-    (λ c. search needs) (λ c κs. search needs) returns (λ c. search needs) (λ c. search needs) loop-again returns-2)
+    (tie.spec Inv-loop μ-loop (λ c. search needs) (λ c κs. search needs) (λ c. search needs) loop-holds (λ c. search needs)
+    (λ c κs. search needs) (λ c κs. search needs) (λ c. search needs) (λ c κs. search needs) returns (λ c. search needs)
+    (λ c. search needs) loop-again returns-2)

@@ -3,6 +3,7 @@
 use Rattle.program.specs.Sizes.{maxEdges}
 use Rattle.program.specs.Program.{Program}
 use Rattle.program.specs.Decoded.{programOf}
+use Rattle.program.proofs.ProgramRanged.{ranged}
 use Rattle.reach.specs.Sizes.{rootsSize}
 use Rattle.callgraph.proofs.FlagsClosed.{Growing, growing-turn, growing-less, left}
 use Rattle.callgraph.proofs.CallsByKey.{keys-of}
@@ -26,6 +27,11 @@ abbrev μ-loop : tie.MeasureT-loop
 room : (c : tie.Start Inv-loop μ-loop) → length (c .args .p .edges .keys) ≡ maxEdges
 room c = search needs
 
+next-states-requires : tie.Need-next-states-requires Inv-loop μ-loop
+next-states-requires c κs =
+    let z = c .before .before .before .before .before .before in
+    ranged (programOf (z .args .p)) (z .pre)
+
 loop-holds : tie.Need-loop-holds Inv-loop μ-loop
 loop-holds c =
     let used = c .before .before .before .before .before .before .before in
@@ -43,12 +49,12 @@ loop-less : tie.Need-loop-less Inv-loop μ-loop
 loop-less c =
     let at = c .before .before .before .before .before .before in
     let begun = at .before .before in
-    let moves = begun .before .before .before in
-    let used = moves .before .before .before in
+    let table = begun .before .before .before in
+    let used = table .before .before .before in
     let z = used .before .before .before .before in
     let m = begun .roots-of-main .ensures in
     let k = keys-of (z .args .p) (z .pre) (room z) (used .in-use .ensures) in
-    let b = started (z .args .p) k (moves .next-states .ensures) (m .0) (m .1) in
+    let b = started (z .args .p) k (table .next-states .ensures) (m .0) (m .1) in
     let e = c .before .roots-further .ensures in
     growing-less (at .loop .inv .1 (programOf (z .args .p)) b) (live-obeys b (z .args .marks .now))
     (c .before .before .before .before .before .loop-test .taken) (e .0) (e .1)
@@ -62,17 +68,17 @@ loop-again c =
 returns : tie.Need-returns Inv-loop μ-loop
 returns c =
     let begun = c .before .before .before in
-    let moves = begun .before .before .before in
-    let used = moves .before .before .before in
+    let table = begun .before .before .before in
+    let used = table .before .before .before in
     let z = used .before .before .before .before in
     let m = begun .roots-of-main .ensures in
     let k = keys-of (z .args .p) (z .pre) (room z) (used .in-use .ensures) in
-    let b = started (z .args .p) k (moves .next-states .ensures) (m .0) (m .1) in
+    let b = started (z .args .p) k (table .next-states .ensures) (m .0) (m .1) in
     live-flagged b (z .args .marks .now) (c .loop-test .left) (c .before .loop .inv .1 (programOf (z .args .p)) b)
 
 pub live-roots-spec : {M : Type 1} → statement M
 live-roots-spec =
     tie.close
-    (tie.spec Inv-loop μ-loop (λ c κs. search needs) (λ c κs. search needs) (λ c. search needs)
+    (tie.spec Inv-loop μ-loop (λ c κs. search needs) next-states-requires (λ c. search needs)
     (λ c κs. search needs) loop-holds (λ c. search needs) (λ c. search needs) slice-aggregate-roots-further-3
     roots-further-requires loop-less loop-again returns)
