@@ -5,9 +5,11 @@ use mathlib.Core.List.{List, [], _∷_, flatten, List·Memᴰ}
 use Prim.Native.Nat.{ℕ, _<_}
 use lib.ListN.{length, take}
 use Rattle.automaton.specs.Automaton.{Automaton, moves}
+use Rattle.automaton.specs.NextStates.{setAt, Answers}
 use Rattle.automaton.specs.declared.Event.{Event}
 use Rattle.automaton.specs.declared.Event.the-variants as event
 use Rattle.program.specs.Program.{Program}
+use Rattle.program.specs.WellFormed.{WellFormed}
 use Rattle.program.specs.Reading.{readFile, rowsIn}
 use Rattle.program.specs.declared.Verdict.the-variants.{Accepted}
 use Rattle.reach.specs.Marks.{Marked, Shows}
@@ -27,7 +29,7 @@ use Rattle.transcript.proofs.TurnsHold.{turns-print}
 use Rattle.desk.specs.Entries.{Entry, read, write, analyze, next-violation, prune, repair-forward, Lent, Back, programIn, Gives}
 use Rattle.demands.specs.Lists.{Repair, Call, entry, wrote, Gave}
 use Rattle.demands.specs.Inputs.{SameInputs}
-use Rattle.demands.specs.Demands.{Demand1, Acceptance, withWritten, WrittenFile, ChangedFile, Tabulated, Demand2, Safe, Next, Procedure, Heeds, OnActions, movesBefore, Demand3, keepingOf}
+use Rattle.demands.specs.Demands.{Demand1, Acceptance, withWritten, WrittenFile, ChangedFile, Tabulated, Demand2, Safe, Next, Procedure, Heeds, OnActions, movesBefore, OneLook, Demand3, keepingOf}
 use Rattle.demands.specs.Cases.{Case, Holds, table}
 use Rattle.demands.proofs.RefusalsReturned.{gives-demanded}
 use Rattle.demands.proofs.OneAnswer.{given-once}
@@ -36,6 +38,7 @@ use Rattle.demands.proofs.ChangesAccepted.{changed-files}
 use Rattle.demands.proofs.BenchTooLong.{too-long}
 use Rattle.demands.proofs.AnalysisAnswers.{analyzed-exact, count-safe, next-given, procedure-ends}
 use Rattle.demands.proofs.EventsHeeded.{call-heeded, return-heeded, as-before}
+use Rattle.demands.proofs.LookAnswers.{look-answers}
 use Rattle.demands.proofs.PruneKeeps.{pruned, drop-kept}
 use Rattle.demands.proofs.PassDepends.{depends}
 use Rattle.demands.proofs.ListsNeverDrift.{list-demanded}
@@ -109,6 +112,10 @@ returns-heard = return-heeded
 -- for a rule without a line for a call or a return the moves are what they were
 pub moves-as-before : (r : Automaton) → OnActions r → (q : ℕ) (e : Event) (s : ℕ) → moves r q e s ≡ movesBefore r q e s
 moves-as-before = as-before
+
+-- one look at the rule: what `next_after` gives for every state and label, in the table that `next_states` makes of an accepted program
+pub one-look : (p : Program) → WellFormed p → (sets : List ℕ) → Answers (p .automaton) (p .routines) sets → OneLook p (setAt sets)
+one-look = look-answers
 
 -- ---- demand 3
 

@@ -6,6 +6,7 @@ pub mod FilesAccepted
 pub mod AnalysisAnswers
 pub mod BenchTooLong
 pub mod EventsHeeded
+pub mod LookAnswers
 pub mod PassDepends
 pub mod EntriesGive
 pub mod ChangesAccepted

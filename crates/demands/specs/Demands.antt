@@ -10,6 +10,7 @@ use lib.ListN.{getD, length}
 use Rattle.program.specs.Sizes.{marksSize, outputSize}
 use Rattle.automaton.specs.Sizes.{firstCall}
 use Rattle.automaton.specs.Automaton.{Transition, Automaton, labelOf, listed, moves, isRejecting}
+use Rattle.automaton.specs.NextStates.{EventOf}
 use Rattle.automaton.specs.declared.Event.{Event}
 use Rattle.automaton.specs.declared.Event.the-variants as event
 use Rattle.rows.specs.Rows.{TableRow, meets, timesMet}
@@ -22,6 +23,7 @@ use Rattle.reach.specs.Runs.{Activation, Run, Occurs}
 use Rattle.reach.specs.Worklist.{analysis}
 use Rattle.reach.specs.Takings.{takenIn, times}
 use Rattle.reach.specs.Marks.{violations}
+use Rattle.base.specs.Bits.{bit}
 use Rattle.base.specs.Flags.{countSet}
 use Rattle.reach.specs.Violations.{Violation, Ascends}
 use Rattle.exchange.specs.Changes.{Change, Read}
@@ -163,6 +165,19 @@ abbrev pub movesBefore : Automaton → ℕ → Event → ℕ → Bool
 movesBefore r q (event.Action a) s = listed q a s (r .transitions)
 movesBefore r q (event.Call f) s = ltb q (r .states) && eqb q s
 movesBefore r q (event.Return f) s = ltb q (r .states) && eqb q s
+
+-- ---- one look at the rule: a state and a label (an action, a call or a return) give all next states at once, as bits
+
+-- of a program, and what the look gives for a state and a label
+pub record OneLook (p : Program) (look : ℕ → ℕ → ℕ) : Type 0 where
+  -- for a state and an event of the program bit s is set exactly when the rule can then be in state s
+  pub bits : (q : ℕ) (e : Event) → q < p .automaton .states → EventOf (p .automaton) (p .routines) e
+      → (s : ℕ) → (bit s (look q (labelOf e)) ≡ true) ↔ (moves (p .automaton) q e s ≡ true)
+  -- a state outside the program's range gives no bit
+  pub no-state : (q l s : ℕ) → p .automaton .states ≤ q → bit s (look q l) ≡ false
+  -- nor does a label outside it, which no event of the program has
+  pub no-label : (q l s : ℕ) → ((e : Event) → EventOf (p .automaton) (p .routines) e → labelOf e ≢ l)
+      → bit s (look q l) ≡ false
 
 -- ---- demand 3: for every list of forward and inside-out repair calls, by edit lines and by exchanges of routines,
 -- refused ones among them, the sheet is byte for byte the one worked afresh from the program as a plain reference model
