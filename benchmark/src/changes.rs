@@ -2,6 +2,7 @@
 //! changed program.
 
 use crate::library::{Buffers, Repair};
+use crate::tables::Tables;
 use crate::{print_row, rates, Input};
 use reference::generate::edits::steps_that_act;
 use reference::model::change::Change;
@@ -17,7 +18,7 @@ const CHANGES: usize = 4;
 
 const ABOUT: &str = "\
 A change by the forward and by the inside-out repair beside the analysis of the changed program,
-all by the library through its C interface, for the same programs and timed in the same way. In
+by the library through its C interface, for the same programs and timed in the same way. In
 each program a few steps are chosen, spread evenly over those that begin where something is marked.
 'drop' drops such a step, 'add' puts it back into the program without it, and 'replace' gives it
 the next label that no step between the same places has. 'exchange' exchanges the step's routine
@@ -30,8 +31,9 @@ by a full analysis of the old program: so it cannot be faster than one analysis 
 For 'add' that is the analysis in the row of 'drop', and for the others the one in the row of
 'add'; but the rows are timed one after the other, so on a busy machine numbers of different rows
 compare only roughly. A ratio stands after its repair; above 1 it means that the repair is faster
-than the analysis of the changed program. Standings of the changed program, and marks that differ
-from the old ones ('changed'), are means.
+than the analysis of the changed program. 'plain' is how many of these analyses 'plain' of the
+table above makes a second. Standings of the changed program, and marks that differ from the old
+ones ('changed'), are means.
 ";
 
 /// The two repairs for a change of one form.
@@ -57,6 +59,7 @@ struct Task {
     /// What the repairs are handed for the change: an edit line, or the text of an exchange.
     text: Vec<u8>,
     new_file: Vec<u8>,
+    new_tables: Tables,
     counts: [u32; 3],
     /// How many marks become different.
     changed: usize,
@@ -81,6 +84,11 @@ fn analysis(task: &Task, buffers: &mut Buffers) -> bool {
     buffers.analyze(&task.new_file) == task.counts
 }
 
+/// Whether `plain` counts the same for the changed program.
+fn plain(task: &Task, buffers: &mut Buffers) -> bool {
+    crate::plain::analyze(&task.new_tables, &mut buffers.marks) == task.counts
+}
+
 /// The repairs for a change, and the text that they are handed for it.
 fn repairs_and_text(change: &Change) -> (Repairs, Vec<u8>) {
     match change {
@@ -92,7 +100,8 @@ fn repairs_and_text(change: &Change) -> (Repairs, Vec<u8>) {
 /// A change of a program, after all sides have made it and agree.
 fn task(old: &Program, change: &Change) -> Task {
     let (repairs, text) = repairs_and_text(change);
-    let (old_file, new_file) = (write(old), write(&change.after(old)));
+    let new = change.after(old);
+    let (old_file, new_file) = (write(old), write(&new));
     let mut buffers = Buffers::new();
     buffers.analyze(&old_file);
     let old_marks = buffers.marks.clone();
@@ -106,6 +115,7 @@ fn task(old: &Program, change: &Change) -> Task {
         repairs,
         text,
         new_file,
+        new_tables: Tables::new(&new),
         counts,
         changed,
     };
@@ -115,6 +125,8 @@ fn task(old: &Program, change: &Change) -> Task {
         let written = &buffers.output[..task.new_file.len()];
         assert_eq!(written, task.new_file, "the repair writes the changed file");
     }
+    assert!(plain(&task, &mut buffers), "all sides count the same");
+    assert_eq!(buffers.marks, new_marks, "all sides mark the same");
     task
 }
 
@@ -175,7 +187,7 @@ const CHANGE_KINDS: [(&str, ChangeKind); 4] = [
 ];
 
 type Side = fn(&Task, &mut Buffers) -> bool;
-const SIDES: [Side; 3] = [forward, inside_out, analysis];
+const SIDES: [Side; 4] = [forward, inside_out, analysis, plain];
 
 /// One turn: every change once. The answer has to be right each time.
 fn turn(side: Side, tasks: &[Task], buffers: &mut Buffers) -> Duration {
@@ -186,14 +198,14 @@ fn turn(side: Side, tasks: &[Task], buffers: &mut Buffers) -> Duration {
     begin.elapsed()
 }
 
-/// Repairs of each kind and analyses a second.
-fn measure(tasks: &[Task]) -> [f64; 3] {
+/// Repairs of each kind, analyses, and those of `plain` a second.
+fn measure(tasks: &[Task]) -> [f64; 4] {
     let mut buffers = Buffers::new();
     rates(tasks.len(), |side| turn(SIDES[side], tasks, &mut buffers))
 }
 
 fn measure_row(kind: &str, change: &str, tasks: &[Task]) {
-    let [forward, inside_out, analyses] = measure(tasks);
+    let [forward, inside_out, analyses, plain] = measure(tasks);
     let standings: u32 = tasks.iter().map(|task| task.counts[0]).sum();
     let changed: usize = tasks.iter().map(|task| task.changed).sum();
     let cells = [
@@ -205,6 +217,7 @@ fn measure_row(kind: &str, change: &str, tasks: &[Task]) {
         format!("{inside_out:.0}"),
         format!("{:.2}", inside_out / analyses),
         format!("{analyses:.0}"),
+        format!("{plain:.0}"),
     ];
     print_row(kind, cells);
 }
@@ -221,6 +234,7 @@ pub fn print_table(kinds: &[(&str, Vec<Input>)]) {
         "inside-out",
         "ratio",
         "analyses",
+        "plain",
     ];
     print_row("changes a second", names.map(String::from));
     for (kind, inputs) in kinds {

@@ -1,19 +1,26 @@
 //! How many programs a second the proved analysis does, through the C interface, beside the same
-//! procedure in plain Rust; and how many changes the two repairs make.
+//! procedure in plain Rust, written twice; and how many changes the two repairs make.
+//!
+//! - `library` calls the proved library.
+//! - `plain` is the procedure written straight from its description, `packed` the same tuned
+//!   further, and `tables` what they have in common.
+//! - `programs` makes what is measured.
+//! - `changes` measures the repairs.
 
 mod changes;
 mod library;
+mod packed;
 mod plain;
 mod programs;
+mod tables;
 
 use library::Buffers;
-use plain::{Search, Tables};
 use reference::generate::programs::{hub, hub_of_roots};
 use reference::generate::shapes::Shape;
 use reference::model::program::Program;
-use reference::model::standing::SHEET_SIZE;
 use reference::model::write::write;
 use std::time::{Duration, Instant};
+use tables::Tables;
 
 /// How many programs of each kind are measured.
 const PROGRAMS: usize = 6;
@@ -21,23 +28,28 @@ const PROGRAMS: usize = 6;
 const AT_LEAST: Duration = Duration::from_millis(1500);
 
 const ABOUT: &str = "\
-The analysis of large programs, the library through its C interface beside plain Rust, both
-compiled for release. Each kind is several programs, all of them analyzed in turn by one side
-and then by the other, until each side has had its time; a first turn is not counted.
-The library gets the file and reads it every time; plain Rust gets the program decoded, so the
-column 'reading' says how many files a second the library only reads.
-Nobody clears the buffers between calls: they come as the call before left them. Both sides
-clear what they need, within the time measured.
-'plain' looks for the lowest waiting standing from number 0 every time, 'kept' from the lowest
-number at which one can be. A ratio above 1 means that the library is faster. Standings and
-takings are the means over the programs of a kind.
+The analysis of large programs, the library through its C interface beside the same procedure in
+plain Rust, written twice, all compiled for release. Each kind is several programs, all of them
+analyzed in turn by one side; next is always the side that has had the least time, until each has
+had enough. A first turn is not counted.
+'plain' is the procedure written straight from its description. Steps are found by their place and
+next states in a table, the sheet holds the marks, and what waits and the pairs are bits.
+'packed' is tuned further. The marks of a place are one word until the sheet is written at the end,
+and the pairs are folded into one table with the moves of calls and returns.
+Each 'ratio' is the library's time over that of the side before it: at 2.00 the library takes twice
+the time.
+Nobody clears the buffers between calls: they come as the call before left them. All sides clear
+what they need, and make what they look things up in, within the time measured. The library gets
+the file and reads it every time; the other two get the program decoded. 'reading' is how many
+files a second the library only reads.
+Standings and takings are the means over the programs of a kind.
 The rules of the last four kinds hear calls and returns, and those of the others do not. In the
 two kinds 'all heard' every call and every return permutes the states. In 'heard, to two states'
 each of them leads to two, so that there are very many takings. In 'one place, all roots' calls
 alone are heard and each leads to all 8 roots, so that one standing is taken 1,025 times.
 ";
 
-/// One program in the forms that the two sides take.
+/// One program in the forms that the sides take.
 struct Input {
     program: Program,
     file: Vec<u8>,
@@ -55,44 +67,40 @@ fn reading(input: &Input, _: &mut Buffers) -> [u32; 3] {
     input.counts
 }
 
-fn from_start(input: &Input, buffers: &mut Buffers) -> [u32; 3] {
-    let Buffers { marks, work, .. } = buffers;
-    plain::analyze(&input.tables, Search::FromStart, marks, work)
+fn plain(input: &Input, buffers: &mut Buffers) -> [u32; 3] {
+    plain::analyze(&input.tables, &mut buffers.marks)
 }
 
-fn from_lowest(input: &Input, buffers: &mut Buffers) -> [u32; 3] {
-    let Buffers { marks, work, .. } = buffers;
-    plain::analyze(&input.tables, Search::FromLowest, marks, work)
+fn packed(input: &Input, buffers: &mut Buffers) -> [u32; 3] {
+    packed::analyze(&input.tables, &mut buffers.marks)
 }
 
 type Side = fn(&Input, &mut Buffers) -> [u32; 3];
-const SIDES: [Side; 4] = [library, reading, from_start, from_lowest];
+const SIDES: [Side; 4] = [library, reading, plain, packed];
 
 /// One turn: every program once. The counts have to be right each time.
 fn turn(side: Side, inputs: &[Input], buffers: &mut Buffers) -> Duration {
     let begin = Instant::now();
     for input in inputs {
         let counts = side(input, buffers);
-        assert_eq!(counts, input.counts, "the two sides do not agree");
+        assert_eq!(counts, input.counts, "the sides do not agree");
     }
     begin.elapsed()
 }
 
-/// How many items a second each side does, where `turn` is a side's time for all of them once. The
-/// sides take turns, so that what else the machine does disturbs them alike; a first turn is not
-/// counted.
+/// How many items a second each side does, where `turn` is a side's time for all of them once. Next
+/// is the side that has had the least time, so that what else the machine does disturbs them alike,
+/// however much their speeds differ; a first turn is not counted.
 fn rates<const N: usize>(items: usize, mut turn: impl FnMut(usize) -> Duration) -> [f64; N] {
     let (mut times, mut turns) = ([Duration::ZERO; N], [0; N]);
     for side in 0..N {
         turn(side);
     }
     while times.iter().any(|&time| time < AT_LEAST) {
-        for side in 0..N {
-            if times[side] < AT_LEAST {
-                times[side] += turn(side);
-                turns[side] += 1;
-            }
-        }
+        let next = (0..N).min_by_key(|&side| times[side]);
+        let side = next.expect("some side has its time to come");
+        times[side] += turn(side);
+        turns[side] += 1;
     }
     let mut rates = [0.0; N];
     for side in 0..N {
@@ -107,20 +115,28 @@ fn measure(inputs: &[Input]) -> [f64; 4] {
     rates(inputs.len(), |side| turn(SIDES[side], inputs, &mut buffers))
 }
 
+/// A program, after all sides have analyzed it and agree.
 fn input(program: &Program) -> Input {
-    let tables = Tables::new(program);
-    let (mut marks, mut work) = (vec![0; SHEET_SIZE], vec![0; SHEET_SIZE]);
-    let counts = plain::analyze(&tables, Search::FromStart, &mut marks, &mut work);
     let file = write(program);
     let mut buffers = Buffers::new();
-    buffers.analyze(&file);
-    assert_eq!(buffers.marks, marks, "the two sides do not mark the same");
-    Input {
+    let counts = buffers.analyze(&file);
+    let marks = buffers.marks.clone();
+    let input = Input {
         program: program.clone(),
         file,
-        tables,
+        tables: Tables::new(program),
         counts,
+    };
+    for side in [plain, packed] {
+        let mut buffers = Buffers::new();
+        assert_eq!(
+            side(&input, &mut buffers),
+            counts,
+            "all sides count the same"
+        );
+        assert_eq!(buffers.marks, marks, "all sides mark the same");
     }
+    input
 }
 
 /// The first of these programs that have so many standings.
@@ -148,9 +164,9 @@ fn print_row<const N: usize>(kind: &str, cells: [String; N]) {
 }
 
 fn measure_row(kind: &str, inputs: &[Input]) {
-    let [library, reading, plain, kept] = measure(inputs);
+    let [library, reading, plain, packed] = measure(inputs);
     let whole = |rate: f64| format!("{rate:.0}");
-    let ratio = |rate: f64| format!("{:.2}", library / rate);
+    let ratio = |other: f64| format!("{:.2}", other / library);
     let cells = [
         mean(inputs, 0).to_string(),
         mean(inputs, 2).to_string(),
@@ -158,8 +174,8 @@ fn measure_row(kind: &str, inputs: &[Input]) {
         whole(reading),
         whole(plain),
         ratio(plain),
-        whole(kept),
-        ratio(kept),
+        whole(packed),
+        ratio(packed),
     ];
     print_row(kind, cells);
 }
@@ -173,7 +189,7 @@ fn main() {
         "reading",
         "plain",
         "ratio",
-        "kept",
+        "packed",
         "ratio",
     ];
     print_row("programs a second", names.map(String::from));

@@ -1,213 +1,257 @@
-//! The lowest-first procedure as one would write it in Rust: a byte for every flag, and the steps
-//! and rule lines gone through from the first to the last. What calls and returns do to a state,
-//! which is nothing where the rule does not hear them, is looked up.
+//! The lowest-first procedure in plain Rust, written straight from its description, to set beside
+//! the proved library.
+//!
+//! The steps of a place and the callers of a routine are found by an index, and next states in a
+//! table. The sheet holds the marks, a byte each, and standings are marked one by one. What waits,
+//! the pairs and all sets of states are bits.
 
-use reference::model::program::{Label, Program, Step, EXIT, FIRST_CALL, FIRST_RETURN};
-use reference::model::standing::SHEET_SIZE;
+use crate::tables::{
+    bits, moves_by_label, place_number, states_as_bits, Moves, Tables, LABELS, PLACES, ROUTINES,
+    ROUTINE_PLACES, STATES, WORD,
+};
+use reference::model::program::{Label, Step, EXIT, FIRST_CALL, FIRST_RETURN, TABLE_ROWS};
 
-/// A rule line: its state, its label and its next state.
-type Line = [u8; 3];
+/// How many standings there are at a place: one for each root and state.
+const PLACE_STANDINGS: usize = STATES * STATES;
+/// How many words have a bit for each standing.
+const WORDS: usize = PLACES * PLACE_STANDINGS / WORD;
 
-/// The states, as bits, to which a call or a return leads from each state.
-type Moves = [u8; 8];
-
-/// A program with its tables as plain rows.
-pub struct Tables {
-    steps: Vec<Step>,
-    rule: Vec<Line>,
-    /// The moves of each routine's calls, and of its returns.
-    calls: Vec<Moves>,
-    returns: Vec<Moves>,
-    starts: Vec<u8>,
-    forbidden: Vec<u8>,
+/// A standing's number. That of its place says its routine too.
+fn standing_number(place: usize, root: usize, state: usize) -> usize {
+    place * PLACE_STANDINGS + root * STATES + state
 }
 
-impl Tables {
-    pub fn new(program: &Program) -> Tables {
-        let rule: Vec<Line> = program.rule.iter().map(|line| line.numbers()).collect();
-        let moves_from = |first_label: u8| {
-            let labels = first_label..first_label + program.routines();
-            labels.map(|label| moves(&rule, label)).collect()
+/// Counts become where each begins, if the count of each stands one after its own place.
+fn begin_after_each_other(counts: &mut [u16]) {
+    for at in 1..counts.len() {
+        counts[at] += counts[at - 1];
+    }
+}
+
+/// What every taking looks up, made once before the first.
+struct Index<'a> {
+    /// The steps in their order: those of a place stand side by side.
+    steps: &'a [Step],
+    /// Where the steps of each place begin, and the end of the last.
+    first_step: [u16; PLACES + 1],
+    /// The places of the steps that call, those that call the same routine side by side.
+    callers: [u8; TABLE_ROWS],
+    /// Where the callers of each routine begin, and the end of the last.
+    first_caller: [u16; ROUTINES + 1],
+    moves: [Moves; LABELS],
+}
+
+impl<'a> Index<'a> {
+    fn new(tables: &'a Tables) -> Index<'a> {
+        let mut index = Index {
+            steps: &tables.steps,
+            first_step: [0; PLACES + 1],
+            callers: [0; TABLE_ROWS],
+            first_caller: [0; ROUTINES + 1],
+            moves: moves_by_label(&tables.rule),
         };
-        Tables {
-            steps: program.steps.iter().copied().collect(),
-            calls: moves_from(FIRST_CALL),
-            returns: moves_from(FIRST_RETURN),
-            rule,
-            starts: program.starts.iter().copied().collect(),
-            forbidden: program.forbidden.iter().copied().collect(),
+        index.count_steps();
+        begin_after_each_other(&mut index.first_step);
+        begin_after_each_other(&mut index.first_caller);
+        index.list_callers();
+        index
+    }
+
+    fn count_steps(&mut self) {
+        for step in self.steps {
+            self.first_step[place_number(step.routine, step.from) + 1] += 1;
+            if let Label::Call(routine) = step.label {
+                self.first_caller[usize::from(routine) + 1] += 1;
+            }
         }
     }
-}
 
-/// What a call or a return of this label does: it moves as its lines say, and where it has none it
-/// leaves every state alone.
-fn moves(rule: &[Line], label: u8) -> Moves {
-    let mut moves = [0; 8];
-    for &[from, _, to] in rule.iter().filter(|line| line[1] == label) {
-        moves[usize::from(from)] |= 1 << to;
+    fn list_callers(&mut self) {
+        let mut next = self.first_caller;
+        for step in self.steps {
+            if let Label::Call(routine) = step.label {
+                let at = &mut next[usize::from(routine)];
+                self.callers[usize::from(*at)] = place_number(step.routine, step.from) as u8;
+                *at += 1;
+            }
+        }
     }
-    if moves == [0; 8] {
-        [0, 1, 2, 3, 4, 5, 6, 7].map(|state| 1 << state)
-    } else {
-        moves
+
+    fn steps_from(&self, place: usize) -> &'a [Step] {
+        &self.steps[self.first_step[place].into()..self.first_step[place + 1].into()]
+    }
+
+    fn callers_of(&self, routine: usize) -> &[u8] {
+        &self.callers[self.first_caller[routine].into()..self.first_caller[routine + 1].into()]
+    }
+
+    fn moves_of_call(&self, routine: usize) -> &Moves {
+        &self.moves[usize::from(FIRST_CALL) + routine]
+    }
+
+    fn moves_of_return(&self, routine: usize) -> &Moves {
+        &self.moves[usize::from(FIRST_RETURN) + routine]
+    }
+
+    /// The states in which a call of this routine can give it this root.
+    fn giving(&self, routine: usize, root: usize) -> u8 {
+        let calls = self.moves_of_call(routine);
+        (0..STATES).fold(0, |bits, state| bits | (calls[state] >> root & 1) << state)
     }
 }
 
-/// Whether a state is among these bits.
-fn has(bits: u8, state: u8) -> bool {
-    bits >> state & 1 != 0
-}
-
-fn states_of(bits: u8) -> impl Iterator<Item = u8> {
-    (0..8).filter(move |&state| has(bits, state))
-}
-
-/// How the lowest waiting standing is looked for.
-#[derive(Clone, Copy, PartialEq, Eq)]
-pub enum Search {
-    /// From number 0, every time.
-    FromStart,
-    /// From the last one taken, or from a lower one that was set waiting since.
-    FromLowest,
-}
-
-/// The flags, lent by the caller, and the lowest number that may be waiting.
-struct Flags<'a> {
+/// How far the procedure has come.
+struct Progress<'a> {
+    /// A byte for each standing: 1 where it is marked, and else 0.
     marks: &'a mut [u8],
-    waiting: &'a mut [u8],
-    lowest: usize,
+    /// A bit for each standing: whether it waits.
+    waiting: [u64; WORDS],
+    /// No word before this one has a bit that waits.
+    lowest_word: usize,
+    /// The pairs: for each routine and root the states, as bits, in which it is known to end.
+    ends: [[u8; STATES]; ROUTINES],
 }
 
-impl Flags<'_> {
-    fn wait(&mut self, number: usize) {
-        self.waiting[number] = 1;
-        self.lowest = self.lowest.min(number);
-    }
-
-    fn mark(&mut self, number: usize) {
-        if self.marks[number] == 0 {
-            self.marks[number] = 1;
-            self.wait(number);
+impl<'a> Progress<'a> {
+    fn none(sheet: &'a mut [u8]) -> Progress<'a> {
+        sheet.fill(0);
+        Progress {
+            marks: sheet,
+            waiting: [0; WORDS],
+            lowest_word: WORDS,
+            ends: [[0; STATES]; ROUTINES],
         }
     }
-}
 
-fn number(routine: u8, place: u8, root: u8, state: u8) -> usize {
-    let place = usize::from(routine) * 16 + usize::from(place);
-    (place * 8 + usize::from(root)) * 8 + usize::from(state)
-}
-
-/// The counts of standings, findings and takings. The sheet goes to `marks`; both buffers are
-/// cleared first.
-pub fn analyze(tables: &Tables, search: Search, marks: &mut [u8], waiting: &mut [u8]) -> [u32; 3] {
-    marks.fill(0);
-    waiting.fill(0);
-    let mut known = [0; SHEET_SIZE / 16];
-    let mut flags = Flags {
-        marks,
-        waiting,
-        lowest: 0,
-    };
-    for &state in &tables.starts {
-        flags.mark(number(0, 0, state, state));
+    fn wait(&mut self, standing: usize) {
+        let word = standing / WORD;
+        self.waiting[word] |= 1 << (standing % WORD);
+        self.lowest_word = self.lowest_word.min(word);
     }
-    let mut takings = 0;
-    loop {
-        let from = if search == Search::FromStart {
-            0
+
+    fn mark(&mut self, standing: usize) {
+        if self.marks[standing] == 0 {
+            self.marks[standing] = 1;
+            self.wait(standing);
+        }
+    }
+
+    fn mark_states(&mut self, place: usize, root: usize, states: u8) {
+        for state in bits(states.into()) {
+            self.mark(standing_number(place, root, state));
+        }
+    }
+
+    fn mark_entries(&mut self, routine: u8, roots: u8) {
+        for root in bits(roots.into()) {
+            self.mark(standing_number(place_number(routine, 0), root, root));
+        }
+    }
+
+    /// The number of the lowest standing that waits. It waits no longer.
+    fn take_lowest(&mut self) -> Option<usize> {
+        while self.lowest_word < WORDS {
+            let waiting = self.waiting[self.lowest_word];
+            if waiting != 0 {
+                self.waiting[self.lowest_word] = waiting & (waiting - 1);
+                return Some(self.lowest_word * WORD + waiting.trailing_zeros() as usize);
+            }
+            self.lowest_word += 1;
+        }
+        None
+    }
+
+    /// Takes a standing: at an exit a pair is known, and elsewhere every step is followed.
+    fn take(&mut self, index: &Index, standing: usize) {
+        let place = standing / PLACE_STANDINGS;
+        let root = standing / STATES % STATES;
+        let state = standing % STATES;
+        if place % ROUTINE_PLACES == usize::from(EXIT) {
+            let routine = place / ROUTINE_PLACES;
+            self.ends[routine][root] |= 1 << state;
+            self.wake_callers(index, routine, root);
         } else {
-            flags.lowest
+            for step in index.steps_from(place) {
+                self.follow(index, step, root, state);
+            }
+        }
+    }
+
+    fn follow(&mut self, index: &Index, step: &Step, root: usize, state: usize) {
+        let next = match step.label {
+            Label::Action(action) => index.moves[usize::from(action)][state],
+            Label::Call(routine) => {
+                let roots = index.moves_of_call(routine.into())[state];
+                self.mark_entries(routine, roots);
+                self.returned(index, routine.into(), roots)
+            }
         };
-        let found = flags.waiting[from..].iter().position(|&flag| flag != 0);
-        let taken = match found {
-            Some(at) => from + at,
-            None => break,
-        };
-        flags.lowest = taken;
-        flags.waiting[taken] = 0;
+        self.mark_states(place_number(step.routine, step.to), root, next);
+    }
+
+    /// The states after the return of a routine that began with one of these roots, by the pairs.
+    fn returned(&self, index: &Index, routine: usize, roots: u8) -> u8 {
+        let returns = index.moves_of_return(routine);
+        let ends = bits(roots.into()).fold(0, |ends, root| ends | self.ends[routine][root]);
+        bits(ends.into()).fold(0, |states, end| states | returns[end])
+    }
+
+    /// Sets waiting what is marked and can give a routine this root by a call.
+    fn wake_callers(&mut self, index: &Index, routine: usize, root: usize) {
+        let giving = index.giving(routine, root);
+        for &place in index.callers_of(routine) {
+            self.wake(place.into(), giving);
+        }
+    }
+
+    /// Sets waiting what is marked at a place in these states, with any root.
+    fn wake(&mut self, place: usize, states: u8) {
+        for root in 0..STATES {
+            self.wake_states(place, root, states);
+        }
+    }
+
+    fn wake_states(&mut self, place: usize, root: usize, states: u8) {
+        for state in bits(states.into()) {
+            let standing = standing_number(place, root, state);
+            if self.marks[standing] != 0 {
+                self.wait(standing);
+            }
+        }
+    }
+}
+
+/// How many of the states of one place and root are marked, and how many of these are forbidden.
+fn count_states(marks: &[u8], forbidden: u8) -> [u32; 2] {
+    let (mut standings, mut findings) = (0, 0);
+    for (state, &mark) in marks.iter().enumerate() {
+        standings += u32::from(mark);
+        findings += u32::from(mark & forbidden >> state);
+    }
+    [standings, findings]
+}
+
+/// The counts of standings and findings, by one pass over the sheet.
+fn count(marks: &[u8], forbidden: u8) -> [u32; 2] {
+    let (mut standings, mut findings) = (0, 0);
+    for states in marks.chunks_exact(STATES) {
+        let counts = count_states(states, forbidden);
+        standings += counts[0];
+        findings += counts[1];
+    }
+    [standings, findings]
+}
+
+/// The counts of standings, findings and takings. The sheet is written whole, whatever was there.
+pub fn analyze(tables: &Tables, sheet: &mut [u8]) -> [u32; 3] {
+    let index = Index::new(tables);
+    let mut progress = Progress::none(sheet);
+    progress.mark_entries(0, states_as_bits(&tables.starts));
+    let mut takings = 0;
+    while let Some(standing) = progress.take_lowest() {
         takings += 1;
-        take(tables, &mut flags, &mut known, taken);
+        progress.take(&index, standing);
     }
-    let standings = flags.marks.iter().map(|&flag| u32::from(flag)).sum();
-    [standings, findings(tables, flags.marks), takings]
-}
-
-fn findings(tables: &Tables, marks: &[u8]) -> u32 {
-    let is_finding =
-        |&(at, &flag): &(usize, &u8)| flag != 0 && tables.forbidden.contains(&((at % 8) as u8));
-    marks.iter().enumerate().filter(is_finding).count() as u32
-}
-
-fn take(tables: &Tables, flags: &mut Flags, known: &mut [u8], taken: usize) {
-    let (routine, place) = ((taken / 1024) as u8, (taken / 64 % 16) as u8);
-    let (root, state) = ((taken / 8 % 8) as u8, (taken % 8) as u8);
-    if place == EXIT {
-        known[pair(routine, root, state)] = 1;
-        wake_callers(tables, flags, routine, root);
-        return;
-    }
-    for step in &tables.steps {
-        if step.routine != routine || step.from != place {
-            continue;
-        }
-        match step.label {
-            Label::Action(action) => {
-                for &[from, label, to] in &tables.rule {
-                    if from == state && label == action {
-                        flags.mark(number(routine, step.to, root, to));
-                    }
-                }
-            }
-            Label::Call(callee) => {
-                for next in states_of(call(tables, flags, known, callee, state)) {
-                    flags.mark(number(routine, step.to, root, next));
-                }
-            }
-        }
-    }
-}
-
-/// Marks the entry for each root that a call gives in this state. Returns the states, as bits, to
-/// which the return leads from the ends that are known for these roots.
-fn call(tables: &Tables, flags: &mut Flags, known: &[u8], callee: u8, state: u8) -> u8 {
-    let calls = tables.calls[usize::from(callee)];
-    let returns = tables.returns[usize::from(callee)];
-    let mut returned = 0;
-    for root in states_of(calls[usize::from(state)]) {
-        flags.mark(number(callee, 0, root, root));
-        for end in 0..8 {
-            if known[pair(callee, root, end)] != 0 {
-                returned |= returns[usize::from(end)];
-            }
-        }
-    }
-    returned
-}
-
-fn pair(routine: u8, root: u8, state: u8) -> usize {
-    (usize::from(routine) * 8 + usize::from(root)) * 8 + usize::from(state)
-}
-
-/// Sets waiting each marked standing from which a call of this routine can give it this root.
-fn wake_callers(tables: &Tables, flags: &mut Flags, callee: u8, given: u8) {
-    for step in &tables.steps {
-        if step.label == Label::Call(callee) {
-            for state in 0..8 {
-                if has(tables.calls[usize::from(callee)][usize::from(state)], given) {
-                    wake_callers_at(flags, step, state);
-                }
-            }
-        }
-    }
-}
-
-/// Sets waiting each marked standing in this state from which this step leads.
-fn wake_callers_at(flags: &mut Flags, step: &Step, state: u8) {
-    for root in 0..8 {
-        let caller = number(step.routine, step.from, root, state);
-        if flags.marks[caller] != 0 {
-            flags.wait(caller);
-        }
-    }
+    let [standings, findings] = count(sheet, states_as_bits(&tables.forbidden));
+    [standings, findings, takings]
 }
