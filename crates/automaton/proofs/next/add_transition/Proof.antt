@@ -1,4 +1,5 @@
 -- `automaton::next::add_transition` meets its contract.
+use native.Mathlib.Omega.{arith}
 use borrow.Author.Needs.{needs}
 use borrow.Author.Tests.{lt-ltb, le-ltb}
 use Rattle.automaton.specs.NextStates.{withTransition}
@@ -6,7 +7,9 @@ use Rattle.automaton.proofs.next.add_transition.Statement.{statement}
 use Rattle.automaton.proofs.next.add_transition.Tie as tie
 
 add-state-requires : tie.Need-add-state-requires
-add-state-requires c κs = c .before .before .before .before .if2 .taken
+add-state-requires c κs =
+    let two = c .before .before .before .before in
+    omega (arith, two .if2 .taken, two .before .before .if1 .taken)
 
 returns : tie.Need-returns
 unfolding withTransition
