@@ -4,14 +4,13 @@ use mathlib.Core.Path.{_≡_, refl, sym, ap, _∙_}
 use mathlib.Core.Bool.{Bool, true, false, cond, not, _&&_}
 use mathlib.Core.List.{List}
 use native.Mathlib.Omega.{arith}
-use lib.Dec.{eqb, ltb}
+use lib.Dec.{eqb}
 use lib.ListN.{length, getD, drop, drop-of-length-le}
 use lib.Pow.{field, mod-mod-pow, shr-shr}
 use lib.Seq.{drop-cons}
 use borrow.Author.Tests.{lt-ltb, lt-leb, le-leb, ltb-true, ltb-false, eqb-true}
 use Rattle.base.specs.Bits.{bit}
 use Rattle.base.specs.Flags.{isSet}
-use Rattle.base.proofs.Bools.{never, both, either}
 use Rattle.automaton.specs.Sizes.{maxStates, firstCall}
 use Rattle.automaton.specs.Automaton.{moves, callOf, labelOf, labelFits}
 use Rattle.automaton.specs.NextStates.{setAt, Answers, EventOf}
@@ -19,13 +18,14 @@ use Rattle.automaton.specs.declared.Event.{Event}
 use Rattle.automaton.specs.declared.Event.the-variants.{Action, Call, Return}
 use Rattle.automaton.proofs.MovesAsked.{asked}
 use Rattle.program.specs.Sizes.{maxRoutines}
-use Rattle.program.specs.Program.{Edge, Program, isAction, isCall, calledBy}
+use Rattle.program.specs.Program.{Edge, Program, isAction, calledBy}
 use Rattle.program.specs.WellFormed.{WellFormed}
 use Rattle.program.specs.Decoded.{edgeOf}
 use Rattle.program.proofs.ProgramLimits.{well-formed-limits}
 use Rattle.program.proofs.ProgramRanged.{ranged}
 use Rattle.reach.specs.Configurations.{number}
 use Rattle.reach.specs.Runs.{eventOf}
+use Rattle.reach.proofs.Labels.{call-label, action-label, label-event}
 use Rattle.reach.specs.Worklist.{Worklist, mark, markWhen, summary, isKnown}
 use Rattle.reach.specs.Worklist.{onEvent, eventWhen, onReturns, rootWhen, onCall, onLabel, labelWhen, onSteps}
 use Rattle.reach.specs.Worklist.{wakeRoots, calls, wakeWhen, wakeStates, callerWhen, wakeCallers}
@@ -156,16 +156,14 @@ module _ (p : Program) (next : List ℕ) (w : WellFormed p) (ans : Answers (p .a
 
 -- the label of an edge that fits is that of an action or calls one of the routines
 module _ (p : Program) (w : WellFormed p) (label : ℕ) (fits : labelFits (p .routines) (p .automaton .actions) label ≡ true) where
+  event-fits : EventOf (p .automaton) (p .routines) (eventOf label)
+  event-fits = label-event (p .automaton) (p .routines) (ranged p w .actions) label fits
+
   action-fits : label < firstCall → label < p .automaton .actions
-  action-fits h =
-      either (ltb label (p .automaton .actions)) _ fits (λ e. ltb-true label (p .automaton .actions) e)
-      (λ e. absurd (never (both (isCall label) _ e .0) (lt-leb firstCall label h)))
+  action-fits h = rw (action-label label (lt-ltb label firstCall h)) at event-fits
 
   call-fits : firstCall ≤ label → calledBy label < p .routines
-  call-fits h =
-      either (ltb label (p .automaton .actions)) _ fits
-      (λ e. let k = ltb-true label (p .automaton .actions) e in absurd (omega (arith, well-formed-limits p w)))
-      (λ e. let k = ltb-true label (callOf (p .routines)) (both (isCall label) _ e .1) in omega arith)
+  call-fits h = rw (call-label label (le-leb firstCall label h)) at event-fits
 
 module _ (p : Program) (next known : List ℕ) (w : WellFormed p) (ans : Answers (p .automaton) (p .routines) next) (q : ℕ) where
   label-is : (f m r label : ℕ) → labelFits (p .routines) (p .automaton .actions) label ≡ true → (s : Worklist) → s .known ≡ flagsOf known

@@ -3,13 +3,12 @@
 use mathlib.Core.Path.{_≡_, refl, sym, ap, _∙_}
 use mathlib.Core.Logic.{⊎-elim}
 use mathlib.Core.Bool.{Bool, true, false, cond, _&&_, or-true}
-use mathlib.Core.List.{List, [], _∷_, _++_, map, append-nil, List·Memᴰ, List·Memᴰ·head, List·Memᴰ·tail}
+use mathlib.Core.List.{List, [], _∷_, _++_, map, List·Memᴰ, List·Memᴰ·head, List·Memᴰ·tail}
 use Prim.Native.Nat.{ℕ, min, _+_, _≤_, _<_}
 use native.Mathlib.Omega.{arith}
 use native.Mathlib.Nat.{eq-or-lt-of-le}
 use lib.Dec.{eqb}
 use lib.ListN.{length, getD, set, take, drop, replicate, length-set, length-replicate, length-take}
-use lib.Seq.{take-length, drop-length}
 use borrow.Author.Tests.{eqb-true, eq-eqb, not-false}
 use Rattle.automaton.specs.Automaton.{isInitial}
 use Rattle.automaton.specs.NextStates.{Answers}
@@ -27,6 +26,7 @@ use Rattle.reach.specs.Reachable.{seeded, by-action, by-call, by-return, initia
 use Rattle.reach.specs.Marks.{Marked, Shows}
 use Rattle.reach.proofs.Numbers.{number-of, number-fits, routine-of, node-of, root-of, state-of, parts-in-range, to-number, from-number}
 use Rattle.base.proofs.SetFlags.{set-on, on-set, set-inv, set-bits, zeros, set-byte, byte-set}
+use Rattle.reach.proofs.MarksCopied.{cleared-is, copied-is}
 use Rattle.reach.proofs.MarksShown.{shows-marked}
 use Rattle.prune.specs.Pruning.{Kept}
 use Rattle.prune.specs.Parts.{supports, keepsAt, Keeps, same, more, Settled, Tables, Sound, Started}
@@ -213,17 +213,10 @@ its-tables p w edges e s a u =
 -- ---- the bytes of a buffer
 
 -- cleared
-pub cleared-is : {l : List ℕ} {n : ℕ} → l ≡ replicate n 0 → n ≡ 16384 → l ≡ none-set
-unfolding none-set
-cleared-is e h = rw h at e
-
 pub cleared-sound : (p : Program) (marks : List ℕ) {l : List ℕ} {n : ℕ} → l ≡ replicate n 0 → n ≡ 16384 → Sound p marks l
 cleared-sound p marks e h = rw (cleared-is e h) (none-kept p marks)
 
 -- copied to one of the same length
 pub copied-shows : {S : Set} {from : List ℕ} → Shows S from → (to : List ℕ) {new : List ℕ} → new ≡ take (length from) from ++ drop (length from) to
     → length to ≡ 16384 → Shows S new
-copied-shows {S} {from} s to e h =
-    let same-length : length from ≡ length to = s .len ∙ sym h in
-    let past : drop (length from) to ≡ [] = rw same-length (drop-length to) in
-    rw (e, past, take-length from, append-nil from) s
+copied-shows {S} {from} s to e h = rw (copied-is from to e (s .len ∙ sym h)) s

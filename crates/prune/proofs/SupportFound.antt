@@ -2,29 +2,28 @@
 use mathlib.Core.Path.{_≡_, refl, sym, ap, subst, _∙_}
 use mathlib.Core.Bool.{Bool, true, false, cond, _&&_, or-true}
 use mathlib.Core.List.{List, map, List·Memᴰ}
-use Prim.Native.Nat.{ℕ, _≤_, _<_}
+use Prim.Native.Nat.{ℕ, _<_}
 use native.Mathlib.Omega.{arith}
-use lib.Dec.{eqb, ltb, leb}
-use lib.ListN.{getD}
-use borrow.Author.Tests.{eqb-true, ltb-true, ltb-false, leb-true, leb-false, eq-eqb, lt-ltb, le-ltb, lt-leb, le-leb}
+use lib.Dec.{eqb}
+use borrow.Author.Tests.{eqb-true, ltb-true, leb-true, leb-false, eq-eqb, lt-ltb, lt-leb, le-leb}
 use Rattle.base.specs.Bits.{bit}
 use Rattle.base.specs.Flags.{isSet}
 use Rattle.base.proofs.Bools.{both, either, never, cond-true}
 use Rattle.base.proofs.SetFlags.{set-byte, byte-set}
 use Rattle.automaton.specs.Sizes.{maxStates, firstCall}
-use Rattle.automaton.specs.Automaton.{Automaton, callOf, returnOf, labelOf, labelFits, moves}
-use Rattle.automaton.specs.NextStates.{setAt, EventOf, Ranged}
+use Rattle.automaton.specs.Automaton.{callOf, returnOf, labelOf, moves}
+use Rattle.automaton.specs.NextStates.{setAt, Ranged}
 use Rattle.automaton.specs.declared.Event.{Event}
 use Rattle.automaton.specs.declared.Event.the-variants.{Action, Call, Return}
 use Rattle.automaton.proofs.MovesAsked.{asked}
-use Rattle.program.specs.Program.{Edge, Program, isAction, isCall, calledBy, placed, edgeFits}
+use Rattle.program.specs.Program.{Edge, Program, isAction, isCall, calledBy}
 use Rattle.program.specs.Decoded.{edgeOf}
-use Rattle.program.proofs.SectionsAscend.{all-in}
 use Rattle.program.proofs.ProgramRanged.{ranged}
 use Rattle.reach.specs.Configurations.{Set, InRange, number}
 use Rattle.reach.specs.Runs.{Step, eventOf, stepOf, HasStep, Moves}
 use Rattle.reach.specs.Marks.{Marked}
-use Rattle.reach.proofs.ProgramInSizes.{Sizes, sizes, map-in, label-call}
+use Rattle.reach.proofs.ProgramInSizes.{Sizes, sizes, map-in}
+use Rattle.reach.proofs.Labels.{call-label, label-calls, step-event}
 use Rattle.prune.specs.Parts.{anyFrom, moveKept, callerKept, returnKept, entrySupports, returnSupports, callSupports}
 use Rattle.prune.specs.Parts.{statesToTry, actionSupports, edgeSupports, supports, Tables}
 use Rattle.prune.proofs.SearchesAsk.{found-from, any-from, found-key, any-key, in-map}
@@ -52,9 +51,6 @@ tried-states t false c e = never e refl
 
 -- ---- labels
 
-call-label : (a : ℕ) → isCall a ≡ true → eventOf a ≡ Call (calledBy a)
-call-label a e = rw (le-ltb a firstCall (leb-true firstCall a e)) refl
-
 action-label : (a : ℕ) → isCall a ≡ false → eventOf a ≡ Action a
 action-label a e = rw (lt-ltb a firstCall (leb-false firstCall a e)) refl
 
@@ -64,28 +60,6 @@ label-action a b e = go (isAction a) refl e
     go : (t : Bool) → isAction a ≡ t → cond t (Action a) (Call (calledBy a)) ≡ Action b → (isCall a ≡ false) × (a ≡ b)
     go true h e = (lt-leb firstCall a (ltb-true a firstCall h), cc)
     go false h e = absurd (let z : _≡_ {A = ℕ} 0 1 = cc in omega arith)
-
-label-called : (a g : ℕ) → eventOf a ≡ Call g → (isCall a ≡ true) × (calledBy a ≡ g)
-label-called a g e = let c = label-call a g (isAction a) e in (le-leb firstCall a (ltb-false a firstCall (c .0)), c .1)
-
-edge-label : (p : Program) (e : Edge) → edgeFits p e ≡ true → labelFits (p .routines) (p .automaton .actions) (e .label) ≡ true
-edge-label p e h =
-    let nodes = getD (p .nodes) (e .routine) 0 in
-    both (ltb (e .routine) (p .routines) && placed nodes (e .source) (e .target)) (labelFits (p .routines) (p .automaton .actions) (e .label)) h .1
-
--- the label of an edge, where it fits, is that of an event of the program
-label-event : (r : Automaton) (routines : ℕ) → r .actions ≤ firstCall → (a : ℕ) → labelFits routines (r .actions) a ≡ true
-    → EventOf r routines (eventOf a)
-label-event r routines few a fits = go (isAction a) refl
-  where
-    go : (t : Bool) → isAction a ≡ t → EventOf r routines (cond t (Action a) (Call (calledBy a)))
-    go true e =
-        either (ltb a (r .actions)) (leb firstCall a && ltb a (callOf routines)) fits (ltb-true a (r .actions))
-        (λ h. absurd (omega (arith, ltb-true a firstCall e, leb-true firstCall a (both (leb firstCall a) (ltb a (callOf routines)) h .0))))
-    go false e =
-        either (ltb a (r .actions)) (leb firstCall a && ltb a (callOf routines)) fits
-        (λ h. absurd (omega (arith, few, ltb-true a (r .actions) h, ltb-false a firstCall e)))
-        (λ h. omega (arith, ltb-false a firstCall e, ltb-true a (callOf routines) (both (leb firstCall a) (ltb a (callOf routines)) h .1)))
 
 -- ---- the keys of edges
 
@@ -127,18 +101,11 @@ module _ (p : Program) (keys next : List ℕ) (t : Tables p keys next) where
   in-range : Ranged (p .automaton) (p .routines)
   in-range = ranged p (t .well-formed)
 
-  event : {f n m : ℕ} {l : Event} → HasStep p f n l m → EventOf (p .automaton) (p .routines) l
-  event h =
-      let x = map-in stepOf (p .edges) h in
-      let fits = edge-label p (x .from) (all-in (edgeFits p) (p .edges) (t .well-formed .edges-fit) (x .member)) in
-      subst (λ (s : Step). EventOf (p .automaton) (p .routines) (s .label)) (sym (x .is))
-      (label-event (p .automaton) (p .routines) (in-range .actions) (x .from .label) fits)
-
   move-asked : {f n m : ℕ} {l : Event} → HasStep p f n l m → (q s : ℕ) → bit s (setAt next q (labelOf l)) ≡ moves (p .automaton) q l s
-  move-asked {l = l} h q s = asked (p .automaton) (p .routines) in-range (t .answers) q l s (event h)
+  move-asked {l = l} h q s = asked (p .automaton) (p .routines) in-range (t .answers) q l s (step-event p (t .well-formed) h)
 
   return-asked : {f n m g : ℕ} → HasStep p f n (Call g) m → (q s : ℕ) → bit s (setAt next q (returnOf g)) ≡ moves (p .automaton) q (Return g) s
-  return-asked {g = g} h q s = asked (p .automaton) (p .routines) in-range (t .answers) q (Return g) s (event h)
+  return-asked {g = g} h q s = asked (p .automaton) (p .routines) in-range (t .answers) q (Return g) s (step-event p (t .well-formed) h)
 
   -- ---- what the search finds is support
 
@@ -256,7 +223,7 @@ module _ (p : Program) (keys next : List ℕ) (t : Tables p keys next) where
     supports-found {f} {n} {r} {q} i (as-called {x = x} {y = y} e v o) =
         let k = keyed e in
         let label = edgeOf (k .key) .label in
-        let c = label-called label f (k .label) in
+        let c = label-calls label f (k .label) in
         let high = leb-true firstCall label (c .0) in
         let is-call : label ≡ callOf f = omega (arith, c .1) in
         let caller : CallerAt next kept (edgeOf (k .key)) r = record {
@@ -271,7 +238,7 @@ module _ (p : Program) (keys next : List ℕ) (t : Tables p keys next) where
     supports-found {f} {n} {r} {q} i (as-returned {g = g} {y = y} {s = s} {x = x} e o v o′ v′) =
         let k = keyed e in
         let label = edgeOf (k .key) .label in
-        let c = label-called label g (k .label) in
+        let c = label-calls label g (k .label) in
         let here : ReturnAt next kept f (edgeOf (k .key) .source) r g q = record {
           routine = o′ .0 .routine;
           state = y;

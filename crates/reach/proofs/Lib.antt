@@ -12,6 +12,7 @@ pub mod SummariesCounted
 pub mod TakingsBounded
 pub mod AnalysisExact
 pub mod LoopRuns
+pub mod MarksCopied
 pub mod LeastSetLaws
 pub mod RunsReach
 pub mod MarksShown

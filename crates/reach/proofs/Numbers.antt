@@ -76,22 +76,6 @@ to-number S h x = rw (routine-of h, node-of h, root-of h, state-of h) x
 pub from-number : (S : Set) {f n r q : ℕ} → InRange f n r q → At S (number f n r q) → S f n r q
 from-number S h x = rw (routine-of h, node-of h, root-of h, state-of h) at x
 
--- configurations in range that have one number are the same
-pub record Same (f n r q g m s t : ℕ) : Type 0 where
-  pub routine : f ≡ g
-  pub node : n ≡ m
-  pub root : r ≡ s
-  pub state : q ≡ t
-
-pub one-to-one : {f n r q g m s t : ℕ} → InRange f n r q → InRange g m s t → number f n r q ≡ number g m s t → Same f n r q g m s t
-one-to-one h k e =
-    record {
-      routine = sym (routine-of h) ∙ ap routineOf e ∙ routine-of k;
-      node = sym (node-of h) ∙ ap nodeOf e ∙ node-of k;
-      root = sym (root-of h) ∙ ap rootOf e ∙ root-of k;
-      state = sym (state-of h) ∙ ap stateOf e ∙ state-of k;
-    }
-
 -- ---- summaries
 
 pub summary-fits : (g q x : ℕ) → g < maxRoutines → q < maxStates → x < maxStates → summary g q x < summariesSize
@@ -117,10 +101,6 @@ number-state f n r x = omega arith
 pub number-root : (f n x q : ℕ) → number f n 0 q + rootSpan * x ≡ number f n x q
 unfolding number
 number-root f n x q = omega arith
-
-pub summary-state : (g q x : ℕ) → (g * maxStates + q) * maxStates + x ≡ summary g q x
-unfolding summary
-summary-state g q x = omega arith
 
 -- ---- spans: the numbers of a routine and of a node follow one another
 

@@ -5,12 +5,12 @@ use mathlib.Core.Logic.{_↔_, _≢_}
 use mathlib.Core.Bool.{Bool, true, false, cond, _&&_, not}
 use mathlib.Core.List.{List, List·Memᴰ}
 use native.Mathlib.Omega.{arith}
-use lib.Dec.{eqb, leb, ltb}
+use lib.Dec.{eqb}
 use lib.ListN.{length, getD, take, replicate, length-replicate}
 use lib.Seq.{getD-take, length-take-le}
-use borrow.Author.Tests.{eqb-false, ne-eqb, leb-true, ltb-true, not-true}
+use borrow.Author.Tests.{ne-eqb, leb-true}
 use Rattle.automaton.specs.Sizes.{maxStates, firstCall}
-use Rattle.automaton.specs.Automaton.{callOf, labelFits, moves}
+use Rattle.automaton.specs.Automaton.{callOf, moves}
 use Rattle.automaton.specs.NextStates.{setAt, Answers}
 use Rattle.automaton.specs.Decoded.{automatonOf}
 use Rattle.automaton.specs.declared.Event.the-variants.{Call}
@@ -18,22 +18,20 @@ use Rattle.automaton.proofs.MovesAsked.{asked}
 use Rattle.base.specs.Bits.{bit}
 use Rattle.base.specs.Flags.{isSet, On}
 use Rattle.program.specs.Sizes.{marksSize}
-use Rattle.program.specs.Program.{Edge, Program, edgeFits, isCall, calledBy, placed}
+use Rattle.program.specs.Program.{Edge, Program, isCall, calledBy}
 use Rattle.program.specs.WellFormed.{WellFormed}
 use Rattle.program.specs.Decoded.{programOf}
 use Rattle.program.specs.declared.DecodedProgram.{DecodedProgram}
-use Rattle.program.proofs.ProgramLimits.{well-formed-limits}
 use Rattle.program.proofs.ProgramRanged.{ranged}
-use Rattle.program.proofs.SectionsAscend.{all-in}
-use Rattle.base.proofs.Bools.{both, either}
+use Rattle.base.proofs.Bools.{both}
 use Rattle.reach.specs.Sizes.{nodeSpan, rootsSize}
 use Rattle.reach.specs.Configurations.{InRange, number, routineOf, rootOf, stateOf, rootPlace, entryAt}
-use Rattle.reach.specs.Runs.{Step, stepOf, HasStep, Moves}
+use Rattle.reach.specs.Runs.{HasStep, Moves}
 use Rattle.reach.specs.Marks.{Marked, Shows}
-use Rattle.base.proofs.SetFlags.{none-on}
+use Rattle.base.proofs.SetFlags.{set-byte, none-on}
 use Rattle.reach.proofs.Numbers.{number-fits, routine-of, root-of, state-of, root-small, state-small, first-node, first-range, root-place-fits, root-place-apart, entry-root}
-use Rattle.reach.proofs.Labels.{label-calls}
-use Rattle.reach.proofs.ProgramInSizes.{map-in, sizes, after-small}
+use Rattle.reach.proofs.Labels.{step-event}
+use Rattle.reach.proofs.ProgramInSizes.{sizes, after-small}
 use Rattle.base.specs.Filled.{Filled}
 use Rattle.worklist.proofs.AnalysisBegun.{take-min}
 use Rattle.base.proofs.BytesFilled.{filled-bits}
@@ -101,22 +99,6 @@ RootsRule marks next e l j = (isCall (e .label) ≡ true) × One (MarkedRule mar
 abbrev pub RootsRules : List ℕ → List ℕ → List ℕ → ℕ → List ℕ → ℕ → Type 0
 RootsRules marks next keys count = One (λ i. RootsRule marks next (edgeAt keys i)) count 0
 
--- a routine that is called is one of the program
-call-fits : (routines actions a : ℕ) → actions ≤ firstCall → isCall a ≡ true → labelFits routines actions a ≡ true → calledBy a < routines
-call-fits routines actions a few t h =
-    let low = leb-true firstCall a t in
-    either (ltb a actions) _ h (λ e. absurd (omega (arith, ltb-true a actions e)))
-    (λ e. omega (arith, ltb-true a (callOf routines) (both (leb firstCall a) _ e .1)))
-
-called-within : (p : Program) → WellFormed p → {f n g m : ℕ} → HasStep p f n (Call g) m → g < p .routines
-called-within p w {g = g} h =
-    let z = map-in stepOf (p .edges) h in
-    let e = z .from in
-    let c = label-calls (e .label) g (sym (ap (λ (x : Step). x .label) (z .is))) in
-    let there = ltb (e .routine) (p .routines) && placed (getD (p .nodes) (e .routine) 0) (e .source) (e .target) in
-    let fits = both there _ (all-in (edgeFits p) (p .edges) (w .edges-fit) (z .member)) .1 in
-    rw (← (c .1)) (call-fits (p .routines) (p .automaton .actions) (e .label) (omega (arith, well-formed-limits p w .actions)) (c .0) fits)
-
 -- the table answers by the label of an edge that calls
 call-answer : {p : Program} {next : List ℕ} → WellFormed p → Answers (p .automaton) (p .routines) next
     → {f n m : ℕ} (q a s : ℕ) → isCall a ≡ true → HasStep p f n (Call (calledBy a)) m
@@ -124,10 +106,7 @@ call-answer : {p : Program} {next : List ℕ} → WellFormed p → Answers (p .a
 call-answer {p} wf w q a s t h =
     let low = leb-true firstCall a t in
     let is : callOf (calledBy a) ≡ a = omega arith in
-    rw is at (asked (p .automaton) (p .routines) (ranged p wf) w q (Call (calledBy a)) s (called-within p wf h))
-
-set-byte : (l : List ℕ) (j : ℕ) → isSet l j ≡ true → getD l j 0 ≢ 0
-set-byte l j e = eqb-false (getD l j 0) 0 (not-true (eqb (getD l j 0) 0) e)
+    rw is at (asked (p .automaton) (p .routines) (ranged p wf) w q (Call (calledBy a)) s (step-event p wf h))
 
 byte-set : (l : List ℕ) (j : ℕ) → getD l j 0 ≢ 0 → isSet l j ≡ true
 byte-set l j h = ap not (ne-eqb (getD l j 0) 0 h)

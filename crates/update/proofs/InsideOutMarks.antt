@@ -2,13 +2,13 @@
 use mathlib.Core.Path.{_≡_, refl, sym, ap, subst, _∙_}
 use mathlib.Core.Logic.{_⊎_, inl, inr, _↔_, _≢_}
 use mathlib.Core.Bool.{Bool, true, false, true≢false, not, _&&_}
-use mathlib.Core.List.{List, [], _++_, append-nil}
+use mathlib.Core.List.{List, _++_}
 use Prim.Native.Nat.{ℕ, _+_, _≤_, _<_}
 use native.Mathlib.Omega.{arith}
 use native.Mathlib.Decide.{ℕ-discrete}
 use lib.Dec.{eqb}
 use lib.ListN.{length, getD, set, take, drop, replicate, length-set, length-replicate}
-use lib.Seq.{getD-set-same, getD-set-other, take-length, drop-length}
+use lib.Seq.{getD-set-same, getD-set-other}
 use borrow.Author.Tests.{eqb-true, eqb-false}
 use Rattle.program.specs.Sizes.{marksSize}
 use Rattle.program.specs.Program.{Program}
@@ -18,6 +18,7 @@ use Rattle.reach.specs.Marks.{freshMarks}
 use Rattle.reach.proofs.Numbers.{number-of, routine-of, routine-small, number-fits, node-small, root-small, state-small}
 use Rattle.base.proofs.SetFlags.{zeros}
 use Rattle.reach.proofs.ShapeKept.{marks-length}
+use Rattle.reach.proofs.MarksCopied.{copied-is}
 use Rattle.reach.proofs.AnalysisExact.{analysis-exact}
 use Rattle.callgraph.specs.Components.{Reanalyzed, Gained}
 use Rattle.components.specs.TurnParts.{DropOf}
@@ -146,11 +147,6 @@ module _ {old new flags : List ℕ} {i : ℕ} (g : Gaining old new i flags) wher
           }
 
 -- ---- an add
-
-copied-is : (from to : List ℕ) {copy : List ℕ} → copy ≡ take (length from) from ++ drop (length from) to → length from ≡ length to → copy ≡ from
-copied-is from to e h =
-    let past : drop (length from) to ≡ [] = rw h (drop-length to) in
-    rw (e, past, take-length from, append-nil from) refl
 
 -- the copy of the old marks
 pub copied-fresh : (p : Program) (from : List ℕ) {copy : List ℕ} → from ≡ freshMarks p

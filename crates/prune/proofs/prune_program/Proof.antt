@@ -1,6 +1,7 @@
 -- `prune::prune_program` meets its contract.
 use borrow.Author.Needs.{needs}
-use Rattle.prune.proofs.KeptExact.{cleared-is, copied-shows}
+use Rattle.reach.proofs.MarksCopied.{cleared-is}
+use Rattle.prune.proofs.KeptExact.{copied-shows}
 use Rattle.prune.proofs.prune_program.Statement.{statement}
 use Rattle.prune.proofs.prune_program.Tie as tie
 
