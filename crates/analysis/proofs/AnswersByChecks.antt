@@ -20,7 +20,7 @@ use Rattle.checks.specs.Checked.{Checked}
 use Rattle.reader.specs.declared.Reading.{Reading}
 use Rattle.reach.specs.Configurations.{none-set}
 use Rattle.reach.specs.Marks.{freshMarks, violationsFrom, firstFrom}
-use Rattle.analysis.specs.Answers.{analyzeBy, analyzeAnswer, onSuccess, marksAfter, workAfter, same, owned, foundOf, nextBy, nextAnswer}
+use Rattle.analysis.specs.Answers.{limited, followedBy, analyzeBy, analyzeAnswer, onSuccess, marksAfter, workAfter, same, owned, foundOf, nextBy, nextAnswer}
 use Rattle.worklist.specs.Parts.{within}
 
 -- what those ask who are called where nothing is refused
@@ -29,10 +29,11 @@ pub ready : {file : List ℕ} {m w : ℕ} {r : Reading} → Checked file (Of m) 
 ready k h = (k .well-formed h, (k .sized h .marks-length, k .sized h .work-length))
 
 module _ (file marks work : List ℕ) {r : Reading} (k : Checked file (Of (length marks)) NotAsked (Of (length work)) r) {v : Verdict} (h : r .verdict ≡ v) where
-  pub analyze-answered : (analyzeBy v (programOf (r .program)) ≡ analyzeAnswer file marks work)
-      × (onSuccess v (freshMarks (programOf (r .program))) marks ≡ marksAfter file marks work) × (onSuccess v none-set work ≡ workAfter file marks work)
+  pub analyze-answered : (limit : ℕ) → let w = followedBy v (limited (programOf (r .program)) limit) in
+      (analyzeBy w (programOf (r .program)) ≡ analyzeAnswer file marks work limit)
+      × (onSuccess w (freshMarks (programOf (r .program))) marks ≡ marksAfter file marks work limit) × (onSuccess v none-set work ≡ workAfter file marks work)
   unfolding analyzeAnswer marksAfter workAfter
-  analyze-answered = rw (← k .verdict, h, k .program) (refl, refl, refl)
+  analyze-answered limit = rw (← k .verdict, h, k .program) (refl, refl, refl)
 
   pub next-answered : (low : ℕ) → (nextBy v (programOf (r .program)) marks low ≡ nextAnswer file marks work low) × (onSuccess v none-set work ≡ workAfter file marks work)
   unfolding nextAnswer workAfter

@@ -4,7 +4,7 @@ use Prim.Native.Nat.{ℕ}
 use mathlib.Core.Bool.{Bool, true, false, _&&_, not}
 use mathlib.Core.Option.{Option, some, none}
 use mathlib.Core.List.{List, [], _∷_}
-use lib.Dec.{eqb}
+use lib.Dec.{eqb, ltb}
 use lib.ListN.{length}
 use Rattle.program.specs.Program.{Program}
 use Rattle.program.specs.Reading.{readFile}
@@ -40,6 +40,21 @@ foreignRow p marks = row 17 (not (same marks (freshMarks p)))
 abbrev pub owned : Program → List ℕ → Verdict
 owned p marks = verdictOf (firstMet (foreignRow p marks ∷ []))
 
+-- or, for `analyze`: the procedure's count of iterations (paper: takings) is above the limit
+abbrev pub limitRow : Program → ℕ → Row
+limitRow p limit = row 22 (ltb limit (analysis p .iterations))
+
+abbrev pub limited : Program → ℕ → Verdict
+limited p limit = verdictOf (firstMet (limitRow p limit ∷ []))
+
+-- a check that is made only where the one before refuses nothing
+abbrev pub followedBy : Verdict → Verdict → Verdict
+followedBy verdict.Accepted v = v
+followedBy (verdict.Refused n line) v = verdict.Refused n line
+
+abbrev pub checkedLimit : List ℕ → List ℕ → List ℕ → ℕ → Verdict
+checkedLimit file marks work limit = followedBy (checkedMarks file marks work) (limited (readFile file .program) limit)
+
 -- ---- `analyze`
 
 -- the counts of configurations, of violations and of iterations, or the refusal
@@ -48,18 +63,19 @@ analyzeBy verdict.Accepted p = analyzed.Counts (countSet (freshMarks p)) (length
     (analysis p .iterations)
 analyzeBy (verdict.Refused n line) p = analyzed.Refused n line
 
-unfoldable pub analyzeAnswer : List ℕ → List ℕ → List ℕ → AnalyzeAnswer
-analyzeAnswer file marks work = analyzeBy (checkedMarks file marks work) (readFile file .program)
+unfoldable pub analyzeAnswer : List ℕ → List ℕ → List ℕ → ℕ → AnalyzeAnswer
+analyzeAnswer file marks work limit = analyzeBy (checkedLimit file marks work limit) (readFile file .program)
 
 -- the new bytes on success, the old ones on a refusal
 abbrev pub onSuccess : Verdict → List ℕ → List ℕ → List ℕ
 onSuccess verdict.Accepted new old = new
 onSuccess (verdict.Refused n line) new old = old
 
-unfoldable pub marksAfter : List ℕ → List ℕ → List ℕ → List ℕ
-marksAfter file marks work = onSuccess (checkedMarks file marks work) (freshMarks (readFile file .program)) marks
+unfoldable pub marksAfter : List ℕ → List ℕ → List ℕ → ℕ → List ℕ
+marksAfter file marks work limit =
+    onSuccess (checkedLimit file marks work limit) (freshMarks (readFile file .program)) marks
 
--- the working buffer is all zero once the file and the lengths are checked
+-- the working buffer is all zero once the file and the lengths are checked, also after 17 and 22
 unfoldable pub workAfter : List ℕ → List ℕ → List ℕ → List ℕ
 workAfter file marks work = onSuccess (checkedMarks file marks work) none-set work
 

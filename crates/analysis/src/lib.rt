@@ -3,6 +3,7 @@ pub mod count;
 pub mod own;
 
 use automaton::flags::rejecting_flags;
+use base::flags::clear;
 use base::flags::count_set;
 use checks::checked_program;
 use count::count_violations;
@@ -12,6 +13,7 @@ use program::DecodedProgram;
 use program::Length;
 use program::Verdict;
 use program::sizes::MARKS_SIZE;
+use worklist::run::Stop;
 use worklist::run::analyze_program;
 ghost use mathlib.Core.Path.{_≡_};
 ghost use lib.ListN.{length};
@@ -21,9 +23,9 @@ ghost use Rattle.program.specs.Decoded.{programOf};
 ghost use Rattle.program.specs.declared.Verdict.the-variants.{Accepted};
 ghost use Rattle.reach.specs.Configurations.{none-set};
 ghost use Rattle.reach.specs.Marks.{freshMarks};
-ghost use Rattle.analysis.specs.Answers.{analyzeBy, analyzeAnswer, marksAfter, workAfter, owned, foundOf, nextBy};
-ghost use Rattle.analysis.specs.Answers.{nextAnswer};
-ghost use Rattle.worklist.specs.Parts.{within};
+ghost use Rattle.analysis.specs.Answers.{limited, analyzeBy, analyzeAnswer, onSuccess, marksAfter};
+ghost use Rattle.analysis.specs.Answers.{workAfter, owned, foundOf, nextBy, nextAnswer};
+ghost use Rattle.worklist.specs.Parts.{within, Analyzed};
 
 // The counts of configurations, violations and iterations; or a refusal, at a line.
 pub enum AnalyzeAnswer {
@@ -38,26 +40,57 @@ pub enum NextAnswer {
     Refused(u8, usize),
 }
 
-fn analyze_counts(p: DecodedProgram, marks: &mut [u8], work: &mut [u8]) -> AnalyzeAnswer
-    requires { ⌜ WellFormed (programOf p) ⌝ }
-    requires { ⌜ (length (now marks) ≡ marksSize) × (length (now work) ≡ marksSize) ⌝ }
-    ensures { λ r. ⌜ (r ≡ analyzeBy Accepted (programOf p)) × (now (marks .exit) ≡ freshMarks (programOf p))
-        × (now (work .exit) ≡ none-set) ⌝ }
+// The marks that were worked out are handed over and counted; an analysis that has not ended is given up (22), and the
+// lent marks stay. It is asked of what `analyze_program` leaves: hence the `requires`.
+fn hand_over(
+    p: DecodedProgram,
+    worked: &[u8],
+    marks: &mut [u8],
+    limit: usize,
+    stop: Stop,
+) -> AnalyzeAnswer
+    requires { ⌜ WellFormed (programOf p) × Analyzed (programOf p) limit (now worked) (stop .iterations) (stop .ended)
+        × (length (now marks) ≡ marksSize) ⌝ }
+    ensures { λ r. ⌜ (r ≡ analyzeBy (limited (programOf p) limit) (programOf p))
+        × (now (marks .exit) ≡ onSuccess (limited (programOf p) limit) (freshMarks (programOf p))
+        (now (marks .entry))) ⌝ }
 {
-    let iterations = analyze_program(p, marks, work);
-    let rule = p.automaton;
-    let rejecting = rejecting_flags(rule);
-    let flags = rejecting.flags;
-    let configurations = count_set(marks);
-    let violations = count_violations(marks, &flags);
-    AnalyzeAnswer::Counts(configurations, violations, iterations)
+    if stop.ended {
+        let _copied = bytes::copy(worked, marks);
+        let rule = p.automaton;
+        let rejecting = rejecting_flags(rule);
+        let flags = rejecting.flags;
+        let configurations = count_set(marks);
+        let violations = count_violations(marks, &flags);
+        return AnalyzeAnswer::Counts(configurations, violations, stop.iterations);
+    }
+    AnalyzeAnswer::Refused(22, 0)
 }
 
-// The fresh marks of a file's program and their counts. A refusal leaves both buffers alone; on success the working
-// buffer is all zero.
-pub fn analyze(file: &[u8], marks: &mut [u8], work: &mut [u8]) -> AnalyzeAnswer
-    ensures { λ r. ⌜ (r ≡ analyzeAnswer (now (file .entry)) (now (marks .entry)) (now (work .entry)))
-        × (now (marks .exit) ≡ marksAfter (now (file .entry)) (now (marks .entry)) (now (work .entry)))
+// The marks are worked out in the working buffer, so that giving up leaves the lent ones alone. It is all zero then.
+fn analyze_counts(
+    p: DecodedProgram,
+    marks: &mut [u8],
+    work: &mut [u8],
+    limit: usize,
+) -> AnalyzeAnswer
+    requires { ⌜ WellFormed (programOf p) ⌝ }
+    requires { ⌜ (length (now marks) ≡ marksSize) × (length (now work) ≡ marksSize) ⌝ }
+    ensures { λ r. ⌜ (r ≡ analyzeBy (limited (programOf p) limit) (programOf p))
+        × (now (marks .exit) ≡ onSuccess (limited (programOf p) limit) (freshMarks (programOf p)) (now (marks .entry)))
+        × (now (work .exit) ≡ none-set) ⌝ }
+{
+    let stop = analyze_program(p, work, limit);
+    let answer = hand_over(p, work, marks, limit, stop);
+    clear(work);
+    answer
+}
+
+// The fresh marks of a file's program and their counts, unless more iterations are needed than the limit says. A
+// refusal leaves the marks alone, and the working buffer too, but for 22: then it is all zero, as on success.
+pub fn analyze(file: &[u8], marks: &mut [u8], work: &mut [u8], limit: usize) -> AnalyzeAnswer
+    ensures { λ r. ⌜ (r ≡ analyzeAnswer (now (file .entry)) (now (marks .entry)) (now (work .entry)) limit)
+        × (now (marks .exit) ≡ marksAfter (now (file .entry)) (now (marks .entry)) (now (work .entry)) limit)
         × (now (work .exit) ≡ workAfter (now (file .entry)) (now (marks .entry)) (now (work .entry))) ⌝ }
 {
     let marks_length = Length::Of(marks.len());
@@ -68,7 +101,7 @@ pub fn analyze(file: &[u8], marks: &mut [u8], work: &mut [u8]) -> AnalyzeAnswer
         Verdict::Refused(n, line) => AnalyzeAnswer::Refused(n, line),
         Verdict::Accepted => {
             let p = r.program;
-            analyze_counts(p, marks, work)
+            analyze_counts(p, marks, work, limit)
         }
     }
 }

@@ -1,6 +1,7 @@
 // Whether marks are a program's own; those that are not are foreign (refusal 17).
+use base::flags::clear;
 use program::DecodedProgram;
-use program::sizes::MARKS_SIZE;
+use reach::spans::ENOUGH_ITERATIONS;
 use worklist::run::analyze_program;
 ghost use mathlib.Core.Path.{_≡_};
 ghost use lib.ListN.{length};
@@ -11,13 +12,15 @@ ghost use Rattle.reach.specs.Configurations.{none-set};
 ghost use Rattle.reach.specs.Marks.{freshMarks};
 ghost use Rattle.analysis.specs.Answers.{same};
 
-// The marks are compared with those of a full analysis. The reader accepts only well-formed programs, and the caller
-// has measured the working buffer (refusal 11): hence the `requires`.
+// The marks are compared with those of a full analysis, which is made in the working buffer and has no limit. The
+// reader accepts only well-formed programs, and the caller has measured the working buffer (refusal 11): hence the
+// `requires`.
 pub fn is_own(p: DecodedProgram, marks: &[u8], work: &mut [u8]) -> bool
     requires { ⌜ WellFormed (programOf p) × (length (now work) ≡ marksSize) ⌝ }
     ensures { λ r. ⌜ (r ≡ same (now (marks .entry)) (freshMarks (programOf p))) × (now (work .exit) ≡ none-set) ⌝ }
 {
-    let mut own = [0u8; MARKS_SIZE];
-    let _iterations = analyze_program(p, &mut own, work);
-    check::same(marks, &own)
+    let _stop = analyze_program(p, work, ENOUGH_ITERATIONS);
+    let own = check::same(marks, work);
+    clear(work);
+    own
 }

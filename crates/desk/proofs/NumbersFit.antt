@@ -23,8 +23,9 @@ use Rattle.reach.proofs.TakingsBounded.{iterations-bound}
 use Rattle.reach.proofs.MarksShown.{fresh-shows, few-marks}
 use Rattle.reach.specs.Violations.{Violation, First, nowhere, at}
 use Rattle.reach.proofs.ViolationsExact.{few-violations, next-violation}
-use Rattle.analysis.specs.Answers.{analyzeBy, analyzeAnswer, foundOf, foundBy, nextBy, nextAnswer}
+use Rattle.analysis.specs.Answers.{limited, followedBy, analyzeBy, analyzeAnswer, foundOf, foundBy, nextBy, nextAnswer}
 use Rattle.analysis.proofs.AnswersByChecks.{by-marks}
+use Rattle.analysis.proofs.LimitDecides.{by-limit}
 use Rattle.exchange.specs.Changes.{ChangeRead, Read, Refused as Denied}
 use Rattle.exchange.specs.Changing.{changedProgram}
 use Rattle.exchange.specs.Wanted.{wantedChange}
@@ -69,16 +70,18 @@ module _ (file marks work : List ℕ) where
   abbrev p : Program
   p = readFile file .program
 
-  pub analyze-fits : AnalyzeFits (analyzeAnswer file marks work)
+  pub analyze-fits : (limit : ℕ) → AnalyzeFits (analyzeAnswer file marks work limit)
   unfolding analyzeAnswer
-  analyze-fits =
-      by-checks file (Of (length marks)) NotAsked (Of (length work)) (λ v. AnalyzeFits (analyzeBy v p)) counts (λ n line h. (h, omega arith, omega arith, omega arith))
+  analyze-fits limit =
+      by-checks file (Of (length marks)) NotAsked (Of (length work)) (λ v. AnalyzeFits (analyzeBy (followedBy v (limited p limit)) p))
+      (λ w. by-limit p limit (λ v. AnalyzeFits (analyzeBy v p)) (λ e. counts w) (λ e. (omega arith, omega arith, omega arith, omega arith)))
+      (λ n line h. (h, omega arith, omega arith, omega arith))
     where
       counts : WellFormed p → AnalyzeFits (analyzeBy Accepted p)
       counts w =
           let m = few-marks p in
           let f = few-violations p in
-          (omega arith, omega arith, omega arith, omega (arith, iterations-bound p w))
+          (omega arith, omega arith, omega arith, omega (arith, iterations-bound p))
 
   pub next-fits : (low : ℕ) → NextFits (nextAnswer file marks work low)
   unfolding nextAnswer

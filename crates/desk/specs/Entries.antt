@@ -32,13 +32,15 @@ pub data Entry : Type 0 where
   exchange-forward : Entry
   exchange-inside-out : Entry
 
--- what is lent: of these a function reads those that its head names; `text` is an edit line or the text of an exchange
+-- what is lent: of these a function reads those that its head names. `text` is an edit line or the text of an exchange,
+-- `limit` how many iterations a full analysis may make, and `from` where to begin in the list of violations
 pub record Lent : Type 0 where
   pub file : List ℕ
   pub marks : List ℕ
   pub text : List ℕ
   pub output : List ℕ
   pub work : List ℕ
+  pub limit : ℕ
   pub from : ℕ
 
 -- the numbers of an answer that only some functions have; 0 where the function has none of them, and on a refusal
@@ -175,7 +177,7 @@ repairedIn k b = repaired k (b .file) (b .marks) (b .text) (b .output) (b .work)
 -- the buffers
 abbrev pub lentRepair : List ℕ → List ℕ → List ℕ → List ℕ → List ℕ → Lent
 lentRepair file marks text output work =
-    record { file = file; marks = marks; text = text; output = output; work = work; from = 0 }
+    record { file = file; marks = marks; text = text; output = output; work = work; limit = 0; from = 0 }
 
 abbrev pub backRepair : ℕ → ℕ → ℕ → ℕ → List ℕ → List ℕ → List ℕ → Back
 backRepair refusal line size routines marks output work = record {
@@ -202,8 +204,8 @@ abbrev pub Gives : Entry → Lent → Back → Type 0
 Gives read b a = a ≡ readBack b (readFile (b .file) .verdict)
 Gives write b a = a ≡ writeBack b (writeAnswer (b .file) (b .output)) (outputAfter (b .file) (b .output))
 Gives analyze b a =
-    a ≡ analyzeBack b (analyzeAnswer (b .file) (b .marks) (b .work)) (marksAfter (b .file) (b .marks) (b .work))
-    (workAfter (b .file) (b .marks) (b .work))
+    a ≡ analyzeBack b (analyzeAnswer (b .file) (b .marks) (b .work) (b .limit))
+    (marksAfter (b .file) (b .marks) (b .work) (b .limit)) (workAfter (b .file) (b .marks) (b .work))
 Gives next-violation b a = a ≡ nextBack b (nextAnswer (b .file) (b .marks) (b .work) (b .from))
     (workAfter (b .file) (b .marks) (b .work))
 Gives prune b a =

@@ -49,6 +49,7 @@ pub extern "C" fn palthrenni_read(file: &[u8], line: &mut u32) -> u32
       text = [];
       output = [];
       work = [];
+      limit = 0;
       from = 0;
     })
         (record { refusal = r; line = now (line .exit); values = noValues; marks = []; output = []; work = [] }) ⌝ }
@@ -100,6 +101,7 @@ pub extern "C" fn palthrenni_write(
       text = [];
       output = now (output .entry);
       work = [];
+      limit = 0;
       from = 0;
     })
         (record {
@@ -126,7 +128,7 @@ struct AnalyzeNumbers {
     iterations: u32,
 }
 
-// There are 16,384 configurations and at most 2,113,536 iterations, so that each count fits.
+// There are 16,384 configurations and at most 16,793,600 iterations, so that each count fits.
 fn analyze_numbers(a: AnalyzeAnswer) -> AnalyzeNumbers
     requires { ⌜ AnalyzeFits a ⌝ }
     ensures { λ r. ⌜ (r .refusal ≡ analyzeRefusal a) × (r .line ≡ analyzeLine a)
@@ -151,13 +153,14 @@ fn analyze_numbers(a: AnalyzeAnswer) -> AnalyzeNumbers
     }
 }
 
-// Sets the marks of all reachable configurations of a file's program. The line of a refusal and the three counts are
-// set.
+// Sets the marks of all reachable configurations of a file's program, or gives up where the limit is not enough. The
+// line of a refusal and the three counts are set.
 #[no_mangle]
 pub extern "C" fn palthrenni_analyze(
     file: &[u8],
     marks: &mut [u8],
     work: &mut [u8],
+    limit: u64,
     line: &mut u32,
     configurations: &mut u32,
     violations: &mut u32,
@@ -169,6 +172,7 @@ pub extern "C" fn palthrenni_analyze(
       text = [];
       output = [];
       work = now (work .entry);
+      limit = limit;
       from = 0;
     })
         (record {
@@ -180,7 +184,7 @@ pub extern "C" fn palthrenni_analyze(
           work = now (work .exit);
         }) ⌝ }
 {
-    let a = analysis::analyze(file, marks, work);
+    let a = analysis::analyze(file, marks, work, limit as usize);
     let numbers = analyze_numbers(a);
     *line = numbers.line;
     *configurations = numbers.configurations;
@@ -234,6 +238,7 @@ pub extern "C" fn palthrenni_next_violation(
       text = [];
       output = [];
       work = now (work .entry);
+      limit = 0;
       from = from;
     })
         (record {
@@ -267,6 +272,7 @@ pub extern "C" fn palthrenni_prune(
       text = [];
       output = [];
       work = now (work .entry);
+      limit = 0;
       from = 0;
     })
         (record {

@@ -2,7 +2,6 @@
 -- these numbers pending, what is marked at the end is exactly what follows from the marks.
 use mathlib.Core.Path.{_≡_, refl, sym, subst}
 use mathlib.Core.Logic.{inl, inr, _≢_}
-use mathlib.Core.Option.{none}
 use Prim.Native.Nat.{ℕ, _-_, _<_}
 use native.Mathlib.Omega.{arith}
 use native.Mathlib.Decide.{ℕ-discrete}
@@ -20,7 +19,6 @@ use Rattle.base.proofs.SetFlags.{on-lt}
 use Rattle.reach.proofs.ShapeKept.{work-shape}
 use Rattle.reach.proofs.WorklistInvariant.{Closed, Follows}
 use Rattle.reach.proofs.ExitsSettled.{Settled}
-use Rattle.reach.proofs.TakingsBounded.{follow-ends}
 use Rattle.reach.proofs.AnalysisExact.{follow-exact-ended}
 use Rattle.reach.proofs.MarksShown.{shows-marked}
 
@@ -108,9 +106,6 @@ module _ (p : Program) (w : WellFormed p) (low high : ℕ) (s : Worklist) (h : C
       }
 
   -- ---- so following ends with what follows from the marks
-
-  pub awaits-ends : lowest (work enoughIterations p (lowest (s .pending) 0) s .pending) 0 ≡ none
-  awaits-ends = follow-ends p (Marked (s .marks)) (sizes p w) proper s awaits-follows awaits-settled
 
   pub awaits-shows : Shows (Derivable p (Marked (s .marks)) Any) (work enoughIterations p (lowest (s .pending) 0) s .marks)
   awaits-shows =

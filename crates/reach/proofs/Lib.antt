@@ -19,3 +19,4 @@ pub mod MarksShown
 pub mod ViolationsExact
 pub mod FollowingFromClosed
 pub mod Growing
+pub mod EntriesTaken

@@ -215,8 +215,8 @@ most-times p w j =
     let z = sizes p w in
     follow-times p (Initial p) z (initial-proper p z) (opened (p .automaton .initial) blank) (opened-follows p z) (opened-settled p z) enoughIterations j
 
-pub iterations-bound : (p : Program) → WellFormed p → analysis p .iterations ≤ enoughIterations
+pub iterations-bound : (p : Program) → analysis p .iterations ≤ enoughIterations
 unfolding analysis
-iterations-bound p w =
+iterations-bound p =
     let s = opened (p .automaton .initial) blank in
     omega (arith, work-iterations enoughIterations p (lowest (s .pending) 0) s, opened-iterations (p .automaton .initial))

@@ -17,11 +17,13 @@ use Rattle.program.proofs.Theorems.{read-again, few-lines}
 use Rattle.program.proofs.ChecksPassed.{passes}
 use Rattle.writer.specs.declared.WriteAnswer.{WriteAnswer}
 use Rattle.writer.specs.declared.WriteAnswer.the-variants.{Written, Refused}
+use Rattle.reach.specs.Sizes.{enoughIterations}
 use Rattle.reach.specs.Configurations.{none-set}
 use Rattle.reach.specs.Marks.{freshMarks}
 use Rattle.reach.proofs.ShapeKept.{marks-length}
-use Rattle.analysis.specs.Answers.{checkedMarks, analyzeBy, analyzeAnswer, marksAfter}
+use Rattle.analysis.specs.Answers.{checkedMarks, checkedLimit, analyzeBy, analyzeAnswer, marksAfter}
 use Rattle.analysis.proofs.AnswersByChecks.{by-marks}
+use Rattle.analysis.proofs.LimitDecides.{unlimited}
 use Rattle.analysis.specs.declared.AnalyzeAnswer.the-variants as analyzed
 use Rattle.edit.specs.Editing.{editedProgram, wantedEdit}
 use Rattle.edit.specs.declared.EditRead.{EditRead}
@@ -46,15 +48,18 @@ block-is file marks h n = rw (h, n)
 -- ---- the analysis of a file
 
 module _ (file marks work : List ℕ) (m : length marks ≡ 16384) (k : length work ≡ 16384) where
-  is-verdict : checkedMarks file marks work ≡ readFile file .verdict
+  passed : checkedMarks file marks work ≡ readFile file .verdict
   unfolding checked firstMet
-  is-verdict = rw (m, k) (go (readFile file .verdict))
+  passed = rw (m, k) (go (readFile file .verdict))
     where
       go : (v : Verdict) → checkedBy v (Of 16384) NotAsked (Of 16384) ≡ v
       go verdict.Accepted = refl
       go (verdict.Refused n line) = refl
 
-  pub analyze-refuses : {n line : ℕ} → analyzed.Refused n line ≡ analyzeAnswer file marks work → readFile file .verdict ≡ verdict.Refused n line
+  is-verdict : checkedLimit file marks work enoughIterations ≡ readFile file .verdict
+  is-verdict = unlimited (checkedMarks file marks work) (readFile file .program) ∙ passed
+
+  pub analyze-refuses : {n line : ℕ} → analyzed.Refused n line ≡ analyzeAnswer file marks work enoughIterations → readFile file .verdict ≡ verdict.Refused n line
   unfolding analyzeAnswer
   analyze-refuses {n} {line} e = go (readFile file .verdict) (rw is-verdict at e)
     where
@@ -62,7 +67,7 @@ module _ (file marks work : List ℕ) (m : length marks ≡ 16384) (k : length w
       go verdict.Accepted x = absurd (let z : _≡_ {A = ℕ} 0 1 = cc in omega arith)
       go (verdict.Refused i at) x = cc
 
-  pub analyze-accepts : {a b c : ℕ} → analyzed.Counts a b c ≡ analyzeAnswer file marks work → readFile file .verdict ≡ verdict.Accepted
+  pub analyze-accepts : {a b c : ℕ} → analyzed.Counts a b c ≡ analyzeAnswer file marks work enoughIterations → readFile file .verdict ≡ verdict.Accepted
   unfolding analyzeAnswer
   analyze-accepts {a} {b} {c} e = go (readFile file .verdict) (rw is-verdict at e)
     where
@@ -70,7 +75,7 @@ module _ (file marks work : List ℕ) (m : length marks ≡ 16384) (k : length w
       go verdict.Accepted x = refl
       go (verdict.Refused i at) x = absurd (let z : _≡_ {A = ℕ} 0 1 = cc in omega arith)
 
-  pub fresh-after : readFile file .verdict ≡ verdict.Accepted → marksAfter file marks work ≡ freshMarks (readFile file .program)
+  pub fresh-after : readFile file .verdict ≡ verdict.Accepted → marksAfter file marks work enoughIterations ≡ freshMarks (readFile file .program)
   unfolding marksAfter
   fresh-after h = rw (is-verdict, h)
 

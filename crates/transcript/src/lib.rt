@@ -4,6 +4,7 @@ use analysis::AnalyzeAnswer;
 use exchange::Form;
 use program::sizes::MARKS_SIZE;
 use program::sizes::OUTPUT_SIZE;
+use reach::spans::ENOUGH_ITERATIONS;
 use repair::repair_with;
 use report::BLOCK_SIZE;
 use report::INPUT_SIZE;
@@ -102,7 +103,7 @@ fn begin_file(input: &[u8], out: &mut [u8; BLOCK_SIZE]) -> Turn
     let end = report::file_size(input);
     let mut marks = [0u8; MARKS_SIZE];
     let mut work = [0u8; MARKS_SIZE];
-    let answer = analysis::analyze(&input[..end], &mut marks, &mut work);
+    let answer = analysis::analyze(&input[..end], &mut marks, &mut work, ENOUGH_ITERATIONS);
     match answer {
         AnalyzeAnswer::Refused(n, line) => {
             let size = report::file_refusal(n, line, out);

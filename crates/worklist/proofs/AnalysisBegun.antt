@@ -1,22 +1,18 @@
 -- The start of the analysis.
 use Prim.Native.Nat.{ℕ, zero, suc, min, _+_, _≤_}
 use mathlib.Core.Path.{_≡_, refl, sym, ap, subst, _∙_}
-use mathlib.Core.Option.{none}
 use mathlib.Core.List.{List, [], _∷_}
 use native.Mathlib.Omega.{arith}
 use lib.ListN.{length, getD, take, drop, replicate}
 use lib.Seq.{drop-cons}
 use Rattle.program.specs.Program.{Program}
-use Rattle.program.specs.WellFormed.{WellFormed}
-use Rattle.reach.specs.Sizes.{enoughIterations}
 use Rattle.reach.specs.Configurations.{number, none-set}
-use Rattle.reach.specs.Worklist.{Worklist, Shape, lowest, mark, work, opened, blank, analysis}
+use Rattle.reach.specs.Worklist.{Worklist, Shape, lowest, mark, work, opened, blank}
 use Rattle.reach.proofs.ShapeKept.{opened-shape}
-use Rattle.reach.proofs.TakingsBounded.{analysis-ends}
 use Rattle.words.specs.Words.{flagsOf, NoneBelow}
 use Rattle.words.proofs.FlagsAsked.{no-flags}
 use Rattle.marking.specs.Parts.{pendingWords, knownWords, worklist, Becomes, each}
-use Rattle.worklist.specs.Parts.{followed}
+use Rattle.worklist.specs.Parts.{followed, analysisWithin}
 
 opened-is : (list : List ℕ) (k x : ℕ) → k + x ≤ length list → (s : Worklist)
     → each (λ i. mark (number 0 0 (getD list i 0) (getD list i 0))) k x s ≡ opened (take k (drop x list)) s
@@ -44,23 +40,20 @@ cleared-is : worklist none-set (replicate pendingWords 0) (replicate knownWords 
 unfolding none-set
 cleared-is = rw (no-flags pendingWords, no-flags knownWords)
 
--- from the opened worklist the procedure comes to its end, with the result of the analysis
-module _ (p : Program) (wf : WellFormed p) (m w : List ℕ) (b : Becomes (opened (p .automaton .initial)) none-set (replicate pendingWords 0) m w) where
+-- from the opened worklist so many iterations give what they give in the analysis
+module _ (p : Program) (m w : List ℕ) (b : Becomes (opened (p .automaton .initial)) none-set (replicate pendingWords 0) m w) where
   start-is : worklist m w (replicate knownWords 0) 0 ≡ opened (p .automaton .initial) blank
   start-is = b .becomes (replicate knownWords 0) 0 ∙ ap (opened (p .automaton .initial)) cleared-is
-
-  result-is : followed p m w (replicate knownWords 0) ≡ analysis p
-  unfolding analysis
-  result-is = ap (λ (s : Worklist). work enoughIterations p (lowest (s .pending) 0) s) start-is
 
   pub start-shape : Shape (worklist m w (replicate knownWords 0) 0)
   start-shape = subst Shape (sym start-is) (opened-shape (p .automaton .initial))
 
-  pub comes-to-an-end : lowest (followed p m w (replicate knownWords 0) .pending) 0 ≡ none
-  comes-to-an-end = ap (λ (s : Worklist). lowest (s .pending) 0) result-is ∙ analysis-ends p wf
+  result-is : (limit : ℕ) → followed limit p m w (replicate knownWords 0) ≡ analysisWithin limit p
+  unfolding analysisWithin
+  result-is limit = ap (λ (s : Worklist). work limit p (lowest (s .pending) 0) s) start-is
 
-  pub analyzed : {m′ : List ℕ} (w′ k′ : List ℕ) {n : ℕ} → worklist m′ w′ k′ n ≡ followed p m w (replicate knownWords 0)
-      → (m′ ≡ analysis p .marks) × (n ≡ analysis p .iterations)
-  analyzed w′ k′ e =
-      let f = e ∙ result-is in
-      (ap (λ (s : Worklist). s .marks) f, ap (λ (s : Worklist). s .iterations) f)
+  pub analyzed : (limit : ℕ) {m′ : List ℕ} (w′ k′ : List ℕ) {n : ℕ} → worklist m′ w′ k′ n ≡ followed limit p m w (replicate knownWords 0)
+      → (m′ ≡ analysisWithin limit p .marks) × (n ≡ analysisWithin limit p .iterations) × (flagsOf w′ ≡ analysisWithin limit p .pending)
+  analyzed limit w′ k′ e =
+      let f = e ∙ result-is limit in
+      (ap (λ (s : Worklist). s .marks) f, ap (λ (s : Worklist). s .iterations) f, ap (λ (s : Worklist). s .pending) f)

@@ -1,13 +1,14 @@
 -- The search for the lowest pending number.
 use Prim.Native.Nat.{ℕ, zero, suc, _+_, _<_}
-use mathlib.Core.Path.{_≡_, refl, ap, _∙_}
+use mathlib.Core.Path.{_≡_, refl, sym, ap, _∙_}
+use mathlib.Core.Logic.{_↔_}
 use mathlib.Core.Bool.{Bool, true, false, cond}
-use mathlib.Core.Option.{some, none}
+use mathlib.Core.Option.{some, none, Option·none-ne-some}
 use mathlib.Core.List.{List, [], _∷_}
 use native.Mathlib.Omega.{arith}
-use lib.Dec.{ltb}
+use lib.Dec.{ltb, leb}
 use lib.ListN.{length, getD}
-use borrow.Author.Tests.{eq-eqb, ne-eqb, ltb-true, ltb-false}
+use borrow.Author.Tests.{eq-eqb, ne-eqb, ltb-true, ltb-false, le-ltb, leb-true, le-leb}
 use Rattle.program.specs.Sizes.{marksSize}
 use Rattle.reach.specs.Worklist.{lowest}
 use Rattle.words.specs.Words.{FirstFlag}
@@ -38,3 +39,14 @@ first-lowest l r size f = go (ltb r marksSize) refl
     go false e =
         let h = ltb-false r marksSize e in
         not-found l 0 (λ j i. f .below .none-below j (omega arith))
+
+-- nothing is pending exactly when what was found is past the end
+pub done-is : (l : List ℕ) (r : ℕ) → lowest l 0 ≡ within marksSize r → (leb marksSize r ≡ true) ↔ (lowest l 0 ≡ none)
+done-is l r e = (
+  λ h. e ∙ rw (le-ltb r marksSize (leb-true marksSize r h)),
+  λ h. le-leb marksSize r (ltb-false r marksSize (go (ltb r marksSize) refl (sym h ∙ e))),
+)
+  where
+    go : (t : Bool) → ltb r marksSize ≡ t → none ≡ cond t (some r) none → ltb r marksSize ≡ false
+    go true h n = absurd (Option·none-ne-some r n)
+    go false h n = h

@@ -16,16 +16,17 @@ use Rattle.program.specs.WellFormed.{WellFormed}
 use Rattle.program.specs.Decoded.{programOf}
 use Rattle.program.specs.declared.DecodedProgram.{DecodedProgram}
 use Rattle.program.specs.Sizes.{maxEdges, marksSize}
+use Rattle.reach.specs.Sizes.{enoughIterations}
 use Rattle.reach.specs.Configurations.{nodeOf}
 use Rattle.reach.specs.Reachable.{Derivable, Any}
 use Rattle.reach.specs.Worklist.{Worklist}
 use Rattle.reach.specs.Marks.{Marked, Shows, Between, ClosedBut}
 use Rattle.base.proofs.SetFlags.{on-lt}
-use Rattle.reach.proofs.FollowingFromClosed.{Awaits, awaits-ends, awaits-shows}
+use Rattle.reach.proofs.FollowingFromClosed.{Awaits, awaits-shows}
 use Rattle.words.specs.Words.{flagsOf, NoneBelow}
 use Rattle.words.proofs.FlagsAsked.{flag-small}
 use Rattle.marking.specs.Parts.{pendingWords, worklist}
-use Rattle.worklist.specs.Parts.{isFirst, Awaited, Learnt, followed, Ends, Followable}
+use Rattle.worklist.specs.Parts.{isFirst, Awaited, Learnt, followed, Begun, Followable}
 use Rattle.worklist.proofs.FlagsSet.{Setting, setting-none, setting-all}
 use Rattle.worklist.proofs.RoutinePart.{table-edges}
 use Rattle.worklist.proofs.SummariesKnown.{exit-known, exit-marked}
@@ -111,15 +112,13 @@ module _ {p : Program} {steps index next marks pending known : List ℕ} {low hi
 
   -- ---- following comes to its end, with what follows from the marks
 
-  pub part-ends : Ends p steps index next marks pending known
-  part-ends =
-      record {
-        tables = record { well-formed = r .well-formed; edges = r .edges; indexed = ix; answers = r .answers };
-        shape = starts .shape;
-        ends = awaits-ends p (r .well-formed) low high s (r .closed) starts;
-      }
+  pub part-begun : Begun p steps index next marks pending known
+  part-begun = record {
+    tables = record { well-formed = r .well-formed; edges = r .edges; indexed = ix; answers = r .answers };
+    shape = starts .shape;
+  }
 
-  pub part-shows : {marks′ : List ℕ} (pending′ known′ : List ℕ) {n : ℕ} → worklist marks′ pending′ known′ n ≡ followed p marks pending known
+  pub part-shows : {marks′ : List ℕ} (pending′ known′ : List ℕ) {n : ℕ} → worklist marks′ pending′ known′ n ≡ followed enoughIterations p marks pending known
       → Shows (Derivable p (Marked marks) Any) marks′
   part-shows pending′ known′ e =
       subst (Shows (Derivable p (Marked marks) Any)) (sym (ap (λ (t : Worklist). t .marks) e))

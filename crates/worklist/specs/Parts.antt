@@ -13,10 +13,10 @@ use Rattle.program.specs.Sizes.{marksSize}
 use Rattle.program.specs.Program.{Program}
 use Rattle.program.specs.WellFormed.{WellFormed}
 use Rattle.program.specs.Decoded.{edgeOf}
-use Rattle.reach.specs.Sizes.{enoughIterations, summariesSize}
+use Rattle.reach.specs.Sizes.{summariesSize}
 use Rattle.reach.specs.Configurations.{nodeOf, exitAt}
 use Rattle.reach.specs.Marks.{ClosedBut}
-use Rattle.reach.specs.Worklist.{Worklist, Shape, lowest, work}
+use Rattle.reach.specs.Worklist.{Worklist, Shape, lowest, work, opened, blank, analysis}
 use Rattle.words.specs.Words.{flagsOf}
 use Rattle.marking.specs.Parts.{worklist, Tables}
 
@@ -35,15 +35,26 @@ pub record Awaited (low high : ℕ) (marks pending : List ℕ) : Type 0 where
 abbrev pub within : ℕ → ℕ → Option ℕ
 within size r = cond (ltb r size) (some r) none
 
--- what is pending in these words, followed to the end
-abbrev pub followed : Program → List ℕ → List ℕ → List ℕ → Worklist
-followed p marks pending known = work enoughIterations p (lowest (flagsOf pending) 0) (worklist marks pending known 0)
+-- what is pending in these words, followed by so many iterations at most
+abbrev pub followed : ℕ → Program → List ℕ → List ℕ → List ℕ → Worklist
+followed limit p marks pending known = work limit p (lowest (flagsOf pending) 0) (worklist marks pending known 0)
 
--- for this program, following it comes to an end
-pub record Ends (p : Program) (keys index next marks pending known : List ℕ) : Type 0 where
+-- for this program, it can be followed by these tables
+pub record Begun (p : Program) (keys index next marks pending known : List ℕ) : Type 0 where
   pub tables : Tables p keys index next
   pub shape : Shape (worklist marks pending known 0)
-  pub ends : lowest (followed p marks pending known .pending) 0 ≡ none
+
+-- the full analysis, by so many iterations at most
+unfoldable pub analysisWithin : ℕ → Program → Worklist
+analysisWithin limit p =
+    let s = opened (p .automaton .initial) blank in
+    work limit p (lowest (s .pending) 0) s
+
+-- what is left of it: the marks, the count of iterations, and whether the limit is enough
+pub record Analyzed (p : Program) (limit : ℕ) (m : List ℕ) (n : ℕ) (t : Bool) : Type 0 where
+  pub marks : m ≡ analysisWithin limit p .marks
+  pub iterations : n ≡ analysisWithin limit p .iterations
+  pub ended : t ≡ leb (analysis p .iterations) limit
 
 -- ---- a part of the table of edges: where that of one routine begins, and marks that can be followed by a part
 

@@ -6,6 +6,7 @@ use index::index_of;
 use marking::PENDING_WORDS;
 use program::edges::first_key;
 use reach::configuration::parts_of;
+use reach::spans::ENOUGH_ITERATIONS;
 use tables::first_from;
 use words::set_at;
 ghost use mathlib.Core.Path.{_≡_};
@@ -86,5 +87,14 @@ pub fn follow_part(
     let awaited = await_between(marks, low, high);
     let mut pending = awaited.words;
     clear(work);
-    let _iterations = follow_pending(steps, &index, next, marks, &mut pending, &mut known, low);
+    let _iterations = follow_pending(
+        steps,
+        &index,
+        next,
+        marks,
+        &mut pending,
+        &mut known,
+        low,
+        ENOUGH_ITERATIONS,
+    );
 }

@@ -1,4 +1,4 @@
-// What is pending is followed, lowest number first, until nothing is.
+// What is pending is followed, lowest number first, until nothing is or a limit is reached.
 use automaton::next::next_states;
 use index::index_of;
 use marking::take::take;
@@ -8,7 +8,6 @@ use program::sizes::MAX_EDGES;
 use tables::in_use;
 use words::first_set;
 ghost use mathlib.Core.Path.{_≡_};
-ghost use mathlib.Core.Option.{none};
 ghost use lib.ListN.{length};
 ghost use Rattle.program.specs.Sizes.{marksSize};
 ghost use Rattle.program.specs.Program.{Program};
@@ -17,10 +16,10 @@ ghost use Rattle.program.specs.Decoded.{programOf};
 ghost use Rattle.reach.specs.Worklist.{Shape, lowest};
 ghost use Rattle.words.specs.Words.{flagsOf, NoneBelow};
 ghost use Rattle.marking.specs.Parts.{pendingWords, knownWords, worklist};
-ghost use Rattle.worklist.specs.Parts.{within, followed, Ends};
+ghost use Rattle.worklist.specs.Parts.{within, followed, Begun};
 
 // The lowest pending number, or one past the end. Nothing below the start of the search is pending.
-fn lowest_pending(pending: &[u64], from: usize) -> usize
+pub fn lowest_pending(pending: &[u64], from: usize) -> usize
     requires { ⌜ (length (now pending) ≡ pendingWords) × NoneBelow (flagsOf (now pending)) from ⌝ }
     ensures { λ r. ⌜ (lowest (flagsOf (now (pending .entry))) 0 ≡ within marksSize r)
         × NoneBelow (flagsOf (now (pending .entry))) r ⌝ }
@@ -28,8 +27,8 @@ fn lowest_pending(pending: &[u64], from: usize) -> usize
     first_set(pending, from)
 }
 
-// Takes the lowest pending configuration while there is one, and returns the count of iterations. It starts from any
-// marks for which the procedure comes to an end, so that `follow_part` can use it too: hence the `requires`.
+// Takes the lowest pending configuration while there is one and the limit allows, and returns the count of iterations.
+// It starts from any marks, so that `follow_part` can use it too: hence the `requires`.
 pub fn follow_pending(
     keys: &[u32],
     index: &[u16],
@@ -38,18 +37,19 @@ pub fn follow_pending(
     pending: &mut [u64],
     known: &mut [u64],
     from: usize,
+    limit: usize,
 ) -> usize
     requires { ⌜ (length (now pending) ≡ pendingWords) × (length (now known) ≡ knownWords)
         × NoneBelow (flagsOf (now pending)) from ⌝ }
-    requires { ⌜ ((p : Program) × Ends p (now keys) (now index) (now next) (now marks) (now pending) (now known)) ⌝ }
-    ensures { λ r. ⌜ ((p : Program) → Ends p (now (keys .entry)) (now (index .entry)) (now (next .entry))
+    requires { ⌜ ((p : Program) × Begun p (now keys) (now index) (now next) (now marks) (now pending) (now known)) ⌝ }
+    ensures { λ r. ⌜ ((p : Program) → Begun p (now (keys .entry)) (now (index .entry)) (now (next .entry))
         (now (marks .entry)) (now (pending .entry)) (now (known .entry))
         → worklist (now (marks .exit)) (now (pending .exit)) (now (known .exit)) r
-        ≡ followed p (now (marks .entry)) (now (pending .entry)) (now (known .entry))) ⌝ }
+        ≡ followed limit p (now (marks .entry)) (now (pending .entry)) (now (known .entry))) ⌝ }
 {
     let mut iterations: usize = 0;
     let mut at = lowest_pending(pending, from);
-    while at < MARKS_SIZE {
+    while (at < MARKS_SIZE) & (iterations < limit) {
         let low = take(keys, index, next, marks, pending, known, at);
         iterations = iterations + 1;
         at = lowest_pending(pending, low);
@@ -58,20 +58,18 @@ pub fn follow_pending(
 }
 
 // The same for a decoded program: the index of its edges and the table of its automaton are made once. It starts from
-// any marks for which the procedure comes to an end: hence the `requires`.
+// any marks: hence the `requires`.
 pub fn follow_program(
     p: DecodedProgram,
     marks: &mut [u8],
     pending: &mut [u64],
     known: &mut [u64],
-    from: usize,
+    limit: usize,
 ) -> usize
     requires { ⌜ WellFormed (programOf p) × (length (now pending) ≡ pendingWords) × (length (now known) ≡ knownWords)
-        × NoneBelow (flagsOf (now pending)) from ⌝ }
-    requires { ⌜ Shape (worklist (now marks) (now pending) (now known) 0)
-        × (lowest (followed (programOf p) (now marks) (now pending) (now known) .pending) 0 ≡ none) ⌝ }
+        × Shape (worklist (now marks) (now pending) (now known) 0) ⌝ }
     ensures { λ r. ⌜ worklist (now (marks .exit)) (now (pending .exit)) (now (known .exit)) r
-        ≡ followed (programOf p) (now (marks .entry)) (now (pending .entry)) (now (known .entry)) ⌝ }
+        ≡ followed limit (programOf p) (now (marks .entry)) (now (pending .entry)) (now (known .entry)) ⌝ }
 {
     let rule = p.automaton;
     let edges = p.edges;
@@ -82,5 +80,5 @@ pub fn follow_program(
     let steps = &keys[..count];
     let chained = index_of(steps);
     let index = chained.places;
-    follow_pending(steps, &index, &next, marks, pending, known, from)
+    follow_pending(steps, &index, &next, marks, pending, known, 0, limit)
 }

@@ -16,7 +16,7 @@ returns : tie.Need-returns
 returns c =
     let b = c .before .before .before in
     let z = start b .args in
-    analyze-answered (z .file .now) (z .marks .now) (z .work .now) (b .checked-program .ensures) (c .before .v .given .1)
+    analyze-answered (z .file .now) (z .marks .now) (z .work .now) (b .checked-program .ensures) (c .before .v .given .1) (z .limit)
 
 returns-2 : tie.Need-returns-2
 returns-2 c =
@@ -24,7 +24,7 @@ returns-2 c =
     let t = d .before .before .before .before in
     let b = t .before .before in
     let z = start b .args in
-    let w = analyze-answered (z .file .now) (z .marks .now) (z .work .now) (b .checked-program .ensures) (t .enum-told .given .1) in
+    let w = analyze-answered (z .file .now) (z .marks .now) (z .work .now) (b .checked-program .ensures) (t .enum-told .given .1) (z .limit) in
     let a = d .analyze-counts .ensures in
     (a .0 ∙ w .0, a .1 ∙ w .1, a .2 ∙ w .2)
 

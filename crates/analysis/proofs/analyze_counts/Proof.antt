@@ -1,26 +1,25 @@
-use Rattle.analysis.specs.declared.AnalyzeAnswer.the-variants.{Counts}
-use Rattle.reach.specs.Marks.{violationsFrom}
-use Rattle.base.specs.Flags.{countSet}
-use Rattle.program.specs.Decoded.{programOf}
-use lib.ListN.{length}
-use mathlib.Core.List.{List}
-use mathlib.Core.Path.{ap, _∙_}
-use Prim.Native.Nat.{ℕ}
+-- `analysis::analyze_counts` meets its contract: what is handed over was worked out in the working buffer, which is cleared then.
+use Rattle.reach.proofs.MarksCopied.{cleared-is}
 use borrow.Author.Needs.{needs}
+use mathlib.Core.Path.{_∙_}
 use Rattle.analysis.proofs.analyze_counts.Statement.{statement}
 use Rattle.analysis.proofs.analyze_counts.Tie as tie
 
+hand-over-requires : tie.Need-hand-over-requires
+hand-over-requires c κs =
+    let a = c .before .before .before .before in
+    let z = a .before .before .before .before in
+    (z .pre .0, a .analyze-program .ensures, z .pre .1 .0)
+
 returns : tie.Need-returns
 returns c =
-    let z = c .before .before .before .before .before .before .before .before .before .before .before .before .before .before .before .before .before in
-    let p = programOf (z .args .p) in
-    let a = c .before .before .before .before .before .before .before .before .before .before .before .before .analyze-program .ensures in
-    let v = c .count-violations .ensures p (c .before .before .before .before .before .before .rejecting-flags .ensures) in
-    let m = c .before .before .before .count-set .ensures in
-    ((λ i. Counts ((m ∙ ap countSet (a .0)) i) ((v ∙ ap (λ (l : List ℕ). length (violationsFrom p l 0)) (a .0)) i) (a .2 i)), a .0, a .1)
+    let handed = c .before .before .before .before .before .before in
+    let a = handed .before .before .before .before .before in
+    let z = a .before .before .before .before in
+    let h = handed .hand-over .ensures in
+    (h .0, h .1, cleared-is (c .before .before .clear .ensures) (a .analyze-program .kept .1 .0 ∙ z .pre .1 .1))
 
 pub analyze-counts-spec : {M : Type 1} → statement M
 analyze-counts-spec =
     tie.close
-    (tie.spec (λ c κs. search needs) (λ c κs. search needs) (λ c κs. search needs) (λ c. search needs)
-    (λ c κs. search needs) (λ c. search needs) (λ c. search needs) returns)
+    (tie.spec (λ c κs. search needs) hand-over-requires (λ c κs. search needs) (λ c. search needs) (λ c. search needs) returns)

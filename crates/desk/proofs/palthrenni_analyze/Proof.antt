@@ -6,7 +6,7 @@ use Rattle.desk.proofs.palthrenni_analyze.Statement.{statement}
 use Rattle.desk.proofs.palthrenni_analyze.Tie as tie
 
 analyze-numbers-requires : tie.Need-analyze-numbers-requires
-analyze-numbers-requires c κs = rw (c .before .before .before .before .analyze .ensures .0) (analyze-fits _ _ _)
+analyze-numbers-requires c κs = rw (c .before .before .before .before .analyze .ensures .0) (analyze-fits _ _ _ _)
 
 returns : tie.Need-returns
 returns c =

@@ -1,10 +1,9 @@
 -- `worklist::part::follow_part` meets its contract: following starts from these marks, so it ends with what follows from them.
-use Rattle.worklist.proofs.PartAwaited.{none-under, part-ends, part-shows}
+use Rattle.worklist.proofs.PartAwaited.{none-under, part-begun, part-shows}
 use Rattle.marking.specs.Parts.{pendingWords, knownWords}
-use Rattle.reach.specs.Configurations.{none-set}
-use Prim.Native.Nat.{ℕ}
-use lib.ListN.{length, replicate}
-use mathlib.Core.Path.{_≡_, ap, _∙_}
+use Rattle.reach.proofs.MarksCopied.{cleared-is}
+use lib.ListN.{length}
+use mathlib.Core.Path.{_≡_}
 use borrow.Author.Needs.{needs}
 use Rattle.worklist.proofs.part.follow_part.Statement.{statement}
 use Rattle.worklist.proofs.part.follow_part.Tie as tie
@@ -34,11 +33,10 @@ follow-pending-requires c κs =
     let a : length (awaited c .await-between .result .words) ≡ pendingWords = search (needs, o) in
     let b : length (learnt c .summaries-of .result .words) ≡ knownWords = search (needs, k) in (
       (a, b, none-under (z .args .low) (z .args .high) (z .args .marks .now) pe),
-      (_, part-ends (z .pre .1 .1) (indexed c .index-of .ensures) (learnt c .summaries-of .ensures) pe),
+      (_, part-begun (z .pre .1 .1) (indexed c .index-of .ensures) (learnt c .summaries-of .ensures) pe),
     )
 
 returns : tie.Need-returns
-unfolding none-set
 returns c =
     let f = c .before .before .before .before in
     let b = f .before in
@@ -47,7 +45,7 @@ returns c =
     let kn = learnt b .summaries-of .ensures in
     let pe = awaited b .await-between .ensures in
     let e = f .follow-pending .ensures in
-    (λ p r. part-shows r ix kn pe _ _ (e p (part-ends r ix kn pe)), cleared b .clear .ensures ∙ ap (λ (n : ℕ). replicate n 0) (z .pre .0 .1))
+    (λ p r. part-shows r ix kn pe _ _ (e p (part-begun r ix kn pe)), cleared-is (cleared b .clear .ensures) (z .pre .0 .1))
 
 pub follow-part-spec : {M : Type 1} → statement M
 follow-part-spec =

@@ -1,6 +1,6 @@
 -- `worklist::pending::follow_pending` meets its contract. The loop's invariant: the bytes are on the way to the result.
-use Rattle.reach.specs.Sizes.{enoughIterations}
-use Rattle.worklist.proofs.LoopFollows.{Going, going-start, not-used-up, going-turn, going-end}
+use Rattle.worklist.proofs.LoopFollows.{goes-on, stops, Going, going-start, going-turn, going-end}
+use Rattle.program.specs.Sizes.{marksSize}
 use native.Mathlib.Omega.{arith}
 use mathlib.Core.Path.{sym, _∙_}
 use Prim.Native.Nat.{_-_, _<_}
@@ -8,12 +8,12 @@ use Rattle.worklist.proofs.pending.follow_pending.Statement.{statement}
 use Rattle.worklist.proofs.pending.follow_pending.Tie as tie
 
 abbrev Inv-loop : tie.InvT-loop
-Inv-loop keys index next marks₀ pending₀ known₀ from iterations₀ at₀ marks pending known iterations at =
-    Going keys index next marks₀ pending₀ known₀ marks pending known iterations at
+Inv-loop keys index next marks₀ pending₀ known₀ from limit iterations₀ at₀ marks pending known iterations at =
+    Going limit keys index next marks₀ pending₀ known₀ marks pending known iterations at
 
 abbrev μ-loop : tie.MeasureT-loop
-μ-loop keys index next marks₀ pending₀ known₀ from iterations₀ at₀ marks pending known iterations at =
-    enoughIterations - iterations
+μ-loop keys index next marks₀ pending₀ known₀ from limit iterations₀ at₀ marks pending known iterations at =
+    limit - iterations
 
 -- the places before
 abbrev start : tie.At-loop Inv-loop μ-loop → tie.Start Inv-loop μ-loop
@@ -22,12 +22,9 @@ start p = p .before .before .before .before .before .before .before .before .bef
 abbrev tested : tie.After-take Inv-loop μ-loop → tie.In-loop Inv-loop μ-loop
 tested t = t .before .before .before .before
 
--- in the loop there are iterations left
-left : (c : tie.In-loop Inv-loop μ-loop) → c .before .loop .iterations < enoughIterations
-left c =
-    let p = c .before in
-    let z = start p .pre in
-    not-used-up (p .loop .inv) (omega arith) (z .1 .0) (z .1 .1)
+-- in the loop something is pending, and the limit is not reached
+more : (c : tie.In-loop Inv-loop μ-loop) → (c .before .loop .at < marksSize) × (c .before .loop .iterations < start (c .before) .args .limit)
+more c = goes-on _ _ _ (c .loop-test .taken)
 
 lowest-pending-requires : tie.Need-lowest-pending-requires Inv-loop μ-loop
 lowest-pending-requires c κs = let z = c .before .before .before .before .before .before .before in (z .pre .0 .0, z .pre .0 .2)
@@ -36,17 +33,19 @@ loop-holds : tie.Need-loop-holds Inv-loop μ-loop
 loop-holds c =
     let z = c .before .before .before .before .before .before .before .before in
     let l = c .lowest-pending .ensures in
-    going-start (z .pre .1 .0) (z .pre .1 .1) (z .pre .0 .0) (z .pre .0 .1) (l .0) (l .1)
+    going-start _ (z .pre .1 .0) (z .pre .1 .1) (z .pre .0 .0) (z .pre .0 .1) (l .0) (l .1)
 
 take-requires : tie.Need-take-requires Inv-loop μ-loop
 take-requires c κs =
     let p = c .before .before .before .before in
     let z = start p in
     let g = p .loop .inv in
-    ((omega arith, z .pre .1 .1 .tables .indexed, g .known-length), (g .marks-length, g .pending-length))
+    ((more (c .before .before .before) .0, z .pre .1 .1 .tables .indexed, g .known-length), (g .marks-length, g .pending-length))
 
 add-iterations : tie.Need-add-iterations Inv-loop μ-loop
-add-iterations c = let taken = c .before .before .before .before .before .before in omega (arith, left (tested taken))
+add-iterations c =
+    let taken = c .before .before .before .before .before .before in
+    omega (arith, more (tested taken) .1, start (tested taken .before) .fits)
 
 lowest-pending-requires-2 : tie.Need-lowest-pending-requires-2 Inv-loop μ-loop
 lowest-pending-requires-2 c κs =
@@ -56,7 +55,7 @@ lowest-pending-requires-2 c κs =
     (t .kept .1 .1 .1 .1 .0 ∙ p .loop .inv .pending-length, t .ensures .1 (p .loop .inv .below))
 
 loop-less : tie.Need-loop-less Inv-loop μ-loop
-loop-less c = let taken = c .before .before .before .before .before .before .before .before in omega (arith, left (tested taken))
+loop-less c = let taken = c .before .before .before .before .before .before .before .before in omega (arith, more (tested taken) .1)
 
 loop-again : tie.Need-loop-again Inv-loop μ-loop
 loop-again c =
@@ -64,7 +63,7 @@ loop-again c =
     let i = tested taken in
     let t = taken .take in
     let l = c .lowest-pending2 .ensures in
-    going-turn (i .before .loop .inv) (omega (arith, i .loop-test)) (t .ensures .0) (t .kept .1 .1 .1 .0) (t .kept .1 .1 .1 .1 .0) (t .kept .1 .1 .1 .1 .1 .0)
+    going-turn (i .before .loop .inv) (more i .0) (more i .1) (t .ensures .0) (t .kept .1 .1 .1 .0) (t .kept .1 .1 .1 .1 .0) (t .kept .1 .1 .1 .1 .1 .0)
     (l .0) (l .1)
 
 same-length : tie.Need-same-length Inv-loop μ-loop
@@ -77,7 +76,7 @@ same-length-3 : tie.Need-same-length-3 Inv-loop μ-loop
 same-length-3 c = let p = c .before in p .loop .inv .known-length ∙ sym (start p .pre .0 .1)
 
 returns : tie.Need-returns Inv-loop μ-loop
-returns c = going-end (c .before .loop .inv) (omega arith)
+returns c = going-end (c .before .loop .inv) (stops _ _ _ (c .loop-test .left))
 
 pub follow-pending-spec : {M : Type 1} → statement M
 follow-pending-spec =

@@ -2,8 +2,9 @@
 use Rattle.program.specs.Sizes.{maxEdges}
 use Rattle.program.specs.Decoded.{programOf}
 use Rattle.program.proofs.ProgramRanged.{ranged}
-use Rattle.worklist.specs.Parts.{Ends}
+use Rattle.worklist.specs.Parts.{Begun}
 use Rattle.worklist.proofs.RoutinePart.{table-edges}
+use Rattle.worklist.proofs.AnalysisBegun.{none-yet}
 use lib.ListN.{length, take}
 use lib.Seq.{length-take-le}
 use native.Mathlib.Omega.{arith}
@@ -30,7 +31,7 @@ in-table : (c : tie.After-in-use) → c .in-use .result ≤ length (start c .arg
 in-table c = let r = room (start c) in let u = c .in-use .ensures in omega arith
 
 next-states-requires : tie.Need-next-states-requires
-next-states-requires c κs = let z = start c in ranged (programOf (z .args .p)) (z .pre .0 .0)
+next-states-requires c κs = let z = start c in ranged (programOf (z .args .p)) (z .pre .0)
 
 array-share-prefix-keys : tie.Need-array-share-prefix-keys
 array-share-prefix-keys c = in-table (c .before .before)
@@ -46,35 +47,34 @@ index-of-requires c κs =
     let r = room (start u) in
     omega (arith, length-take-le (u .in-use .result) (start u .args .p .edges .keys) (in-table u), in-table u)
 
-ends : (c : tie.After-index-of)
+begun : (c : tie.After-index-of)
     → let u = used c in let a = start u .args in
-    Ends (programOf (a .p)) (take (u .in-use .result) (a .p .edges .keys)) (c .index-of .result .places) (tabled c .next-states .result .sets)
+    Begun (programOf (a .p)) (take (u .in-use .result) (a .p .edges .keys)) (c .index-of .result .places) (tabled c .next-states .result .sets)
     (a .marks .now) (a .pending .now) (a .known .now)
-ends c =
+begun c =
     let u = used c in
     let z = start u in
     record {
       tables = record {
-        well-formed = z .pre .0 .0;
+        well-formed = z .pre .0;
         edges = table-edges (z .args .p) (room z) (u .in-use .ensures);
         indexed = c .index-of .ensures;
         answers = tabled c .next-states .ensures;
       };
-      shape = z .pre .1 .0;
-      ends = z .pre .1 .1;
+      shape = z .pre .3;
     }
 
 follow-pending-requires : tie.Need-follow-pending-requires
 follow-pending-requires c κs =
     let i = c .before .before .before .before .before .before in
     let z = start (used i) in
-    ((z .pre .0 .1, z .pre .0 .2, z .pre .0 .3), (programOf (z .args .p), ends i))
+    ((z .pre .1, z .pre .2, none-yet _), (programOf (z .args .p), begun i))
 
 returns : tie.Need-returns
 returns c =
     let f = c .before .before .before .before .before .before in
     let i = f .before .before .before .before .before .before .before in
-    f .follow-pending .ensures (programOf (start (used i) .args .p)) (ends i)
+    f .follow-pending .ensures (programOf (start (used i) .args .p)) (begun i)
 
 pub follow-program-spec : {M : Type 1} → statement M
 follow-program-spec =

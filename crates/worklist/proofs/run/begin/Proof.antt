@@ -1,19 +1,15 @@
 -- `worklist::run::begin` meets its contract.
-use Rattle.reach.specs.Configurations.{none-set}
-use lib.ListN.{replicate}
-use mathlib.Core.Path.{ap, _∙_}
-use Prim.Native.Nat.{ℕ}
+use Rattle.reach.proofs.MarksCopied.{cleared-is}
 use borrow.Author.Needs.{needs}
 use Rattle.worklist.proofs.run.begin.Statement.{statement}
 use Rattle.worklist.proofs.run.begin.Tie as tie
 
 returns : tie.Need-returns
-unfolding none-set
 returns c =
     let opened = c .before .before .before .before in
     let first = opened .before .before .before .before .before in
     let z = first .before .before .before .before in
-    rw (first .clear .ensures ∙ ap (λ (n : ℕ). replicate n 0) (z .pre .0)) at (opened .open-initial .ensures)
+    rw (cleared-is (first .clear .ensures) (z .pre .0)) at (opened .open-initial .ensures)
 
 pub begin-spec : {M : Type 1} → statement M
 begin-spec =

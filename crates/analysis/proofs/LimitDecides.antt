@@ -1,0 +1,74 @@
+-- The limit is enough and what was analyzed is the program's own, or the analysis is given up.
+use Prim.Native.Nat.{ℕ, _≤_, _<_}
+use mathlib.Core.Path.{_≡_, refl, sym, ap, _∙_}
+use mathlib.Core.Bool.{Bool, true, false}
+use mathlib.Core.List.{List, [], _∷_}
+use lib.Dec.{ltb}
+use lib.ListN.{length}
+use borrow.Author.Tests.{lt-ltb, le-ltb, ltb-true, ltb-false, leb-true, leb-false}
+use Rattle.program.specs.Sizes.{marksSize}
+use Rattle.program.specs.Program.{Program}
+use Rattle.program.specs.WellFormed.{WellFormed}
+use Rattle.program.specs.Checks.{row, firstMet, verdictOf}
+use Rattle.program.specs.declared.Verdict.{Verdict}
+use Rattle.program.specs.declared.Verdict.the-variants.{Accepted, Refused}
+use Rattle.reach.specs.Sizes.{enoughIterations}
+use Rattle.reach.specs.Worklist.{Worklist, analysis}
+use Rattle.reach.specs.Marks.{freshMarks}
+use Rattle.reach.proofs.ShapeKept.{marks-length}
+use Rattle.reach.proofs.TakingsBounded.{iterations-bound}
+use Rattle.worklist.specs.Parts.{Analyzed}
+use Rattle.worklist.proofs.AnalysisLimited.{limit-enough}
+use Rattle.analysis.specs.Answers.{limited, followedBy}
+
+module _ (p : Program) (limit : ℕ) where
+  pub enough-accepted : analysis p .iterations ≤ limit → limited p limit ≡ Accepted
+  unfolding firstMet
+  enough-accepted h = rw (le-ltb limit (analysis p .iterations) h)
+
+  above-refused : limit < analysis p .iterations → limited p limit ≡ Refused 22 0
+  unfolding firstMet
+  above-refused h = rw (lt-ltb limit (analysis p .iterations) h)
+
+  -- one or the other
+  pub by-limit : (P : Verdict → Type 0) → (analysis p .iterations ≤ limit → P Accepted) → (limit < analysis p .iterations → P (Refused 22 0)) → P (limited p limit)
+  unfolding firstMet
+  by-limit P a r = go (ltb limit (analysis p .iterations)) (λ e. a (ltb-false _ _ e)) (λ e. r (ltb-true _ _ e))
+    where
+      go : (t : Bool) → (t ≡ false → P Accepted) → (t ≡ true → P (Refused 22 0)) → P (verdictOf (firstMet (row 22 t ∷ [])))
+      go true a r = r refl
+      go false a r = a refl
+
+-- so many iterations are enough for every program, and refuse nothing
+pub unlimited : (v : Verdict) (p : Program) → followedBy v (limited p enoughIterations) ≡ v
+unlimited v p = rw (enough-accepted p enoughIterations (iterations-bound p)) (go v)
+  where
+    go : (v : Verdict) → followedBy v Accepted ≡ v
+    go Accepted = refl
+    go (Refused n line) = refl
+
+-- what is left of an analysis, where it has ended and where it has not
+module _ (p : Program) (wf : WellFormed p) (limit : ℕ) {m : List ℕ} {n : ℕ} {t : Bool} (a : Analyzed p limit m n t) where
+  pub gives-up : t ≡ false → limited p limit ≡ Refused 22 0
+  gives-up e = above-refused p limit (leb-false _ _ (sym (a .ended) ∙ e))
+
+  module _ (e : t ≡ true) where
+    enough : analysis p .iterations ≤ limit
+    enough = leb-true _ _ (sym (a .ended) ∙ e)
+
+    pub ended-accepted : limited p limit ≡ Accepted
+    ended-accepted = enough-accepted p limit enough
+
+    pub ended-marks : m ≡ freshMarks p
+    ended-marks = a .marks ∙ ap (λ (s : Worklist). s .marks) (limit-enough p wf limit enough)
+
+    pub ended-count : n ≡ analysis p .iterations
+    ended-count = a .iterations ∙ ap (λ (s : Worklist). s .iterations) (limit-enough p wf limit enough)
+
+    pub ended-length : length m ≡ marksSize
+    ended-length = ap length ended-marks ∙ marks-length p
+
+-- without a limit the marks are the program's own
+pub own-marks : (p : Program) → WellFormed p → {m : List ℕ} {n : ℕ} {t : Bool} → Analyzed p enoughIterations m n t → m ≡ freshMarks p
+own-marks p wf a =
+    a .marks ∙ ap (λ (s : Worklist). s .marks) (limit-enough p wf enoughIterations (iterations-bound p))
