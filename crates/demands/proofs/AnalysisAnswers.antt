@@ -25,9 +25,10 @@ use Rattle.reach.proofs.TakingsBounded.{iterations-taken, most-times}
 use Rattle.reach.proofs.AnalysisExact.{pending-clear}
 use Rattle.reach.proofs.MarksShown.{every-byte, fresh-shows, occurs-in-range}
 use Rattle.reach.proofs.ViolationsExact.{listed-iff, next-violation, violations-ascend}
-use Rattle.analysis.specs.Answers.{checkedMarks, analyzeBy, analyzeAnswer, analyzeRefusal, configurationCount, violationCount, iterationCount, onSuccess, marksAfter, owned, foundOf, foundBy, nextBy, nextAnswer, nextRefusal, nextFound}
+use Rattle.analysis.specs.Answers.{checkedMarks, limited, followedBy, analyzeBy, analyzeAnswer, analyzeRefusal, configurationCount, violationCount, iterationCount, onSuccess, marksAfter, owned, foundOf, foundBy, nextBy, nextAnswer, nextRefusal, nextFound}
 use Rattle.analysis.specs.declared.NextAnswer.{NextAnswer}
 use Rattle.analysis.proofs.AnswersByChecks.{by-marks}
+use Rattle.analysis.proofs.LimitDecides.{by-limit}
 use Rattle.desk.specs.Entries.{analyze, next-violation as next-entry, Lent, Values, counts, Back, programIn, Gives}
 use Rattle.demands.specs.Demands.{Demand2, Safe, Next, least, nothing, Procedure}
 use Rattle.demands.proofs.RefusalsReturned.{both-ways}
@@ -45,21 +46,27 @@ not-none b e z = absurd (omega (arith, few-checks (b .file) (Of (length (b .mark
 abbrev numbersBy : Verdict → Program → Values
 numbersBy v p = counts (configurationCount (analyzeBy v p)) (violationCount (analyzeBy v p)) (iterationCount (analyzeBy v p))
 
-record Analyzed (b : Lent) (a : Back) : Type 0 where
-  well-formed : WellFormed (programIn b)
-  marks : a .marks ≡ freshMarks (programIn b)
-  values : a .values ≡ counts (countSet (freshMarks (programIn b))) (length (violations (programIn b))) (analysis (programIn b) .iterations)
+pub record Analyzed (b : Lent) (a : Back) : Type 0 where
+  pub well-formed : WellFormed (programIn b)
+  pub marks : a .marks ≡ freshMarks (programIn b)
+  pub values : a .values ≡ counts (countSet (freshMarks (programIn b))) (length (violations (programIn b))) (analysis (programIn b) .iterations)
 
-analyzed : (b : Lent) (a : Back) → Gives analyze b a → a .refusal ≡ 0 → Analyzed b a
+pub analyzed : (b : Lent) (a : Back) → Gives analyze b a → a .refusal ≡ 0 → Analyzed b a
 unfolding analyzeAnswer marksAfter
 analyzed b a g z =
     go (checkedMarks (b .file) (b .marks) (b .work)) refl
     (ap (λ (x : Back). x .values) g) (ap (λ (x : Back). x .marks) g) (sym (ap (λ (x : Back). x .refusal) g) ∙ z)
   where
-    go : (v : Verdict) → checkedMarks (b .file) (b .marks) (b .work) ≡ v → a .values ≡ numbersBy v (programIn b)
-        → a .marks ≡ onSuccess v (freshMarks (programIn b)) (b .marks) → analyzeRefusal (analyzeBy v (programIn b)) ≡ 0 → Analyzed b a
-    go Accepted e n m y = record { well-formed = checked-well-formed b e; marks = m; values = n }
-    go (Refused n line) e i m y = not-none b e y
+    p : Program
+    p = programIn b
+
+    Given : Verdict → Type 0
+    Given v = a .values ≡ numbersBy v p → a .marks ≡ onSuccess v (freshMarks p) (b .marks) → analyzeRefusal (analyzeBy v p) ≡ 0 → Analyzed b a
+
+    go : (v : Verdict) → checkedMarks (b .file) (b .marks) (b .work) ≡ v → Given (followedBy v (limited p (b .limit)))
+    go Accepted e =
+        by-limit p (b .limit) Given (λ h n m y. record { well-formed = checked-well-formed b e; marks = m; values = n }) (λ h n m y. absurd (omega arith))
+    go (Refused n line) e = λ i m y. not-none b e y
 
 -- ---- demand 2
 

@@ -21,10 +21,10 @@ use Rattle.exchange.specs.ExchangeText.{any, anyAstray, exchangeFrom, wantedExc
 use Rattle.exchange.specs.Wanted.{wantedChange}
 use Rattle.repair.specs.Repairs.{repaired, InsideOutNumber}
 use Rattle.program.specs.Sample.{bytes}
-use Rattle.desk.specs.Entries.{analyze, Back, analyzeBack, repairBack, programIn, repairedIn, Gives}
+use Rattle.desk.specs.Entries.{analyze, Lent, Back, analyzeBack, repairBack, programIn, repairedIn, Gives}
 use Rattle.demands.specs.Lists.{entry}
 use Rattle.demands.specs.Lists as repair
-use Rattle.demands.specs.Cases.{Fresh, Changed, Case, Said, lentFresh, Analyzed, lentChange, Repaired, RepairedBoth, Holds, P1, P2, P3, P4, P5, P6, P7, P8, P9, P10, E1, E2, E3, E4, H1, H2, H3, H4, H5, H6, table}
+use Rattle.demands.specs.Cases.{Fresh, Changed, Limited, Case, Said, lentFresh, Analyzed, lentChange, Repaired, RepairedBoth, lentLimited, Tried, Holds, P1, P2, P3, P4, P5, P6, P7, P8, P9, P10, E1, E2, E3, E4, H1, H2, H3, H4, H5, H6, L1, L2, L3, L4, table}
 use Rattle.demands.proofs.EntriesGive.{forward-gives, inside-out-gives}
 use Rattle.demands.proofs.OneAnswer.{one-number}
 use Rattle.demands.proofs.CasesReanalyzed.{p5-reanalyzed, p6-reanalyzed, e1-reanalyzed}
@@ -40,10 +40,15 @@ analyzing = tt
 
 -- ---- what the functions give back for the rows
 
+abbrev analyzedBack : Lent → Back
+analyzedBack b =
+    analyzeBack b (analyzeAnswer (b .file) (b .marks) (b .work) (b .limit)) (marksAfter (b .file) (b .marks) (b .work) (b .limit)) (workAfter (b .file) (b .marks) (b .work))
+
 abbrev freshBack : Fresh → Back
-freshBack c =
-    let b = lentFresh c in
-    analyzeBack b (analyzeAnswer (b .file) (b .marks) (b .work)) (marksAfter (b .file) (b .marks) (b .work)) (workAfter (b .file) (b .marks) (b .work))
+freshBack c = analyzedBack (lentFresh c)
+
+abbrev limitedBack : Limited → Back
+limitedBack c = analyzedBack (lentLimited c)
 
 -- whatever routines are answered
 abbrev changedBack : Changed → ℕ → Back
@@ -51,6 +56,9 @@ changedBack c routines = repairBack (repairedIn (c .form) (lentChange c)) routin
 
 by-analysis : (c : Fresh) → Analyzed c (freshBack c) → (a : Back) → Gives analyze (lentFresh c) a → Analyzed c a
 by-analysis c h a g = subst (Analyzed c) (sym g) h
+
+by-limit : (c : Limited) → Tried c (limitedBack c) → (a : Back) → Gives analyze (lentLimited c) a → Tried c a
+by-limit c h a g = subst (Tried c) (sym g) h
 
 -- the number that the inside-out repair answers, for a change that is wanted so
 abbrev Routines : Changed → Back → Type 0
@@ -163,6 +171,22 @@ h6 : (k : ℕ) → Repaired H6 (changedBack H6 k)
 unfolding editing analyzing
 h6 k = record { refused = refl; marks = refl; size = refl; output = refl }
 
+l1 : Tried L1 (limitedBack L1)
+unfolding editing analyzing
+l1 = record { refused = refl; marks = refl; iterations = refl }
+
+l2 : Tried L2 (limitedBack L2)
+unfolding editing analyzing
+l2 = record { refused = refl; marks = refl; iterations = refl }
+
+l3 : Tried L3 (limitedBack L3)
+unfolding editing analyzing
+l3 = record { refused = refl; marks = refl; iterations = refl }
+
+l4 : Tried L4 (limitedBack L4)
+unfolding editing analyzing
+l4 = record { refused = refl; marks = refl; iterations = refl }
+
 -- ---- every row of the table holds
 
 -- the first of some rows, or a later one
@@ -178,4 +202,5 @@ every-row c =
     (at (by-repairs E1 e1 e1-routines) (at (by-repairs E2 e2 (λ a x. tt)) (at (by-repairs E3 e3 (λ a x. tt)) (at (by-repairs E4 e4 (λ a x. tt))
     (at (by-analysis H1 h1) (at (by-analysis H2 h2) (at (by-analysis H3 h3) (at (by-analysis H4 h4)
     (at (by-repairs H5 h5 (λ a x. tt)) (at (by-repairs H6 h6 (λ a x. tt))
-    (λ m. absurd (List·Memᴰ·not-nil m)))))))))))))))))))))
+    (at (by-limit L1 l1) (at (by-limit L2 l2) (at (by-limit L3 l3) (at (by-limit L4 l4)
+    (λ m. absurd (List·Memᴰ·not-nil m)))))))))))))))))))))))))

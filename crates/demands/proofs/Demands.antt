@@ -2,7 +2,7 @@
 use mathlib.Core.Path.{_≡_}
 use mathlib.Core.Logic.{_↔_, _≢_}
 use mathlib.Core.List.{List, [], _∷_, flatten, List·Memᴰ}
-use Prim.Native.Nat.{ℕ, _<_}
+use Prim.Native.Nat.{ℕ, _≤_, _<_}
 use lib.ListN.{length, take}
 use Rattle.automaton.specs.Automaton.{Automaton, moves}
 use Rattle.automaton.specs.NextStates.{setAt, Answers}
@@ -12,6 +12,7 @@ use Rattle.program.specs.Program.{Program}
 use Rattle.program.specs.WellFormed.{WellFormed}
 use Rattle.program.specs.Reading.{readFile, rowsIn}
 use Rattle.program.specs.declared.Verdict.the-variants.{Accepted}
+use Rattle.reach.specs.Takings.{takenIn}
 use Rattle.reach.specs.Marks.{Marked, Shows}
 use Rattle.prune.specs.Pruning.{Kept}
 use Rattle.edit.specs.Editing.{wantedEdit}
@@ -29,7 +30,7 @@ use Rattle.transcript.proofs.TurnsHold.{turns-print}
 use Rattle.desk.specs.Entries.{Entry, read, write, analyze, next-violation, prune, repair-forward, Lent, Back, programIn, Gives}
 use Rattle.demands.specs.Lists.{Repair, Call, entry, wrote, Gave}
 use Rattle.demands.specs.Inputs.{SameInputs}
-use Rattle.demands.specs.Demands.{Demand1, Acceptance, withWritten, WrittenFile, ChangedFile, Tabulated, Demand2, Safe, Next, Procedure, Heeds, OnActions, movesBefore, OneLook, Demand3, keepingOf}
+use Rattle.demands.specs.Demands.{Demand1, Acceptance, withWritten, WrittenFile, ChangedFile, Tabulated, Demand2, Safe, Next, Procedure, noLimit, withLimit, givenUp, Heeds, OnActions, movesBefore, OneLook, Demand3, keepingOf}
 use Rattle.demands.specs.Cases.{Case, Holds, table}
 use Rattle.demands.proofs.RefusalsReturned.{gives-demanded}
 use Rattle.demands.proofs.OneAnswer.{given-once}
@@ -37,6 +38,7 @@ use Rattle.demands.proofs.FilesAccepted.{file-acceptance, comes-back, w
 use Rattle.demands.proofs.ChangesAccepted.{changed-files}
 use Rattle.demands.proofs.BenchTooLong.{too-long}
 use Rattle.demands.proofs.AnalysisAnswers.{analyzed-exact, count-safe, next-given, procedure-ends}
+use Rattle.demands.proofs.LimitAnswers.{gives-up-when, leaves, larger, enough-never, never, zero-limit}
 use Rattle.demands.proofs.EventsHeeded.{call-heeded, return-heeded, as-before}
 use Rattle.demands.proofs.LookAnswers.{look-answers}
 use Rattle.demands.proofs.PruneKeeps.{pruned, drop-kept}
@@ -102,6 +104,32 @@ next-one = next-given
 pub procedure : (b : Lent) (a : Back) → Gives analyze b a → a .refusal ≡ 0 → Procedure (programIn b) a
 procedure = procedure-ends
 
+-- an analysis with a limit gives up exactly when the same call without one is accepted and the procedure takes more configurations than the limit says
+pub gives-up : (b : Lent) (a c : Back) → Gives analyze b a → Gives analyze (withLimit noLimit b) c
+    → (a .refusal ≡ 22) ↔ ((c .refusal ≡ 0) × (b .limit < length (takenIn (programIn b))))
+gives-up = gives-up-when
+
+-- what a giving up leaves
+pub given-up : (b : Lent) (a : Back) → Gives analyze b a → a .refusal ≡ 22 → a ≡ givenUp b
+given-up = leaves
+
+-- any other answer at a limit, with every number and every byte, is the answer at each larger one
+pub larger-limit : (b : Lent) (limit : ℕ) (a c : Back) → Gives analyze b a → Gives analyze (withLimit limit b) c → b .limit ≤ limit → a .refusal ≢ 22 → c ≡ a
+larger-limit = larger
+
+-- a limit of 1,025 iterations for each of the 16,384 configurations never gives up, and no larger one does
+pub enough-limit : (b : Lent) (a : Back) → Gives analyze b a → 16793600 ≤ b .limit → a .refusal ≢ 22
+enough-limit = enough-never
+
+-- nor does the largest limit
+pub no-limit : (b : Lent) (a : Back) → Gives analyze (withLimit noLimit b) a → a .refusal ≢ 22
+no-limit = never
+
+-- a limit of 0 gives up exactly on the accepted programs that have an initial state
+pub limit-0 : (b : Lent) (a c : Back) → Gives analyze b a → Gives analyze (withLimit noLimit b) c → b .limit ≡ 0
+    → (a .refusal ≡ 22) ↔ ((c .refusal ≡ 0) × (programIn b .automaton .initial ≢ []))
+limit-0 = zero-limit
+
 -- the moves by a call of f, and those by a return from it: without a rule line of that label the state stays, else only the listed moves happen
 pub calls-heard : (r : Automaton) (f : ℕ) → Heeds r (event.Call f)
 calls-heard = call-heeded
@@ -139,6 +167,6 @@ pub pass-depends : {members : List ℕ} {p p′ : Program} {old old′ marks mar
     → Marked after f n r q ↔ Marked after′ f n r q
 pass-depends = depends
 
--- ---- the cases P1 to P10, E1 to E4 for exchanges, and H1 to H6 for calls and returns that the rule hears, rows of one table
+-- ---- the cases P1 to P10, E1 to E4 for exchanges, H1 to H6 for calls and returns that the rule hears, and L1 to L4 for a limit, rows of one table
 pub cases : (c : Case) → List·Memᴰ c table → Holds c
 cases = every-row

@@ -4,6 +4,7 @@ pub mod RefusalsReturned
 pub mod OneAnswer
 pub mod FilesAccepted
 pub mod AnalysisAnswers
+pub mod LimitAnswers
 pub mod BenchTooLong
 pub mod EventsHeeded
 pub mod LookAnswers

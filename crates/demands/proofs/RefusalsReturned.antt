@@ -4,9 +4,9 @@ use mathlib.Core.Logic.{_≢_, _⊎_, inl, inr, ⊎-elim}
 use mathlib.Core.Bool.{Bool, true, false, cond, not}
 use mathlib.Core.Option.{Option, some, none}
 use mathlib.Core.List.{List, [], _∷_, _++_}
-use Prim.Native.Nat.{ℕ}
+use Prim.Native.Nat.{ℕ, _<_}
 use native.Mathlib.Omega.{arith}
-use lib.Dec.{eqb}
+use lib.Dec.{eqb, ltb}
 use lib.ListN.{length}
 use borrow.Author.Tests.{eqb-false, ne-eqb}
 use Rattle.program.specs.Program.{Program}
@@ -20,8 +20,9 @@ use Rattle.program.proofs.Theorems.{few-lines}
 use Rattle.program.proofs.ChecksPassed.{CheckedAs, passed, by-file, by-length, checked-file}
 use Rattle.writer.specs.Answers.{answerBy, outputBy, checkedOutput, writeAnswer, outputAfter, refusal as writeRefusal}
 use Rattle.reach.specs.Configurations.{none-set}
+use Rattle.reach.specs.Worklist.{analysis}
 use Rattle.reach.specs.Marks.{freshMarks, firstFrom, violations}
-use Rattle.analysis.specs.Answers.{checkedMarks, analyzeBy, analyzeAnswer, onSuccess, marksAfter, workAfter, same, foreignRow, foundOf, foundBy, nextBy, nextAnswer}
+use Rattle.analysis.specs.Answers.{checkedMarks, limitRow, limited, followedBy, analyzeBy, analyzeAnswer, onSuccess, marksAfter, workAfter, same, foreignRow, foundOf, foundBy, nextBy, nextAnswer}
 use Rattle.prune.specs.Pruning.{Pruned}
 use Rattle.exchange.specs.Changes.{ChangeRead}
 use Rattle.exchange.specs.Changes as change
@@ -47,17 +48,18 @@ returned-once (of-the-file f) (of-the-rest g) = absurd (g _ _ f)
 returned-once (of-the-rest f) (of-the-file g) = absurd (f _ _ g)
 returned-once (of-the-rest f) (of-the-rest g) = (refl, refl)
 
--- ---- refusals before 17
+-- ---- refusals before 17 and 22
 
--- a call that is refused before 17, and leaves everything
+-- a call that is refused before these, and leaves everything
 abbrev refused : ℕ → ℕ → Lent → Back
 refused n line b = record { refusal = n; line = line; values = noValues; marks = b .marks; output = b .output; work = b .work }
 
--- the number is the table's, and neither 0 nor 17
+-- the number is the table's, and none of 0, 17 and 22
 pub record Early (e : Entry) (b : Lent) (n line : ℕ) : Type 0 where
   pub returned : Returned e b n line
   pub some-number : n ≢ 0
   pub before-17 : n ≢ 17
+  pub below-22 : n < 22
 
 early : {e : Entry} {b : Lent} {n line : ℕ} → Early e b n line → Demand1 e b (refused n line b)
 early {e} {b} {n} {line} x =
@@ -67,15 +69,16 @@ early {e} {b} {n} {line} x =
       no-result = λ h. refl;
       marks = λ h. refl;
       output = λ h. refl;
-      work-kept = λ h i. refl;
+      work-kept = λ h i j. refl;
       work-cleared = λ w. cleared;
     }
   where
-    cleared : (n ≡ 0) ⊎ (n ≡ 17) → b .work ≡ none-set
+    cleared : (n ≡ 0) ⊎ ((n ≡ 17) ⊎ (n ≡ 22)) → b .work ≡ none-set
     cleared (inl h) = absurd (x .some-number h)
-    cleared (inr h) = absurd (x .before-17 h)
+    cleared (inr (inl h)) = absurd (x .before-17 h)
+    cleared (inr (inr h)) = absurd (omega (arith, x .below-22))
 
--- ---- no refusal before 17
+-- ---- no refusal before 17 and 22
 
 -- a call without a working buffer is done
 done : {e : Entry} {b : Lent} {v : Values} {output : List ℕ} → hasWork e ≡ false → Returned e b 0 0
@@ -87,13 +90,16 @@ done h r =
       no-result = λ i. absurd (i refl);
       marks = λ i. refl;
       output = λ i. absurd (i refl);
-      work-kept = λ i j. refl;
+      work-kept = λ i j k. refl;
       work-cleared = λ w. absurd (both-ways (sym h ∙ w));
     }
 
--- a call with one: 17, or it is done
+-- a call with one: 17 or 22, or it is done
+abbrev Spared : Lent → ℕ → Values → List ℕ → List ℕ → Type 0
+Spared b n v marks output = ((n ≡ 17) ⊎ (n ≡ 22)) × (v ≡ noValues) × (marks ≡ b .marks) × (output ≡ b .output)
+
 late : {e : Entry} {b : Lent} {n : ℕ} {v : Values} {marks output : List ℕ} → Returned e b n 0
-    → (n ≡ 0) ⊎ ((n ≡ 17) × (v ≡ noValues) × (marks ≡ b .marks) × (output ≡ b .output))
+    → (n ≡ 0) ⊎ Spared b n v marks output
     → Demand1 e b (record { refusal = n; line = 0; values = v; marks = marks; output = output; work = none-set })
 late {e} {b} {n} {v} {marks} {output} r x =
     record {
@@ -102,17 +108,17 @@ late {e} {b} {n} {v} {marks} {output} r x =
       no-result = λ h. kept x h .0;
       marks = λ h. kept x h .1;
       output = λ h. kept x h .2;
-      work-kept = λ h i. absurd (neither x h i);
+      work-kept = λ h i j. absurd (neither x h i j);
       work-cleared = λ w h. refl;
     }
   where
-    kept : (n ≡ 0) ⊎ ((n ≡ 17) × (v ≡ noValues) × (marks ≡ b .marks) × (output ≡ b .output)) → n ≢ 0 → (v ≡ noValues) × (marks ≡ b .marks) × (output ≡ b .output)
+    kept : (n ≡ 0) ⊎ Spared b n v marks output → n ≢ 0 → (v ≡ noValues) × (marks ≡ b .marks) × (output ≡ b .output)
     kept (inl z) h = absurd (h z)
     kept (inr y) h = (y .1, y .2, y .3)
 
-    neither : (n ≡ 0) ⊎ ((n ≡ 17) × (v ≡ noValues) × (marks ≡ b .marks) × (output ≡ b .output)) → n ≢ 0 → n ≢ 17 → ⊥
-    neither (inl z) h i = h z
-    neither (inr y) h i = i (y .0)
+    neither : (n ≡ 0) ⊎ Spared b n v marks output → n ≢ 0 → n ≢ 17 → n ≢ 22 → ⊥
+    neither (inl z) h i j = h z
+    neither (inr y) h i j = ⊎-elim i j (y .0)
 
 -- ---- the checks, one after another
 
@@ -128,7 +134,12 @@ file-judged e b = go (readFile (b .file) .verdict) refl (file-told (b .file))
     go Accepted h t = of-the-rest t
     go (Refused n line) h t =
         let x = few-lines (b .file) n line h in
-        record { returned = of-the-file t; some-number = faulty-number t; before-17 = λ z. ⊎-elim (λ y. absurd (omega arith)) (λ y. absurd (omega arith)) (x .3) }
+        record {
+          returned = of-the-file t;
+          some-number = faulty-number t;
+          before-17 = λ z. ⊎-elim (λ y. absurd (omega arith)) (λ y. absurd (omega arith)) (x .3);
+          below-22 = omega arith;
+        }
 
 -- the file and the lengths, whatever was asked, and whatever comes after them
 pub checked-judged : (e : Entry) (b : Lent) (marks output work : Length) (final : List Row) → rows e b ≡ bufferRows marks output work ++ final
@@ -145,7 +156,7 @@ checked-judged e b marks output work final h = go (checked (b .file) marks outpu
     go v (passed a s f) = left a (f final)
     go v (by-file a) = by v a
     go v (by-length a low high f) =
-        record { returned = left a (f final); some-number = λ z. absurd (omega arith); before-17 = λ z. absurd (omega arith) }
+        record { returned = left a (f final); some-number = λ z. absurd (omega arith); before-17 = λ z. absurd (omega arith); below-22 = omega arith }
 
 not-equal : {n m : ℕ} → eqb n m ≡ false → n ≢ m
 not-equal {n} {m} e = eqb-false n m e
@@ -174,13 +185,23 @@ marks-judged : (e : Entry) (b : Lent) (final : List Row) → rows e b ≡ marksR
     → Judged e b final (checkedMarks (b .file) (b .marks) (b .work))
 marks-judged e b = checked-judged e b (Of (length (b .marks))) NotAsked (Of (length (b .work)))
 
-analyze-good : (b : Lent) → Demand1 analyze b (analyzeBack b (analyzeAnswer (b .file) (b .marks) (b .work)) (marksAfter (b .file) (b .marks) (b .work)) (workAfter (b .file) (b .marks) (b .work)))
+analyze-good : (b : Lent)
+    → Demand1 analyze b (analyzeBack b (analyzeAnswer (b .file) (b .marks) (b .work) (b .limit)) (marksAfter (b .file) (b .marks) (b .work) (b .limit)) (workAfter (b .file) (b .marks) (b .work)))
 unfolding analyzeAnswer marksAfter workAfter firstMet
-analyze-good b = go (checkedMarks (b .file) (b .marks) (b .work)) (marks-judged analyze b [] refl)
+analyze-good b = go (checkedMarks (b .file) (b .marks) (b .work)) (marks-judged analyze b (limitRow (programIn b) (b .limit) ∷ []) refl)
   where
-    go : (v : Verdict) → Judged analyze b [] v
-        → Demand1 analyze b (analyzeBack b (analyzeBy v (programIn b)) (onSuccess v (freshMarks (programIn b)) (b .marks)) (onSuccess v none-set (b .work)))
-    go Accepted r = late r (inl refl)
+    p : Program
+    p = programIn b
+
+    within : (t : Bool) → Returned analyze b (cond t 22 0) 0
+        → Demand1 analyze b (analyzeBack b (analyzeBy (verdictOf (cond t 22 0)) p) (onSuccess (verdictOf (cond t 22 0)) (freshMarks p) (b .marks)) none-set)
+    within true r = late r (inr (inr refl, refl, refl, refl))
+    within false r = late r (inl refl)
+
+    go : (v : Verdict) → Judged analyze b (limitRow p (b .limit) ∷ []) v
+        → let w = followedBy v (limited p (b .limit)) in
+        Demand1 analyze b (analyzeBack b (analyzeBy w p) (onSuccess w (freshMarks p) (b .marks)) (onSuccess v none-set (b .work)))
+    go Accepted r = within (ltb (b .limit) (analysis p .iterations)) r
     go (Refused n line) x = early x
 
 prune-good : (b : Lent) (marks : List ℕ) → Pruned (checkedMarks (b .file) (b .marks) (b .work)) (programIn b) (b .marks) marks
@@ -202,7 +223,7 @@ next-good b = go (checkedMarks (b .file) (b .marks) (b .work)) (marks-judged nex
 
     own : (t : Bool) (o : Option ℕ) → Returned next-violation b (cond (not t) 17 0) 0 → Demand1 next-violation b (nextBack b (foundBy (verdictOf (cond (not t) 17 0)) o) none-set)
     own true o r = found o r
-    own false o r = late r (inr (refl, refl, refl, refl))
+    own false o r = late r (inr (inl refl, refl, refl, refl))
 
     go : (v : Verdict) → Judged next-violation b (foreignRow (programIn b) (b .marks) ∷ []) v
         → Demand1 next-violation b (nextBack b (nextBy v (programIn b) (b .marks) (b .from)) (onSuccess v none-set (b .work)))
@@ -236,7 +257,7 @@ module _ (k : Form) (e : Entry) (b : Lent) (h : rows e b ≡ repairRows k b) whe
           → (writeRefusal (ownedBy (verdictOf (cond (not t) 17 0)) p (b .marks) (b .output) .answer) ≢ 0 → routines ≡ 0)
           → Demand1 e b (repairBack (ownedBy (verdictOf (cond (not t) 17 0)) p (b .marks) (b .output)) routines)
       changed p true r z = late r (inl refl)
-      changed p false r z = late r (inr (refl, no-routines (z (not-equal refl)), refl, refl))
+      changed p false r z = late r (inr (inl refl, no-routines (z (not-equal refl)), refl, refl))
 
       wanted : (w : ChangeRead) → wantedChange k (programIn b) (b .text) ≡ w → Returned e b (numberThen w (firstMet (foreignRow (programIn b) (b .marks) ∷ []))) 0
           → (writeRefusal (wantedBy w (programIn b) (b .marks) (b .output) (b .work) .answer) ≢ 0 → routines ≡ 0)
@@ -244,7 +265,7 @@ module _ (k : Form) (e : Entry) (b : Lent) (h : rows e b ≡ repairRows k b) whe
       wanted (change.Read c) i r z = changed (changedProgram c (programIn b)) (same (b .marks) (freshMarks (programIn b))) r z
       wanted (change.Refused n) i r z =
           let x = change-number k (programIn b) (b .text) n i in
-          refuses (record { returned = r; some-number = λ y. absurd (omega (arith, x .0)); before-17 = x .2 }) z
+          refuses (record { returned = r; some-number = λ y. absurd (omega (arith, x .0)); before-17 = x .2; below-22 = omega (arith, x .1) }) z
 
       go : (v : Verdict) → Judged e b left v
           → (writeRefusal (repairedBy k v (programIn b) (b .marks) (b .text) (b .output) (b .work) .answer) ≢ 0 → routines ≡ 0)

@@ -1,5 +1,5 @@
--- The paper's cases P1 to P10, E1 to E4 for exchanges of a routine, and H1 to H6 for calls and returns that the rule
--- hears, each from the bytes of its file, and of its edit line or text where it has one: one table.
+-- The paper's cases P1 to P10, E1 to E4 for exchanges of a routine, H1 to H6 for calls and returns that the rule hears,
+-- and L1 to L4 for a limit, each from the bytes of its file, and of its edit line or text where it has one: one table.
 use mathlib.Core.Path.{_≡_}
 use mathlib.Core.Option.{Option, none, some}
 use mathlib.Core.List.{List, [], _∷_, _++_}
@@ -13,6 +13,7 @@ use Rattle.reach.specs.Marks.{violations}
 use Rattle.exchange.specs.declared.Form.{Form}
 use Rattle.exchange.specs.declared.Form.the-variants.{EditLine, ExchangeText}
 use Rattle.desk.specs.Entries.{analyze, Lent, Back, programIn, Gives}
+use Rattle.demands.specs.Demands.{noLimit}
 use Rattle.demands.specs.Lists.{entry}
 use Rattle.demands.specs.Lists as repair
 
@@ -39,9 +40,20 @@ pub record Changed : Type 0 where
   pub wrote : List String
   pub reanalyzed : Option ℕ
 
+-- a file, by its lines, that is analyzed with a limit, and the configurations that are marked before; and what is
+-- expected: the refusal's number, 0 for none, the configurations that are marked afterwards, and the iterations told
+pub record Limited : Type 0 where
+  pub file : List String
+  pub limit : ℕ
+  pub before : List ℕ
+  pub refused : ℕ
+  pub after : List ℕ
+  pub iterations : ℕ
+
 pub data Case : Type 0 where
   fresh : Fresh → Case
   changed : Changed → Case
+  limited : Limited → Case
 
 -- ---- what it means
 
@@ -55,19 +67,20 @@ abbrev pub Said : {A : Type 0} → (A → Type 0) → Option A → Type 0
 Said P none = Unit {0}
 Said P (some x) = P x
 
--- what is lent: a file by its lines, marks, an edit line or a text, an output and a working buffer of zeros
-abbrev pub lentWith : List String → List ℕ → List ℕ → Lent
-lentWith file marks text = record {
+-- what is lent: a file by its lines, marks, an edit line or a text, an output and a working buffer of zeros, a limit
+abbrev pub lentWith : List String → List ℕ → List ℕ → ℕ → Lent
+lentWith file marks text limit = record {
   file = bytes file;
   marks = marks;
   text = text;
   output = replicate outputSize 0;
   work = none-set;
+  limit = limit;
   from = 0;
 }
 
 abbrev pub lentFresh : Fresh → Lent
-lentFresh c = lentWith (c .file) none-set []
+lentFresh c = lentWith (c .file) none-set [] noLimit
 
 -- what a full analysis gives back is as expected: the file is accepted, and so on
 pub record Analyzed (c : Fresh) (a : Back) : Type 0 where
@@ -78,7 +91,7 @@ pub record Analyzed (c : Fresh) (a : Back) : Type 0 where
   pub iterations : Said (λ n. a .values .iterations ≡ n) (c .iterations)
 
 abbrev pub lentChange : Changed → Lent
-lentChange c = lentWith (c .file) (marksAt (c .before)) (bytes (c .text))
+lentChange c = lentWith (c .file) (marksAt (c .before)) (bytes (c .text)) 0
 
 -- what a repair gives back is as expected: the refusal and the marks; the lines that are written stand at the start of
 -- the output, whose other bytes stay
@@ -95,9 +108,19 @@ pub record RepairedBoth (c : Changed) : Type 0 where
   pub reanalyzed : (a : Back) → Gives (entry (c .form) repair.inside-out) (lentChange c) a
       → Said (λ n. a .values .reanalyzed ≡ n) (c .reanalyzed)
 
+abbrev pub lentLimited : Limited → Lent
+lentLimited c = lentWith (c .file) (marksAt (c .before)) [] (c .limit)
+
+-- what an analysis with a limit gives back is as expected
+pub record Tried (c : Limited) (a : Back) : Type 0 where
+  pub refused : a .refusal ≡ c .refused
+  pub marks : a .marks ≡ marksAt (c .after)
+  pub iterations : a .values .iterations ≡ c .iterations
+
 abbrev pub Holds : Case → Type 0
 Holds (fresh c) = (a : Back) → Gives analyze (lentFresh c) a → Analyzed c a
 Holds (changed c) = RepairedBoth c
+Holds (limited c) = (a : Back) → Gives analyze (lentLimited c) a → Tried c a
 
 -- ---- the rows
 
@@ -345,9 +368,28 @@ H6 = record {
   reanalyzed = none;
 }
 
+-- ---- a limit
+
+-- L1: F takes 6 iterations, and a limit of 6 is enough
+abbrev pub L1 : Limited
+L1 = record { file = F; limit = 6; before = 7 ∷ []; refused = 0; after = ofF; iterations = 6 }
+
+-- L2: 5 are too few: the marks are as they were, and no count is told
+abbrev pub L2 : Limited
+L2 = record { file = F; limit = 5; before = 7 ∷ []; refused = 22; after = 7 ∷ []; iterations = 0 }
+
+-- L3: with no initial state nothing is taken, and 0 is enough
+abbrev pub L3 : Limited
+L3 = record { file = P3 .file; limit = 0; before = 7 ∷ []; refused = 0; after = []; iterations = 0 }
+
+-- L4: P7's one iteration is one too many for 0
+abbrev pub L4 : Limited
+L4 = record { file = P7 .file; limit = 0; before = []; refused = 22; after = []; iterations = 0 }
+
 -- ---- the table
 
 abbrev pub table : List Case
 table = fresh P1 ∷ fresh P2 ∷ fresh P3 ∷ fresh P4 ∷ changed P5 ∷ changed P6 ∷ fresh P7 ∷ changed P8
     ∷ changed P9 ∷ changed P10 ∷ changed E1 ∷ changed E2 ∷ changed E3 ∷ changed E4
-    ∷ fresh H1 ∷ fresh H2 ∷ fresh H3 ∷ fresh H4 ∷ changed H5 ∷ changed H6 ∷ []
+    ∷ fresh H1 ∷ fresh H2 ∷ fresh H3 ∷ fresh H4 ∷ changed H5 ∷ changed H6
+    ∷ limited L1 ∷ limited L2 ∷ limited L3 ∷ limited L4 ∷ []

@@ -48,10 +48,10 @@ pub record Demand1 (e : Entry) (b : Lent) (a : Back) : Type 0 where
   -- a refusal leaves the marks and the output unchanged
   pub marks : a .refusal ≢ 0 → a .marks ≡ b .marks
   pub output : a .refusal ≢ 0 → a .output ≡ b .output
-  -- the working buffer is unchanged after a refusal that is checked before 17
-  pub work-kept : a .refusal ≢ 0 → a .refusal ≢ 17 → a .work ≡ b .work
-  -- and all zero after 17 or success
-  pub work-cleared : hasWork e ≡ true → (a .refusal ≡ 0) ⊎ (a .refusal ≡ 17) → a .work ≡ none-set
+  -- the working buffer is unchanged after a refusal that is checked before 17 and 22
+  pub work-kept : a .refusal ≢ 0 → a .refusal ≢ 17 → a .refusal ≢ 22 → a .work ≡ b .work
+  -- and all zero after 17, 22 or success
+  pub work-cleared : hasWork e ≡ true → (a .refusal ≡ 0) ⊎ ((a .refusal ≡ 17) ⊎ (a .refusal ≡ 22)) → a .work ≡ none-set
 
 -- a file is what is written of a well-formed program
 pub record FileOf (p : Program) (file : List ℕ) : Type 0 where
@@ -87,6 +87,7 @@ withWritten b a = record {
   text = b .text;
   output = b .output;
   work = b .work;
+  limit = b .limit;
   from = b .from;
 }
 
@@ -144,6 +145,35 @@ pub record Procedure (p : Program) (a : Back) : Type 0 where
   pub iterations : a .values .iterations ≡ length (takenIn p)
   pub at-most : (i : ℕ) → times i (takenIn p) ≤ 1025
 
+-- ---- a limit on the iterations (paper: a ceiling on takings)
+
+-- the largest limit
+abbrev pub noLimit : ℕ
+noLimit = 18446744073709551615
+
+-- the same call with another limit
+abbrev pub withLimit : ℕ → Lent → Lent
+withLimit limit b = record {
+  file = b .file;
+  marks = b .marks;
+  text = b .text;
+  output = b .output;
+  work = b .work;
+  limit = limit;
+  from = b .from;
+}
+
+-- what a giving up leaves: no line and no counts, the marks as they were, and the working buffer all zero
+abbrev pub givenUp : Lent → Back
+givenUp b = record {
+  refusal = 22;
+  line = 0;
+  values = noValues;
+  marks = b .marks;
+  output = b .output;
+  work = none-set;
+}
+
 -- ---- the moves of a run, where the rule hears calls and returns
 
 -- of the moves by a call or a return
@@ -200,4 +230,12 @@ pub record Demand3 (file : List ℕ) (cs : List Call) (gs : List Back) : Type 0 
 -- the keeping's call that does what a forward drop did: for the file that the drop wrote, on the marks that were lent
 -- to it
 abbrev pub keepingOf : Lent → Back → Lent
-keepingOf b a = record { file = wrote a; marks = b .marks; text = []; output = []; work = b .work; from = 0 }
+keepingOf b a = record {
+  file = wrote a;
+  marks = b .marks;
+  text = [];
+  output = [];
+  work = b .work;
+  limit = 0;
+  from = 0;
+}

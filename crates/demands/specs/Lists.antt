@@ -48,7 +48,15 @@ entry ExchangeText inside-out = exchange-inside-out
 
 -- what is lent to a call
 abbrev pub lentTo : Desk → Call → Lent
-lentTo d c = record { file = d .file; marks = d .marks; text = c .text; output = c .output; work = c .work; from = 0 }
+lentTo d c = record {
+  file = d .file;
+  marks = d .marks;
+  text = c .text;
+  output = c .output;
+  work = c .work;
+  limit = 0;
+  from = 0;
+}
 
 -- what a call wrote: so many bytes at the start of its output
 abbrev pub wrote : Back → List ℕ

@@ -1,6 +1,6 @@
 -- The table of refusals (paper: "Refusals by place"): for each row its case, for each function its rows in their order.
--- The rows of the lengths (`bufferRows`), of the text of an exchange (`exchangeRows`) and of the marks (`foreignRow`)
--- stand where the answers are defined.
+-- The rows of the lengths (`bufferRows`), of the text of an exchange (`exchangeRows`), of the marks (`foreignRow`) and
+-- of the limit (`limitRow`) stand where the answers are defined.
 use Prim.Native.Nat.{ℕ, _+_}
 use mathlib.Core.Path.{_≡_}
 use mathlib.Core.Logic.{_≢_}
@@ -16,7 +16,7 @@ use Rattle.rows.specs.Rows.{TableRow, Pair, timesMet}
 use Rattle.program.specs.Reading.{Progress, start, ordered, ranged, full, miscounted, after, pairsOf}
 use Rattle.program.specs.Checks.{Row, row, firstMet, bufferRows}
 use Rattle.program.specs.declared.Length.the-variants.{NotAsked, Of}
-use Rattle.analysis.specs.Answers.{foreignRow}
+use Rattle.analysis.specs.Answers.{foreignRow, limitRow}
 use Rattle.edit.specs.Edits.{oldEdge, newEdge}
 use Rattle.edit.specs.EditLines.{onlyLine, badLine, outOfRange, editIn}
 use Rattle.edit.specs.Editing.{hasEdge}
@@ -119,7 +119,7 @@ editRows p l =
     ∷ []
 
 -- ---- what a function checks after the file: the lengths of its buffers (9 to 11), an edit line (12 to 16) or the text
--- of an exchange (12, 13, 21, 16), the marks (17)
+-- of an exchange (12, 13, 21, 16), the marks (17) or the limit (22)
 
 abbrev pub changeRows : Form → Program → List ℕ → List Row
 changeRows EditLine p s = editRows p (onlyLine s)
@@ -137,7 +137,7 @@ marksRows b = bufferRows (Of (length (b .marks))) NotAsked (Of (length (b .work)
 abbrev pub rows : Entry → Lent → List Row
 rows read b = []
 rows write b = bufferRows NotAsked (Of (length (b .output))) NotAsked
-rows analyze b = marksRows b
+rows analyze b = marksRows b ++ limitRow (programIn b) (b .limit) ∷ []
 rows prune b = marksRows b
 rows next-violation b = marksRows b ++ foreignRow (programIn b) (b .marks) ∷ []
 rows repair-forward b = repairRows EditLine b
