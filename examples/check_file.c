@@ -2,28 +2,39 @@
  * Says of a program file whether the checker accepts it, and whether some run
  * of its program arrives in a rejecting state (paper: a forbidden one).
  *
- *     check_file [--all] [--exchange TEXT [--output NEW]] [FILE]
+ *     check_file [--all] [--limit N] [--exchange TEXT [--output NEW]] [FILE]
  *
  * Without FILE it reads standard input. It prints the first 20 violations
  * (paper: findings) and how many more there are; with --all it prints each.
+ *
+ * With --limit the analysis (paper: working afresh) gives up where there are
+ * more than N iterations (paper: takings), and then nothing is said of
+ * violations. N is decimal, 0 to 18446744073709551615. Without --limit there
+ * is no limit.
  *
  * With --exchange a whole routine of the program is exchanged first. TEXT is a
  * file that holds the text of the exchange. Both repairs make it, each for
  * itself, and have to come to the same; it prints what has changed, the first
  * 20 configurations (paper: standings) that are new and that are gone, or with
  * --all each, and then says of the new program what it says of any. With
- * --output it also writes the new program file to NEW.
+ * --output it also writes the new program file to NEW. A limit holds for the
+ * analysis of the file and for that of the new program, each for itself; where
+ * either gives up it ends there, and nothing is written to NEW.
  *
  * The exit status is 0 if the file is accepted and has no violation, 3 if it
- * is accepted and has one or more, 1 if it is refused, and 2 if anything else
- * is wrong: an unknown option, a file that cannot be read or is too long, or
- * an answer that the checker must not give. With --exchange 0 and 3 are about
- * the new program, and 1 says that the file or the exchange is refused.
+ * is accepted and has one or more, 4 if it is accepted and its analysis gave
+ * up, 1 if it is refused, and 2 if anything else is wrong: an unknown option,
+ * a limit that is no such number, a file that cannot be read or is too long,
+ * or an answer that the checker must not give. With --exchange 0 and 3 are
+ * about the new program, 4 is about either, and 1 says that the file or the
+ * exchange is refused.
  */
 #include "palthrenni.h"
 
 #include <errno.h>
+#include <inttypes.h>
 #include <stdio.h>
+#include <stdlib.h>
 #include <string.h>
 
 /* How many violations, or configurations, are printed without --all. */
@@ -46,10 +57,13 @@ struct input {
 /* The program file, and the text of an exchange. */
 static struct input file, text;
 
-/* What else the arguments ask for: to print each violation, and where the new
- * file goes, NULL for nowhere. */
+/* What else the arguments ask for: to print each violation; where the new file
+ * goes, NULL for nowhere; and the limit, as it is given, NULL for none, and as
+ * a number. */
 static int all;
 static const char *output_name;
+static const char *limit_given;
+static uint64_t limit = PALTHRENNI_NO_LIMIT;
 
 /* The marks (paper: the sheet), and room to work in. */
 static uint8_t marks[PALTHRENNI_MARKS_SIZE];
@@ -200,8 +214,8 @@ static void print_more(uint32_t more)
 
 /*
  * Prints the first violations as the checker lists them, the lowest first.
- * Each call costs a full analysis (paper: working afresh) of the program, so
- * it makes FIRST calls at most.
+ * Each call costs a full analysis of the program, so it makes FIRST calls at
+ * most.
  */
 static int print_first(uint32_t *printed)
 {
@@ -264,13 +278,25 @@ static int print_violations(uint32_t violations)
     return 0;
 }
 
-/* Analyzes the accepted file, which sets the marks, and says what was counted. */
+/* Says that the analysis gave up, and gives the status for it. */
+static int gave_up(void)
+{
+    printf("gave up: more than %" PRIu64 " iteration%s"
+           " (a larger --limit, or none, may give an answer)\n",
+           limit, limit == 1 ? "" : "s");
+    return 4;
+}
+
+/* Analyzes the accepted file, which sets the marks, and says what was counted,
+ * or that it gave up. */
 static int analyze(uint32_t *violations)
 {
     uint32_t line, configurations, iterations;
     uint32_t refusal = palthrenni_analyze(file.bytes, file.len, marks, sizeof marks,
-                                          work, sizeof work, &line, &configurations,
-                                          violations, &iterations);
+                                          work, sizeof work, limit, &line,
+                                          &configurations, violations, &iterations);
+    if (refusal == PALTHRENNI_GAVE_UP && limit != PALTHRENNI_NO_LIMIT)
+        return gave_up();
     if (refusal != PALTHRENNI_OK)
         return wrong(file.name, "accepted, but not analyzed");
     printf("analyzed: configurations %lu, violations %lu, iterations %lu\n",
@@ -297,7 +323,8 @@ static int conclude(uint32_t violations)
 static int check_runs(void)
 {
     uint32_t violations;
-    return analyze(&violations) == 0 ? conclude(violations) : 2;
+    int status = analyze(&violations);
+    return status == 0 ? conclude(violations) : status;
 }
 
 /* Says what is refused and why; a refusal of the table, or of an exchange, has
@@ -400,15 +427,19 @@ static int check_exchange(void)
 {
     static struct exchanged result;
     uint32_t violations, reanalyzed;
-    if (analyze(&violations) != 0 || exchange(&result, &reanalyzed) != 0)
+    int status = analyze(&violations);
+    if (status != 0)
+        return status;
+    if (exchange(&result, &reanalyzed) != 0)
         return 2;
     if (result.refusal != PALTHRENNI_OK)
         return refused("exchange refused", result.refusal, 0);
     print_changes(&result, reanalyzed);
     memcpy(file.bytes, result.file.bytes, result.file.len);
     file.len = result.file.len;
-    if (analyze(&violations) != 0)
-        return 2;
+    status = analyze(&violations);
+    if (status != 0)
+        return status;
     if (memcmp(result.marks, marks, sizeof marks) != 0)
         return wrong(text.name, "the marks left are not those of the new program");
     if (output_name != NULL && write_output() != 0)
@@ -430,14 +461,29 @@ static int check(void)
 static int misused(const char *argument, const char *what)
 {
     wrong(argument, what);
-    fprintf(stderr, "usage: check_file [--all] [--exchange TEXT [--output NEW]] [FILE]\n");
+    fprintf(stderr, "usage: check_file [--all] [--limit N]"
+                    " [--exchange TEXT [--output NEW]] [FILE]\n");
     return 2;
 }
 
-/* Where the name goes that follows this option; NULL if there is no such
- * option. */
-static const char **name_after(const char *option)
+/* Reads the limit: digits and nothing else, since strtoull would also take a
+ * space or a sign before them. */
+static int read_limit(void)
 {
+    size_t digits = strspn(limit_given, "0123456789");
+    errno = 0;
+    limit = strtoull(limit_given, NULL, 10);
+    if (digits == 0 || limit_given[digits] != '\0' || errno != 0)
+        return misused("--limit", "not a number from 0 to 18446744073709551615");
+    return 0;
+}
+
+/* Where the value goes that follows this option; NULL if there is no such
+ * option. */
+static const char **value_after(const char *option)
+{
+    if (strcmp(option, "--limit") == 0)
+        return &limit_given;
     if (strcmp(option, "--exchange") == 0)
         return &text.name;
     return strcmp(option, "--output") == 0 ? &output_name : NULL;
@@ -446,25 +492,25 @@ static const char **name_after(const char *option)
 static int read_arguments(int argc, char **argv)
 {
     for (int i = 1; i < argc; i++) {
-        const char **name = &file.name;
+        const char **value = &file.name;
         if (strcmp(argv[i], "--all") == 0) {
             all = 1;
             continue;
         }
         if (argv[i][0] == '-') {
-            name = name_after(argv[i]);
-            if (name == NULL)
+            value = value_after(argv[i]);
+            if (value == NULL)
                 return misused(argv[i], "no such option");
             if (++i == argc)
-                return misused(argv[i - 1], "no name follows");
+                return misused(argv[i - 1], "nothing follows");
         }
-        if (*name != NULL)
-            return misused(argv[i], "a second file");
-        *name = argv[i];
+        if (*value != NULL)
+            return misused(argv[i], "one too many");
+        *value = argv[i];
     }
     if (output_name != NULL && text.name == NULL)
         return misused("--output", "only with --exchange");
-    return 0;
+    return limit_given != NULL ? read_limit() : 0;
 }
 
 /* Reads the text of an exchange, if one is named, and the program file. */

@@ -135,7 +135,7 @@ extern "C" {
 #define PALTHRENNI_PAIR_MET_TWICE 20
 
 /* Refusals of buffers, of an edit, of an exchange and of marks (paper: the
- * sheet). They come with line 0. */
+ * sheet), and giving up. They come with line 0. */
 
 /* The marks do not have exactly PALTHRENNI_MARKS_SIZE bytes. */
 #define PALTHRENNI_MARKS_LENGTH 9
@@ -170,6 +170,10 @@ extern "C" {
  * not above the edge before it, compared left to right. So the same edge twice
  * is 21. */
 #define PALTHRENNI_EXCHANGE_ORDER 21
+/* Of palthrenni_analyze only, and judged last: the analysis of an accepted
+ * file gave up, since its count of iterations (paper: takings) is above the
+ * limit. That is no fault of the file, and says nothing of its violations. */
+#define PALTHRENNI_GAVE_UP 22
 
 /* The most bytes that are ever written, and so the least length of an output.
  * An accepted file without rows is never longer. One with rows may be, up to
@@ -177,6 +181,9 @@ extern "C" {
 #define PALTHRENNI_OUTPUT_SIZE 5328
 /* The length of the marks, and of the working buffer. */
 #define PALTHRENNI_MARKS_SIZE 16384
+
+/* The largest limit of palthrenni_analyze, by which it never gives up. */
+#define PALTHRENNI_NO_LIMIT UINT64_MAX
 
 /* What palthrenni_next_violation sets where there is no violation (paper:
  * finding). */
@@ -239,28 +246,62 @@ uint32_t palthrenni_write(const uint8_t *file, size_t file_len,
  * one of them whose state is rejecting; so no run arrives in a rejecting state
  * if and only if there are no violations.
  *
+ * The limit (paper: the ceiling on takings). In each iteration the analysis
+ * takes one configuration, always the lowest that is pending (paper: waiting);
+ * it takes none more than 1025 times. The limit says how many iterations it
+ * may make in all. It makes none beyond that, so that a call returns within a
+ * time that the limit bounds, beside the time for reading the file and for
+ * clearing and copying the buffers. It gives up (22) if and only if it makes
+ * more iterations where there is no limit. So a larger limit may turn giving
+ * up into an answer, and never changes an answer already had: where n
+ * iterations are made without a limit, each limit from n on gives that answer,
+ * and each one below n gives up.
+ *
+ *     0                      gives up on every program with an initial state;
+ *                            one without is answered, with 0 iterations
+ *     16793600 or more       never gives up: it is 1025 times
+ *                            PALTHRENNI_MARKS_SIZE
+ *     PALTHRENNI_NO_LIMIT    never gives up: it is the largest limit
+ *
+ * Nothing is kept of an analysis that gave up: the next call begins anew. This
+ * tries a small limit first, and then ten times as much as long as the user
+ * waits:
+ *
+ *     uint64_t limit = 1000;
+ *     while ((refusal = analyze_within(limit)) == PALTHRENNI_GAVE_UP
+ *            && user_waits())
+ *         limit *= 10;
+ *
+ * where analyze_within calls palthrenni_analyze with this limit. It ends, and
+ * the limit does not overflow, since 100000000 never gives up.
+ *
+ * Only this function has a limit. The analysis that others make inside them,
+ * to see whether marks are a program's own (17), has none, and they never
+ * return 22.
+ *
  *   file, file_len    the file's bytes, of any length
  *   marks, marks_len  where the marks go: PALTHRENNI_MARKS_SIZE bytes, which
  *                     may hold anything before
  *   work, work_len    room to work in: PALTHRENNI_MARKS_SIZE bytes, which may
  *                     hold anything before
+ *   limit             how many iterations may be made; any number
  *   line              set to the line of a refusal 1 to 8, else to 0
  *   configurations    set to how many configurations can occur
  *   violations        set to how many of them are violations
- *   iterations        set to how many times (paper: takings) the analysis
- *                     took a configuration, always the lowest that was
- *                     pending (paper: waiting); it takes none more than 1025
- *                     times
+ *   iterations        set to how many iterations were made, which is never
+ *                     above the limit
  *
  * Returns 1 to 8; then 19 or 20; then 9 or 11, the lower first, if the file is
- * accepted and a buffer has another length; else PALTHRENNI_OK. On
- * PALTHRENNI_OK the marks are set, each to 0 or 1, and the working buffer is
- * all zero. On a refusal both buffers are unchanged and the three counts are
- * 0.
+ * accepted and a buffer has another length; then 22, if the analysis gave up;
+ * else PALTHRENNI_OK. On PALTHRENNI_OK the marks are set, each to 0 or 1, and
+ * the working buffer is all zero. On 22 the marks are unchanged and the
+ * working buffer is all zero, on every other refusal both buffers are
+ * unchanged. On any refusal the three counts are 0.
  */
 uint32_t palthrenni_analyze(const uint8_t *file, size_t file_len,
                             uint8_t *marks, size_t marks_len,
                             uint8_t *work, size_t work_len,
+                            uint64_t limit,
                             uint32_t *line, uint32_t *configurations,
                             uint32_t *violations, uint32_t *iterations);
 
@@ -269,13 +310,13 @@ uint32_t palthrenni_analyze(const uint8_t *file, size_t file_len,
  * To go through all of them, begin from 0 and go on from the one after the
  * last that was found.
  *
- * Each call costs a full analysis of the program, to see whether the marks
- * are its own (17); only a refusal before 17 costs less. To go through
- * thousands of violations this way takes thousands of analyses. Where the
- * marks are sure to be those that palthrenni_analyze, a repair or an exchange
- * left for this file, they can be read instead: the violations are the numbers
- * whose byte is 1 and whose state is rejecting, that is, has a frame 46 in the
- * file. examples/check_file.c does both.
+ * Each call costs a full analysis of the program, without a limit, to see
+ * whether the marks are its own (17); only a refusal before 17 costs less. To
+ * go through thousands of violations this way takes thousands of analyses.
+ * Where the marks are sure to be those that palthrenni_analyze, a repair or an
+ * exchange left for this file, they can be read instead: the violations are
+ * the numbers whose byte is 1 and whose state is rejecting, that is, has a
+ * frame 46 in the file. examples/check_file.c does both.
  *
  *   file, file_len    the file's bytes, of any length
  *   marks, marks_len  the marks as palthrenni_analyze left them for this
@@ -344,8 +385,8 @@ uint32_t palthrenni_prune(const uint8_t *file, size_t file_len,
  * is longer. After a refusal lend the same file again. The marks go on as each
  * call leaves them.
  *
- * Each call costs at least one full analysis, to see whether the marks are
- * the program's own (17); only a refusal before 17 costs less.
+ * Each call costs at least one full analysis, without a limit, to see whether
+ * the marks are the program's own (17); only a refusal before 17 costs less.
  *
  *   file, file_len      the file's bytes, of any length
  *   marks, marks_len    the marks as palthrenni_analyze, or the repair or
@@ -426,8 +467,8 @@ uint32_t palthrenni_repair_inside_out(const uint8_t *file, size_t file_len,
  *
  * A chain of calls is kept as for palthrenni_repair_forward, and repairs and
  * exchanges may take turns in it. Each call costs at least one full analysis,
- * to see whether the marks are the program's own (17); only a refusal before
- * 17 costs less.
+ * without a limit, to see whether the marks are the program's own (17); only a
+ * refusal before 17 costs less.
  *
  *   file, file_len      the file's bytes, of any length
  *   marks, marks_len    the marks as palthrenni_analyze, or the repair or
