@@ -20,6 +20,7 @@ extern "C" {
         marks_len: usize,
         work: *mut u8,
         work_len: usize,
+        limit: u64,
         line: *mut u32,
         configurations: *mut u32,
         violations: *mut u32,

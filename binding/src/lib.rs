@@ -17,6 +17,9 @@ pub struct Answer<const N: usize> {
     pub values: [u32; N],
 }
 
+/// The limit at which an analysis never gives up.
+pub const NO_LIMIT: u64 = u64::MAX;
+
 /// What every number of an answer holds before the call, so that one which is not set shows.
 const NOT_SET: u32 = 0xDEAD_BEEF;
 
@@ -92,8 +95,9 @@ pub fn analyze(
     file: Option<&[u8]>,
     marks: Option<&mut [u8]>,
     work: Option<&mut [u8]>,
+    limit: u64,
 ) -> Answer<3> {
-    answer!(palthrenni_analyze(file, marks, work;; configurations, violations, iterations))
+    answer!(palthrenni_analyze(file, marks, work; limit; configurations, violations, iterations))
 }
 
 pub fn next_violation(

@@ -1,4 +1,5 @@
-//! The proved library against the reference: fresh workings and the list of findings.
+//! The proved library against the reference: fresh workings, with and without a limit on the takings, and
+//! the list of findings.
 //!
 //! Every number of every answer is compared, and every byte of the sheet and of the working buffer,
 //! with the bytes that stand about them. A mismatch names the seed or the case and shows the input.
@@ -10,6 +11,7 @@ use reference::cases;
 use reference::generate::classes::{Class, MetClasses};
 use reference::generate::files::file_of_seed;
 use reference::generate::hearing::{Heard, MetHearing};
+use reference::generate::limits::{self, MetLimits};
 use reference::generate::met::Met;
 use reference::generate::programs::{
     hub, hub_of_roots, hub_without_returns, program_of_seed, program_of_shape,
@@ -19,11 +21,11 @@ use reference::generate::shapes::SHAPES;
 use reference::generate::sheets::{foreign, wrong_lengths, FOREIGN};
 use reference::generate::tables::{complete_file, file_with_rows_of_seed};
 use reference::model::analysis::{self, Analysis, Analyzed, NONE};
-use reference::model::calls::sheets::{analyze_answer, next_answer, Counts};
+use reference::model::calls::sheets::{analyze_answer, next_answer, Counts, NO_LIMIT};
 use reference::model::calls::Answer;
 use reference::model::file::{self, Reading};
 use reference::model::refusals::{
-    BAD_LINE, FOREIGN_SHEET, PAIR_MET_TWICE, PAIR_NOT_MET, SHEET_LENGTH, WORK_LENGTH,
+    BAD_LINE, FOREIGN_SHEET, GAVE_UP, PAIR_MET_TWICE, PAIR_NOT_MET, SHEET_LENGTH, WORK_LENGTH,
 };
 use reference::model::standing::SHEET_SIZE;
 use reference::model::write::{write, OUTPUT_SIZE};
@@ -61,6 +63,8 @@ struct Tally {
     classes: MetClasses,
     /// Programs by what their rule hears.
     hearing: MetHearing,
+    /// Limits by how they stand to the takings.
+    limits: MetLimits,
 }
 
 /// One file with the reference's answer, and where all that varies comes from.
@@ -91,19 +95,50 @@ impl Case {
     fn analysis(&self) -> Option<&Analysis> {
         self.analyzed.as_ref().ok()
     }
+
+    /// The takings, 0 where the file is refused.
+    fn takings(&self) -> u32 {
+        self.analysis().map_or(0, |analysis| analysis.takings)
+    }
 }
 
-/// Works the file afresh with both.
-fn compare_analyze(case: &Case, marks: &Lent, work: &Lent, tally: &mut Tally) -> Answer<Counts> {
+/// Works the file afresh with both, up to a limit.
+fn compare_analyze(
+    case: &Case,
+    marks: &Lent,
+    work: &Lent,
+    limit: u64,
+    tally: &mut Tally,
+) -> Answer<Counts> {
     let (answer, _) = lent::compare(
-        &case.name,
+        &format!("{}, limit {limit}", case.name),
         &Lending::sheet(&case.file, marks, work),
-        |file, lent| desk::analyze(file, lent.sheet, lent.work),
-        |lent| analyze_answer(&case.analyzed, lent.sheet, lent.work),
+        |file, lent| desk::analyze(file, lent.sheet, lent.work, limit),
+        |lent| analyze_answer(&case.analyzed, lent.sheet, lent.work, limit),
     );
     tally.analyzed.note(answer.refusal);
     tally.calls += 1;
+    if let Some(analysis) = case.analysis() {
+        tally.limits.note(limit, analysis.takings, answer.refusal);
+    }
     answer
+}
+
+/// Works the file afresh with both up to limits about its count of takings, each time in other buffers;
+/// up to one of these where it takes long or the file is refused.
+fn compare_limits(case: &mut Case, tally: &mut Tally) {
+    let takings = case.takings();
+    let limits = match &case.analyzed {
+        Ok(analysis) if analysis.standings() <= MANY_STANDINGS => {
+            limits::about(&mut case.random, takings)
+        }
+        _ => vec![limits::some(&mut case.random, takings)],
+    };
+    for limit in limits {
+        let marks = Lent::of_length(&mut case.random, SHEET_SIZE);
+        let work = Lent::of_length(&mut case.random, SHEET_SIZE);
+        compare_analyze(case, &marks, &work, limit, tally);
+    }
 }
 
 /// Asks both for the next finding.
@@ -137,7 +172,9 @@ fn compare_wrong_lengths(case: &mut Case, tally: &mut Tally) {
     let marks = Lent::of_length(&mut case.random, marks);
     let work = Lent::of_length(&mut case.random, work);
     let from = some_number(&mut case.random, &[]);
-    compare_analyze(case, &marks, &work, tally);
+    let takings = case.takings();
+    let limit = limits::some(&mut case.random, takings);
+    compare_analyze(case, &marks, &work, limit, tally);
     compare_next(case, &marks, &work, from, tally);
 }
 
@@ -200,7 +237,8 @@ fn compare_list(case: &Case, marks: &Lent, work: &Lent, findings: &[u32], tally:
 fn compare(case: &mut Case, tally: &mut Tally) {
     let marks = Lent::of_length(&mut case.random, SHEET_SIZE);
     let work = Lent::of_length(&mut case.random, SHEET_SIZE);
-    let answer = compare_analyze(case, &marks, &work, tally);
+    let answer = compare_analyze(case, &marks, &work, NO_LIMIT, tally);
+    compare_limits(case, tally);
     compare_wrong_lengths(case, tally);
     let way = case.random.below(FOREIGN);
     match case.analysis().cloned() {
@@ -255,7 +293,8 @@ fn programs_of_many_seeds_agree() {
     let tally = compare_seeds("program", PROGRAM_SEEDS, |seed| {
         write(&program_of_seed(seed))
     });
-    tally.analyzed.check([0, SHEET_LENGTH, WORK_LENGTH], OFTEN);
+    let analyzed = [0, SHEET_LENGTH, WORK_LENGTH, GAVE_UP];
+    tally.analyzed.check(analyzed, OFTEN);
     let asked = [0, SHEET_LENGTH, WORK_LENGTH, FOREIGN_SHEET];
     tally.asked.check(asked, OFTEN);
     let sizes = [tally.no_standing, tally.no_finding, tally.findings];
@@ -266,6 +305,9 @@ fn programs_of_many_seeds_agree() {
     }
     assert!(tally.programs >= 5000 && tally.lists >= 1000);
     assert!(tally.over_1000_standings >= 150 && tally.over_5000_standings >= 15);
+    tally.limits.check(OFTEN);
+    let lengths = [SHEET_LENGTH, WORK_LENGTH];
+    tally.limits.check_refused_before(&lengths, OFTEN);
     tally.hearing.check(150);
     assert!(tally.hearing.times(Heard::Nothing) >= 1_500, "{tally:?}");
 }
@@ -273,6 +315,7 @@ fn programs_of_many_seeds_agree() {
 #[test]
 fn damaged_files_agree() {
     let tally = compare_seeds("file", FILE_SEEDS, file_of_seed);
+    tally.limits.check(OFTEN);
     for met in [tally.analyzed, tally.asked] {
         met.check((BAD_LINE..=SHEET_LENGTH).chain([WORK_LENGTH]), OFTEN);
     }
@@ -282,7 +325,9 @@ fn damaged_files_agree() {
 fn files_with_rows_agree() {
     let tally = compare_seeds("file with rows", ROW_SEEDS, file_with_rows_of_seed);
     let of_files = (0..=SHEET_LENGTH).chain([WORK_LENGTH, PAIR_NOT_MET, PAIR_MET_TWICE]);
-    tally.analyzed.check(of_files.clone(), OFTEN);
+    let analyzed = of_files.clone().chain([GAVE_UP]);
+    tally.analyzed.check(analyzed, OFTEN);
+    tally.limits.check(OFTEN);
     tally.asked.check(of_files.chain([FOREIGN_SHEET]), OFTEN);
     tally.classes.check(20);
     assert!(tally.classes.files >= 10_000, "{tally:?}");

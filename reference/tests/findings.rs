@@ -11,6 +11,9 @@ use reference::model::file;
 use reference::model::refusals::FOREIGN_SHEET;
 use reference::model::standing::SHEET_SIZE;
 
+/// A limit that no program with a start state is worked within, and one that all are.
+const LIMITS: [u64; 2] = [0, binding::NO_LIMIT];
+
 #[test]
 fn cases_worked_out_by_hand() {
     for case in cases::analyses::all() {
@@ -59,17 +62,22 @@ fn a_list_can_be_asked_from_any_number() {
 #[test]
 fn buffers_of_no_bytes_may_be_null() {
     for nothing in [None, Some(&b""[..])] {
-        let given = binding::analyze(nothing, None, None);
-        assert_eq!(given, desk::refused(8, 1));
+        for limit in LIMITS {
+            let given = binding::analyze(nothing, None, None, limit);
+            assert_eq!(given, desk::refused(8, 1));
+        }
         let given = binding::next_violation(nothing, None, None, 0);
         assert_eq!(given, desk::refused(8, 1));
     }
     let file = Some(sample::FILE);
-    assert_eq!(binding::analyze(file, None, None), desk::refused(9, 0));
-    let mut marks = vec![7; SHEET_SIZE];
-    let given = binding::analyze(file, Some(&mut marks), None);
-    assert_eq!(given, desk::refused(11, 0));
-    assert!(marks.iter().all(|&byte| byte == 7));
+    for limit in LIMITS {
+        let given = binding::analyze(file, None, None, limit);
+        assert_eq!(given, desk::refused(9, 0));
+        let mut marks = vec![7; SHEET_SIZE];
+        let given = binding::analyze(file, Some(&mut marks), None, limit);
+        assert_eq!(given, desk::refused(11, 0));
+        assert!(marks.iter().all(|&byte| byte == 7));
+    }
     let given = binding::next_violation(file, None, None, 0);
     assert_eq!(given, desk::refused(9, 0));
 }

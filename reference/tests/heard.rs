@@ -9,7 +9,7 @@ use reference::generate::programs::{hub, hub_of_roots, program_of_seed, program_
 use reference::generate::random::Random;
 use reference::generate::shapes::{Shape, SHAPES};
 use reference::model::analysis::{analysis_of, analyze, Analysis};
-use reference::model::calls::sheets::{analyze_answer, Counts};
+use reference::model::calls::sheets::{analyze_answer, Counts, NO_LIMIT};
 use reference::model::former;
 use reference::model::fresh::MOST_TAKINGS;
 use reference::model::program::{Event, Program, RuleLine, TABLE_ROWS};
@@ -43,8 +43,8 @@ fn compare_formerly(name: &str, program: &Program, random: &mut Random) {
     lent::compare(
         name,
         &Lending::sheet(&file, &sheet, &work),
-        |file, lent| desk::analyze(file, lent.sheet, lent.work),
-        |lent| analyze_answer(&Ok(former.clone()), lent.sheet, lent.work),
+        |file, lent| desk::analyze(file, lent.sheet, lent.work, NO_LIMIT),
+        |lent| analyze_answer(&Ok(former.clone()), lent.sheet, lent.work, NO_LIMIT),
     );
     if former.findings.len() <= 12 {
         assert_eq!(desk::listed(&file), former.findings, "{name}");

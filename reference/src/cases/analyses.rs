@@ -35,6 +35,16 @@ pub fn entry_forbidden() -> Vec<u8> {
     sample::rewritten(12, 12, &["4600", "4602"])
 }
 
+/// The sample without its start state, so that nothing can happen.
+pub fn no_start() -> Vec<u8> {
+    sample::rewritten(11, 11, &[])
+}
+
+/// The sample with the one step by which main calls itself. It is taken once.
+pub fn main_calls_main() -> Vec<u8> {
+    sample::rewritten(4, 6, &["5300004001"])
+}
+
 pub fn all() -> Vec<AnalysisCase> {
     let mut cases = of_samples();
     cases.extend(of_tables());
@@ -45,13 +55,11 @@ pub fn all() -> Vec<AnalysisCase> {
 fn of_samples() -> Vec<AnalysisCase> {
     let five = &sample::STANDINGS;
     let six = &[0, 65, 129, 130, 1024, 1089];
-    let no_start = sample::rewritten(11, 11, &[]);
-    let main_calls_main = sample::rewritten(4, 6, &["5300004001"]);
     let faulty = include_bytes!("../../../examples/F_fault.txt");
     let never_returns = sample::rewritten(6, 6, &[]);
     vec![
         case("P1 and P2, the sample", sample::FILE, five, &[], 6),
-        case("P3, no start state", &no_start, &[], &[], 0),
+        case("P3, no start state", &no_start(), &[], &[], 0),
         case(
             "P4, state 0 forbidden",
             &entry_forbidden(),
@@ -59,7 +67,7 @@ fn of_samples() -> Vec<AnalysisCase> {
             &[0, 1024],
             6,
         ),
-        case("P7, main calls main", &main_calls_main, &[0], &[], 1),
+        case("P7, main calls main", &main_calls_main(), &[0], &[], 1),
         case("a step that breaks the rule", faulty, six, &[130], 7),
         case(
             "a call that never returns",

@@ -6,7 +6,8 @@
 //! - `files` has files, `edits` has edit lines, and `exchanges` has texts of exchanges, each with its
 //!   refusal; `tables` has the files with rows, what they are written as, and repairs of one of them.
 //! - `analyses`, `keepings` and `repairs` have what these calls leave; what exchanges leave stands with
-//!   their texts. `heard` has all of these for rules that hear calls and returns.
+//!   their texts. `heard` has all of these for rules that hear calls and returns. `limits` has fresh
+//!   workings with a limit on the takings.
 //! - `inputs` has inputs of `bench`.
 
 pub mod analyses;
@@ -16,6 +17,7 @@ pub mod files;
 pub mod heard;
 pub mod inputs;
 pub mod keepings;
+pub mod limits;
 pub mod repairs;
 pub mod sample;
 pub mod small;

@@ -9,7 +9,8 @@
 //!   and `rules` makes their rules.
 //! - `edits` makes edit lines, and `exchanges` makes exchanges and their texts; `text_damage` does the
 //!   damage to these.
-//! - `sheets` makes sheets, `calls` makes the calls of a list, and `inputs` makes inputs of `bench`.
+//! - `sheets` makes sheets, `limits` makes limits of fresh workings, `calls` makes the calls of a list,
+//!   and `inputs` makes inputs of `bench`.
 //! - `met` counts what they have met: refusals, the `classes` of files with rows, the `label_classes`
 //!   of rule lines and steps, the `hearing` of rules, and the `text_classes` of exchanges.
 
@@ -22,6 +23,7 @@ pub mod files;
 pub mod hearing;
 pub mod inputs;
 pub mod label_classes;
+pub mod limits;
 pub mod met;
 pub mod programs;
 pub mod random;

@@ -25,11 +25,13 @@ pub const THERE_ALREADY: u32 = 15;
 pub const STEPS_FULL: u32 = 16;
 // Of the sheet.
 pub const FOREIGN_SHEET: u32 = 17;
+// Of a fresh working with a limit.
+pub const GAVE_UP: u32 = 22;
 // Of the input of `bench`.
 pub const INPUT_LONG: u32 = 18;
 
 /// How many numbers there are to answer with: every refusal's, and 0 for none.
-pub const ANSWERS: usize = 22;
+pub const ANSWERS: usize = 23;
 
 /// Why a file is refused: all faults of the line that decides, lowest first, and that line's number,
 /// counted from 1. Where its table decides, the one fault is that of the first faulty pair, and the

@@ -45,9 +45,9 @@ pub fn write(file: &[u8], output: &mut [u8]) -> Answer<u32> {
     in_words(answer, |[written]| written)
 }
 
-/// A fresh working: the sheet goes to `marks`.
-pub fn analyze(file: &[u8], marks: &mut [u8], work: &mut [u8]) -> Answer<Counts> {
-    let answer = binding::analyze(Some(file), Some(marks), Some(work));
+/// A fresh working with a limit on the takings: the sheet goes to `marks`.
+pub fn analyze(file: &[u8], marks: &mut [u8], work: &mut [u8], limit: u64) -> Answer<Counts> {
+    let answer = binding::analyze(Some(file), Some(marks), Some(work), limit);
     in_words(answer, |[standings, findings, takings]| Counts {
         standings,
         findings,
@@ -61,10 +61,10 @@ pub fn next_violation(file: &[u8], marks: &[u8], work: &mut [u8], from: u32) -> 
     in_words(answer, |[found]| found)
 }
 
-/// A fresh working by the library alone: the marked numbers and the three counts.
+/// A fresh working by the library alone, without a limit: the marked numbers and the three counts.
 pub fn worked(file: &[u8]) -> (Vec<usize>, Counts) {
     let (mut marks, mut work) = (vec![0xA5; SHEET_SIZE], vec![0x5A; SHEET_SIZE]);
-    let answer = analyze(file, &mut marks, &mut work);
+    let answer = analyze(file, &mut marks, &mut work, binding::NO_LIMIT);
     assert_eq!((answer.refusal, answer.line), (0, 0));
     assert!(marks.iter().all(|&byte| byte <= 1));
     assert!(work.iter().all(|&byte| byte == 0));
@@ -74,7 +74,7 @@ pub fn worked(file: &[u8]) -> (Vec<usize>, Counts) {
 /// The list of findings by the library alone.
 pub fn listed(file: &[u8]) -> Vec<u32> {
     let (mut marks, mut work) = (vec![0; SHEET_SIZE], vec![0; SHEET_SIZE]);
-    analyze(file, &mut marks, &mut work);
+    analyze(file, &mut marks, &mut work, binding::NO_LIMIT);
     let mut found = Vec::new();
     loop {
         let from = found.last().map_or(0, |&last| last + 1);

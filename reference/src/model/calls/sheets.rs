@@ -4,7 +4,10 @@ use crate::model::analysis::{Analysis, Analyzed};
 use crate::model::calls::{check_sheet, check_work, Answer};
 use crate::model::file::Reading;
 use crate::model::keeping::keep;
-use crate::model::refusals::{refuse_if, FileRefusal, Refused, FOREIGN_SHEET};
+use crate::model::refusals::{refuse_if, FileRefusal, Refused, FOREIGN_SHEET, GAVE_UP};
+
+/// The largest limit of a fresh working. No program has more takings.
+pub const NO_LIMIT: u64 = u64::MAX;
 
 /// What a fresh working counts. In C these are called configurations, violations and iterations.
 #[derive(Clone, Copy, Debug, Default, PartialEq, Eq)]
@@ -37,14 +40,21 @@ fn checked<'a, T>(
     Ok(given)
 }
 
-/// What the library has to answer when it works a file afresh that has this analysis, and what it
-/// has to leave in the sheet and in the working buffer.
-pub fn analyze_answer(analyzed: &Analyzed, sheet: &mut [u8], work: &mut [u8]) -> Answer<Counts> {
+/// What the library has to answer when it works a file afresh that has this analysis, with a limit on
+/// the takings, and what it has to leave in the sheet and in the working buffer. It gives up exactly
+/// where the whole working has more takings than the limit; how far it went does not show.
+pub fn analyze_answer(
+    analyzed: &Analyzed,
+    sheet: &mut [u8],
+    work: &mut [u8],
+    limit: u64,
+) -> Answer<Counts> {
     let analysis = checked(analyzed, sheet, work);
-    Answer::from(analysis.map(|analysis| {
-        sheet.copy_from_slice(&analysis.sheet);
+    Answer::from(analysis.and_then(|analysis| {
         work.fill(0);
-        Counts::of(analysis)
+        refuse_if(u64::from(analysis.takings) > limit, GAVE_UP)?;
+        sheet.copy_from_slice(&analysis.sheet);
+        Ok(Counts::of(analysis))
     }))
 }
 
@@ -73,7 +83,7 @@ pub fn keep_answer(reading: &Reading, sheet: &mut [u8], work: &mut [u8]) -> Answ
 #[cfg(test)]
 mod tests {
     use super::*;
-    use crate::cases::sample;
+    use crate::cases::{self, sample};
     use crate::model::analysis::{analyze_reading, own_sheet};
     use crate::model::file::read;
     use crate::model::refusals::{SHEET_LENGTH, WORK_LENGTH};
@@ -96,6 +106,34 @@ mod tests {
         let answer = next_answer(&analyzed, &work.clone(), &mut work, 0);
         assert_eq!(answer, Answer::refused(FOREIGN_SHEET, 0));
         assert!(work.iter().all(|&byte| byte == 0));
+    }
+
+    #[test]
+    fn limits_worked_out_by_hand() {
+        for case in cases::limits::all() {
+            case.check(|file, sheet, work, limit| {
+                analyze_answer(&analyze_reading(&read(file)), sheet, work, limit)
+            });
+        }
+    }
+
+    #[test]
+    fn giving_up_is_judged_after_the_file_and_the_lengths() {
+        let answer = |file: &[u8], sheet: usize, work: usize| {
+            let (mut sheet, mut work) = (vec![7; sheet], vec![7; work]);
+            let answer = analyze_answer(&analyze_reading(&read(file)), &mut sheet, &mut work, 0);
+            let left = if answer.refusal == GAVE_UP { 0 } else { 7 };
+            assert!(work.iter().all(|&byte| byte == left));
+            assert!(sheet.iter().all(|&byte| byte == 7));
+            assert_eq!(answer.value, Counts::default());
+            (answer.refusal, answer.line)
+        };
+        let no_pair_met = b"50010101\n520002\n55000000000000\n4900\n450004\n";
+        assert_eq!(answer(b"", SHEET_SIZE, SHEET_SIZE), (8, 1));
+        assert_eq!(answer(no_pair_met, SHEET_SIZE, SHEET_SIZE), (19, 0));
+        assert_eq!(answer(sample::FILE, SHEET_SIZE + 1, SHEET_SIZE), (9, 0));
+        assert_eq!(answer(sample::FILE, SHEET_SIZE, SHEET_SIZE - 1), (11, 0));
+        assert_eq!(answer(sample::FILE, SHEET_SIZE, SHEET_SIZE), (22, 0));
     }
 
     #[test]
