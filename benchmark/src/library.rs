@@ -1,6 +1,7 @@
 //! The proved library, called again and again with the same buffers.
 
-use binding::Answer;
+use binding::{Answer, NO_LIMIT};
+use reference::model::refusals::GAVE_UP;
 use reference::model::standing::SHEET_SIZE;
 use reference::model::write::OUTPUT_SIZE;
 
@@ -32,10 +33,19 @@ impl Buffers {
 
     /// The counts of standings, findings and takings. The sheet goes to the marks.
     pub fn analyze(&mut self, file: &[u8]) -> [u32; 3] {
+        let counts = self.analyze_up_to(NO_LIMIT, file);
+        counts.expect("without a limit it does not give up")
+    }
+
+    /// The same with a limit on the takings; None where it gives up.
+    pub fn analyze_up_to(&mut self, limit: u64, file: &[u8]) -> Option<[u32; 3]> {
         let Buffers { marks, work, .. } = self;
-        let answer = binding::analyze(Some(file), Some(marks), Some(work));
+        let answer = binding::analyze(Some(file), Some(marks), Some(work), limit);
+        if answer.refusal == GAVE_UP {
+            return None;
+        }
         assert_eq!(answer.refusal, 0, "the file is accepted");
-        answer.values
+        Some(answer.values)
     }
 
     /// How many bytes a repair writes.

@@ -1,14 +1,17 @@
 //! How many programs a second the proved analysis does, through the C interface, beside the same
-//! procedure in plain Rust, written twice; and how many changes the two repairs make.
+//! procedure in plain Rust, written twice; how long one analysis takes with a limit on the takings; and
+//! how many changes the two repairs make.
 //!
 //! - `library` calls the proved library.
 //! - `plain` is the procedure written straight from its description, `packed` the same tuned
 //!   further, and `tables` what they have in common.
 //! - `programs` makes what is measured.
+//! - `limits` measures the analysis with a limit.
 //! - `changes` measures the repairs.
 
 mod changes;
 mod library;
+mod limits;
 mod packed;
 mod plain;
 mod programs;
@@ -210,6 +213,8 @@ fn main() {
     for (kind, inputs) in &kinds {
         measure_row(kind, inputs);
     }
+    println!();
+    limits::print_table(&kinds);
     println!();
     changes::print_table(&kinds);
 }
