@@ -1,5 +1,5 @@
--- The calls and returns that are not heard leave every state alone: place i of the table stands for label i / 8 and
--- state i % 8. With these sets the table has all answers.
+-- The calls and returns that are not heard leave every state alone: place i of the table stands for label i / 16 and
+-- state i % 16. With these sets the table has all answers.
 use mathlib.Core.Path.{_≡_, refl, sym, ap, _∙_}
 use mathlib.Core.Bool.{Bool, true, false, cond, not, _&&_, and-false}
 use mathlib.Core.List.{List, [], _∷_}

@@ -69,7 +69,7 @@ withTransition t sets =
     cond (ltb (t .before) maxStates && ltb (t .after) maxStates)
     (set sets at (withBit (t .after) (getD sets at 0))) sets
 
--- place i is that of label i / 8 and state i % 8: where both are in range and the label is not heard, the state stays
+-- place i is that of label i / 16 and state i % 16: where both are in range and the label is not heard, the state stays
 abbrev pub stayedAt : ℕ → ℕ → ℕ → List ℕ → ℕ → ℕ → ℕ
 stayedAt routines states actions heard i old =
     cond (not (isSet heard (i / maxStates)) && inRange routines states actions (i % maxStates) (i / maxStates))

@@ -2,13 +2,13 @@
 use Prim.Native.Nat.{ℕ, _*_}
 
 abbrev pub maxStates : ℕ
-maxStates = 8
+maxStates = 16
 
 abbrev pub maxActions : ℕ
 maxActions = 32
 
 abbrev pub maxTransitions : ℕ
-maxTransitions = 256
+maxTransitions = 512
 
 -- the label of a call of routine 0; below it are the actions
 abbrev pub firstCall : ℕ

@@ -5,6 +5,7 @@ use mathlib.Core.Path.{_≡_}
 use mathlib.Core.List.{List}
 use Rattle.program.specs.Reading.{readFile}
 use Rattle.program.specs.Checks.{checked, Sized}
+use Rattle.program.specs.Chosen.{sizesOf, numbers}
 use Rattle.program.specs.WellFormed.{WellFormed}
 use Rattle.program.specs.Decoded.{programOf}
 use Rattle.program.specs.declared.Verdict.the-variants.{Accepted}
@@ -16,4 +17,4 @@ pub record Checked (file : List ℕ) (marks output work : Length) (r : Reading) 
   pub program : programOf (r .program) ≡ readFile file .program
   -- where nothing is refused, the program is well-formed and each buffer has its size
   pub well-formed : r .verdict ≡ Accepted → WellFormed (programOf (r .program))
-  pub sized : r .verdict ≡ Accepted → Sized marks output work
+  pub sized : r .verdict ≡ Accepted → Sized (numbers (sizesOf (programOf (r .program)))) marks output work

@@ -1,8 +1,9 @@
 // The checks that a call makes before it touches anything: the file, and the lengths of the buffers that it is lent.
 use program::Length;
 use program::Verdict;
-use program::sizes::MARKS_SIZE;
+use program::chosen::sizes_of;
 use program::sizes::OUTPUT_SIZE;
+use program::sizes::length_of;
 use reader::Reading;
 use reader::read;
 ghost use mathlib.Core.Path.{_≡_};
@@ -47,13 +48,13 @@ fn refusal_of(marks: bool, output: bool, work: bool) -> u8
 }
 
 // The file's verdict, or where it is accepted that of the lengths.
-fn check(v: Verdict, marks: Length, output: Length, work: Length) -> Verdict
-    ensures { λ r. ⌜ r ≡ checkedBy v marks output work ⌝ }
+fn check(v: Verdict, size: usize, marks: Length, output: Length, work: Length) -> Verdict
+    ensures { λ r. ⌜ r ≡ checkedBy v size marks output work ⌝ }
 {
     let refusal = refusal_of(
-        other_than(MARKS_SIZE, marks),
+        other_than(size, marks),
         under(OUTPUT_SIZE, output),
-        other_than(MARKS_SIZE, work),
+        other_than(size, work),
     );
     match v {
         Verdict::Refused(n, line) => Verdict::Refused(n, line),
@@ -73,6 +74,7 @@ pub fn checked_program(file: &[u8], marks: Length, output: Length, work: Length)
     let r = read(file);
     let v = r.verdict;
     let program = r.program;
-    let verdict = check(v, marks, output, work);
+    let size = length_of(sizes_of(program));
+    let verdict = check(v, size, marks, output, work);
     Reading { verdict, program }
 }

@@ -185,6 +185,7 @@ module _ (p : Program) (w : WellFormed p) where
         initial-ascend = w .initial-ascend;
         rejecting-fit = w .rejecting-fit;
         rejecting-ascend = w .rejecting-ascend;
+        sized = w .sized;
       }
 
   pub with-inserted : (e : Edge) (es : List Edge) → edgeFits p e ≡ true → hasEdge e es ≡ false → All (edgeFits p) es → Ascending 0 (map edgeKey es) → length es < maxEdges

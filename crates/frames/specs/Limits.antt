@@ -34,7 +34,7 @@ limitsOf h =
 -- the judgement of a line, by counts
 abbrev pub judgedBy : ℕ → Counts → Limits → Line → ℕ
 judgedBy last n h l =
-    lowest (eqb (l .count) 0) (eqb (kind l) 0) (not (eqb (l .count) (size (kind l))))
+    lowest (eqb (l .count) 0) (eqb (kind l) 0) (not (eqb (l .count) (size (h .states) (kind l))))
     (not (ordered last (n .frames) (h .routines) (n .nodes) (n .transitions) (kind l) l))
     (not (ranged (limitsOf h) (kind l) l))
     (full (n .edges) (n .transitions) (n .rows) (kind l)) (miscounted (n .frames) (kind l) l)

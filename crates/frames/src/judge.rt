@@ -104,9 +104,9 @@ fn transition_fits(h: Limits, l: Line) -> bool
 }
 
 fn is_row_in_range(h: Limits, l: Line) -> bool
-    ensures { λ y. ⌜ y ≡ rowFits (limitsOf h .automaton) (rowIn l) ⌝ }
+    ensures { λ y. ⌜ y ≡ rowFits (limitsOf h .automaton) (rowIn (h .states) l) ⌝ }
 {
-    row_fits(row_in(l), h.states, h.actions)
+    row_fits(row_in(h.states, l), h.states, h.actions)
 }
 
 // Whether the numbers of a frame of kind k are in range, by what bounds them.
@@ -190,7 +190,7 @@ pub fn fault_by(last: u64, n: Counts, h: Limits, l: Line) -> u8
     lowest_of(
         l.count == 0,
         k == 0,
-        !(l.count == size_of(k)),
+        !(l.count == size_of(h.states, k)),
         !in_order(last, n, h.routines, k, l),
         !in_range(h, k, l),
         is_full(n, k),

@@ -10,8 +10,8 @@ ghost use mathlib.Core.Path.{_≡_};
 ghost use Prim.Native.Nat.{_<_};
 ghost use Rattle.text.specs.Lines.{maxNumbers};
 ghost use Rattle.rows.specs.Decoded.{rowOf};
-ghost use Rattle.program.specs.Frames.{kindOrder, size, num, kind, word, rest, keyOf};
-ghost use Rattle.program.specs.Reading.{edgeIn, rowIn};
+ghost use Rattle.program.specs.Frames.{kindOrder, rowSize, size, num, kind, word, rest, keyOf};
+ghost use Rattle.program.specs.Reading.{edgeIn, narrowRow, wideRow, rowIn};
 ghost use Rattle.program.specs.Decoded.{edgeOf};
 
 // How much was read before a line: frames, routine frames, edges, transitions and rows.
@@ -61,9 +61,20 @@ fn kind_order(k: u8) -> u8
     0
 }
 
-pub fn size_of(k: u8) -> usize
-    ensures { λ r. ⌜ r ≡ size k ⌝ }
+fn row_size(states: u8) -> usize
+    ensures { λ r. ⌜ r ≡ rowSize states ⌝ }
 {
+    if 8 < states {
+        return 8;
+    }
+    7
+}
+
+// How many numbers a frame of kind k has, its kind among them, where there are so many states.
+pub fn size_of(states: u8, k: u8) -> usize
+    ensures { λ r. ⌜ r ≡ size states k ⌝ }
+{
+    let in_row = row_size(states);
     if k == 1 {
         return 4;
     }
@@ -77,7 +88,7 @@ pub fn size_of(k: u8) -> usize
         return 4;
     }
     if k == 5 {
-        return 7;
+        return in_row;
     }
     if k == 8 {
         return 3;
@@ -124,10 +135,30 @@ pub fn edge_in(l: Line) -> u32
     edge_key(number(l, 1), number(l, 2), number(l, 3), number(l, 4))
 }
 
-// The key of the row that a line says.
-pub fn row_in(l: Line) -> u64
-    ensures { λ r. ⌜ rowOf r ≡ rowIn l ⌝ }
+// The key of the row that a line says, with one number of state bits.
+fn narrow_row(l: Line) -> u64
+    ensures { λ r. ⌜ rowOf r ≡ narrowRow l ⌝ }
 {
     let actions = pack(number(l, 2), number(l, 3), number(l, 4), number(l, 5));
     row_key(number(l, 1) as u16, actions, number(l, 6))
+}
+
+// With two, high first.
+fn wide_row(l: Line) -> u64
+    ensures { λ r. ⌜ rowOf r ≡ wideRow l ⌝ }
+{
+    let actions = pack(number(l, 3), number(l, 4), number(l, 5), number(l, 6));
+    let high = number(l, 1);
+    let low = number(l, 2);
+    row_key((high as u16) * 256 + (low as u16), actions, number(l, 7))
+}
+
+// The key of the row that a line says, where there are so many states.
+pub fn row_in(states: u8, l: Line) -> u64
+    ensures { λ r. ⌜ rowOf r ≡ rowIn states l ⌝ }
+{
+    if 8 < states {
+        return wide_row(l);
+    }
+    narrow_row(l)
 }

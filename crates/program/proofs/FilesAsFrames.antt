@@ -35,18 +35,18 @@ read-text (f ∷ fs) s b =
     rw (append-assoc (hex f) (10 ∷ []) (text fs), lines-hex f (text fs), numbers-hex f [] (b .0))
     (ap (decided s (judge s (lineOf f))) (read-text fs (after s (lineOf f)) (b .1)))
 
--- the rows of some frames
-unfoldable pub rowsOf : List (List ℕ) → List TableRow
-rowsOf [] = []
-rowsOf (f ∷ fs) = rowFirst (lineOf f) (rowsOf fs)
+-- the rows of some frames, where there are so many states
+unfoldable pub rowsOf : ℕ → List (List ℕ) → List TableRow
+rowsOf q [] = []
+rowsOf q (f ∷ fs) = rowFirst q (lineOf f) (rowsOf q fs)
 
 -- the rows of a text are those of its frames
-pub rows-text : (fs : List (List ℕ)) → Frames fs → rowsFrom (lines (text fs)) ≡ rowsOf fs
+pub rows-text : (q : ℕ) (fs : List (List ℕ)) → Frames fs → rowsFrom q (lines (text fs)) ≡ rowsOf q fs
 unfolding text rowsOf rowsFrom lines Frames
-rows-text [] b = refl
-rows-text (f ∷ fs) b =
+rows-text q [] b = refl
+rows-text q (f ∷ fs) b =
     rw (append-assoc (hex f) (10 ∷ []) (text fs), lines-hex f (text fs), numbers-hex f [] (b .0))
-    (ap (rowFirst (lineOf f)) (rows-text fs (b .1)))
+    (ap (rowFirst q (lineOf f)) (rows-text q fs (b .1)))
 
 -- an accepted line is before the end and has no fault, and the rest is accepted
 pub record Going (s : Progress) (n : ℕ) (rest : Outcome) : Type 0 where

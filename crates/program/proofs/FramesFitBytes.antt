@@ -36,42 +36,42 @@ unfolding Frames All
 bytes-map frame fits h [] a = tt
 bytes-map frame fits h (x ∷ xs) a = (h x (a .0), bytes-map frame fits h xs (a .1))
 
-bytes-nodes : (f : ℕ) (ns : List ℕ) → f + length ns ≤ 16 → All (within 2 16) ns → Frames (nodesFrames f ns)
+bytes-nodes : (f : ℕ) (ns : List ℕ) → f + length ns ≤ 16 → All (within 2 64) ns → Frames (nodesFrames f ns)
 unfolding Frames All nodesFrames
 bytes-nodes f [] h a = tt
-bytes-nodes f (n ∷ ns) h a = let z = at-most 2 16 n (a .0) in (omega arith, bytes-nodes (f + 1) ns (omega arith) (a .1))
+bytes-nodes f (n ∷ ns) h a = let z = at-most 2 64 n (a .0) in (omega arith, bytes-nodes (f + 1) ns (omega arith) (a .1))
 
 -- ---- no frame of a program is a row
 
-rows-append : (fs gs : List (List ℕ)) → rowsOf fs ≡ [] → rowsOf gs ≡ [] → rowsOf (fs ++ gs) ≡ []
+rows-append : (q : ℕ) (fs gs : List (List ℕ)) → rowsOf q fs ≡ [] → rowsOf q gs ≡ [] → rowsOf q (fs ++ gs) ≡ []
 unfolding rowsOf
-rows-append [] gs a b = b
-rows-append (f ∷ fs) gs a b = go (eqb (kind (lineOf f)) 5) (λ e. rows-append fs gs e b) a
+rows-append q [] gs a b = b
+rows-append q (f ∷ fs) gs a b = go (eqb (kind (lineOf f)) 5) (λ e. rows-append q fs gs e b) a
   where
-    go : (t : Bool) → (rowsOf fs ≡ [] → rowsOf (fs ++ gs) ≡ []) → cond t (rowIn (lineOf f) ∷ rowsOf fs) (rowsOf fs) ≡ []
-        → cond t (rowIn (lineOf f) ∷ rowsOf (fs ++ gs)) (rowsOf (fs ++ gs)) ≡ []
+    go : (t : Bool) → (rowsOf q fs ≡ [] → rowsOf q (fs ++ gs) ≡ []) → cond t (rowIn q (lineOf f) ∷ rowsOf q fs) (rowsOf q fs) ≡ []
+        → cond t (rowIn q (lineOf f) ∷ rowsOf q (fs ++ gs)) (rowsOf q (fs ++ gs)) ≡ []
     go true on a = absurd (let z = ap length a in omega arith)
     go false on a = on a
 
-rows-map : {A : Type 0} (frame : A → List ℕ) → ((x : A) → eqb (kind (lineOf (frame x))) 5 ≡ false) → (xs : List A) → rowsOf (map frame xs) ≡ []
+rows-map : {A : Type 0} (q : ℕ) (frame : A → List ℕ) → ((x : A) → eqb (kind (lineOf (frame x))) 5 ≡ false) → (xs : List A) → rowsOf q (map frame xs) ≡ []
 unfolding rowsOf
-rows-map frame h [] = refl
-rows-map frame h (x ∷ xs) = rw (h x, rows-map frame h xs)
+rows-map q frame h [] = refl
+rows-map q frame h (x ∷ xs) = rw (h x, rows-map q frame h xs)
 
-rows-nodes : (f : ℕ) (ns : List ℕ) → rowsOf (nodesFrames f ns) ≡ []
+rows-nodes : (q f : ℕ) (ns : List ℕ) → rowsOf q (nodesFrames f ns) ≡ []
 unfolding rowsOf nodesFrames
-rows-nodes f [] = refl
-rows-nodes f (n ∷ ns) = rows-nodes (f + 1) ns
+rows-nodes q f [] = refl
+rows-nodes q f (n ∷ ns) = rows-nodes q (f + 1) ns
 
-pub no-row-framed : (p : Program) → rowsOf (framesOf p ++ endFrame (length (framesOf p)) ∷ []) ≡ []
+pub no-row-framed : (q : ℕ) (p : Program) → rowsOf q (framesOf p ++ endFrame (length (framesOf p)) ∷ []) ≡ []
 unfolding rowsOf framesOf
-no-row-framed p =
-    rows-append (framesOf p) (endFrame (length (framesOf p)) ∷ [])
-    (rows-append (nodesFrames 0 (p .nodes)) _ (rows-nodes 0 (p .nodes))
-    (rows-append (map edgeFrame (p .edges)) _ (rows-map edgeFrame (λ x. refl) (p .edges))
-    (rows-append (map transitionFrame (p .automaton .transitions)) _ (rows-map transitionFrame (λ x. refl) (p .automaton .transitions))
-    (rows-append (map initialFrame (p .automaton .initial)) _ (rows-map initialFrame (λ x. refl) (p .automaton .initial))
-    (rows-map rejectingFrame (λ x. refl) (p .automaton .rejecting))))))
+no-row-framed q p =
+    rows-append q (framesOf p) (endFrame (length (framesOf p)) ∷ [])
+    (rows-append q (nodesFrames 0 (p .nodes)) _ (rows-nodes q 0 (p .nodes))
+    (rows-append q (map edgeFrame (p .edges)) _ (rows-map q edgeFrame (λ x. refl) (p .edges))
+    (rows-append q (map transitionFrame (p .automaton .transitions)) _ (rows-map q transitionFrame (λ x. refl) (p .automaton .transitions))
+    (rows-append q (map initialFrame (p .automaton .initial)) _ (rows-map q initialFrame (λ x. refl) (p .automaton .initial))
+    (rows-map q rejectingFrame (λ x. refl) (p .automaton .rejecting))))))
     refl
 
 -- ---- for a well-formed program
@@ -80,8 +80,8 @@ module _ (p : Program) (w : WellFormed p) where
   limit : Limits p
   limit = well-formed-limits p w
 
-  nodes-small : (f : ℕ) → f < p .routines → getD (p .nodes) f 0 ≤ 16
-  nodes-small f h = at-most 2 16 (getD (p .nodes) f 0) (all-at (within 2 16) (p .nodes) f 0 (w .nodes-fit) (omega (arith, w .complete)))
+  nodes-small : (f : ℕ) → f < p .routines → getD (p .nodes) f 0 ≤ 64
+  nodes-small f h = at-most 2 64 (getD (p .nodes) f 0) (all-at (within 2 64) (p .nodes) f 0 (w .nodes-fit) (omega (arith, w .complete)))
 
   pub edge-bytes : (e : Edge) → edgeFits p e ≡ true → Bytes (edgeFrame e)
   edge-bytes e f =

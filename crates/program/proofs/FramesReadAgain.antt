@@ -46,19 +46,19 @@ followed fs gs a k =
 
 -- ---- a section
 
-module _ {A : Type 0} (frame : A → List ℕ) (key : A → ℕ) (put : List A → Program) (fits : A → Bool) (base top : ℕ)
+module _ {A : Type 0} (frame : A → List ℕ) (key : A → ℕ) (put : List A → Program) (fits : A → Bool) (base top most : ℕ)
     (from-base : (x : A) → base ≤ key x)
     (below-top : (x : A) → fits x ≡ true → key x < top)
-    (clean : (last n : ℕ) (done : List A) (x : A) → 0 < n → last < key x → fits x ≡ true → length done < 256 → judge (at last n (put done)) (lineOf (frame x)) ≡ 0)
+    (clean : (last n : ℕ) (done : List A) (x : A) → 0 < n → last < key x → fits x ≡ true → length done < most → judge (at last n (put done)) (lineOf (frame x)) ≡ 0)
     (comes : (last n : ℕ) (done : List A) (x : A) → after (at last n (put done)) (lineOf (frame x)) ≡ at (key x) (n + 1) (put (done ++ x ∷ []))) where
-  one-on : (x : A) (xs done : List A) (last n : ℕ) → 0 < n → last < key x → fits x ≡ true → length done < 256
+  one-on : (x : A) (xs done : List A) (last n : ℕ) → 0 < n → last < key x → fits x ≡ true → length done < most
       → Leads (at (key x) (n + 1) (put (done ++ x ∷ []))) (map frame xs) (n + 1 + length xs) (put (done ++ x ∷ [] ++ xs)) top
       → Leads (at last n (put done)) (map frame (x ∷ xs)) (n + length (x ∷ xs)) (put (done ++ x ∷ xs)) top
   one-on x xs done last n h z f c w =
       let e : n + 1 + length xs ≡ n + length (x ∷ xs) = omega arith in
       first (at last n (put done)) _ (frame x) (map frame xs) refl (clean last n done x h z f c) (comes last n done x) (rw (append-snoc done x xs, e) at w)
 
-  go-on : (xs done : List A) (last n : ℕ) → 0 < n → last < top → Ascending last (map key xs) → All fits xs → length done + length xs ≤ 256
+  go-on : (xs done : List A) (last n : ℕ) → 0 < n → last < top → Ascending last (map key xs) → All fits xs → length done + length xs ≤ most
       → Leads (at last n (put done)) (map frame xs) (n + length xs) (put (done ++ xs)) top
   unfolding Ascending All
   go-on [] done last n h z s a c =
@@ -73,7 +73,7 @@ module _ {A : Type 0} (frame : A → List ℕ) (key : A → ℕ) (put : List A �
   raised last [] h s = tt
   raised last (x ∷ xs) h s = (omega (arith, from-base x), s .1)
 
-  section : (xs : List A) (last n : ℕ) → 0 < n → last < base → base ≤ top → Ascending 0 (map key xs) → All fits xs → length xs ≤ 256
+  section : (xs : List A) (last n : ℕ) → 0 < n → last < base → base ≤ top → Ascending 0 (map key xs) → All fits xs → length xs ≤ most
       → Leads (at last n (put [])) (map frame xs) (n + length xs) (put xs) top
   section xs last n h z y s a c = go-on xs [] last n h (omega arith) (raised last xs z s) a (omega arith)
 
@@ -97,13 +97,13 @@ module _ (p : Program) (w : WellFormed p) where
   here = eq-eqb (length (p .nodes)) (p .routines) (w .complete)
 
   -- the routine frames run by their number
-  node-clean : (last n : ℕ) (done : List ℕ) (x : ℕ) → 0 < n → last < keyOf 2 (packed (length done) x 0 0) 0 → within 2 16 x ≡ true → length done < p .routines
+  node-clean : (last n : ℕ) (done : List ℕ) (x : ℕ) → 0 < n → last < keyOf 2 (packed (length done) x 0 0) 0 → within 2 64 x ≡ true → length done < p .routines
       → judge (at last n (made p done [] [] [] [])) (lineOf (nodesFrame (length done) x)) ≡ 0
   unfolding judge judgeAs
   node-clean last n done x h z f c =
       rw (lt-ltb last (keyOf 2 (packed (length done) x 0 0) 0) z, lt-ltb 0 n h, eq-eqb (length done) (length done) refl, lt-ltb (length done) (p .routines) c, f)
 
-  node-on : (x : ℕ) (ns done : List ℕ) (last n : ℕ) → 0 < n → last < keyOf 2 (packed (length done) 0 0 0) 0 → within 2 16 x ≡ true → length done < p .routines
+  node-on : (x : ℕ) (ns done : List ℕ) (last n : ℕ) → 0 < n → last < keyOf 2 (packed (length done) 0 0 0) 0 → within 2 64 x ≡ true → length done < p .routines
       → Leads (at (keyOf 2 (packed (length done) x 0 0) 0) (n + 1) (made p (done ++ x ∷ []) [] [] [] [])) (nodesFrames (length (done ++ x ∷ [])) ns) (n + 1 + length ns)
       (made p (done ++ x ∷ [] ++ ns) [] [] [] []) (keyOf 3 0 0)
       → Leads (at last n (made p done [] [] [] [])) (nodesFrames (length done) (x ∷ ns)) (n + length (x ∷ ns)) (made p (done ++ x ∷ ns) [] [] [] []) (keyOf 3 0 0)
@@ -113,7 +113,7 @@ module _ (p : Program) (w : WellFormed p) where
       first (at last n (made p done [] [] [] [])) _ (nodesFrame (length done) x) (nodesFrames (length done + 1) ns) refl (node-clean last n done x h (omega arith) f c)
       refl (rw (append-snoc done x ns, e, length-append done (x ∷ [])) at r)
 
-  nodes-on : (ns done : List ℕ) (last n : ℕ) → 0 < n → last < keyOf 2 (packed (length done) 0 0 0) 0 → All (within 2 16) ns → length done + length ns ≡ p .routines
+  nodes-on : (ns done : List ℕ) (last n : ℕ) → 0 < n → last < keyOf 2 (packed (length done) 0 0 0) 0 → All (within 2 64) ns → length done + length ns ≡ p .routines
       → Leads (at last n (made p done [] [] [] [])) (nodesFrames (length done) ns) (n + length ns) (made p (done ++ ns) [] [] [] []) (keyOf 3 0 0)
   unfolding All nodesFrames
   nodes-on [] done last n h z a c =
@@ -121,7 +121,7 @@ module _ (p : Program) (w : WellFormed p) where
       record { last = last; low = omega (arith, limit); reads = λ rest. rw (append-nil, e) }
   nodes-on (x ∷ ns) done last n h z a c =
       node-on x ns done last n h z (a .0) (omega arith)
-      (nodes-on ns (done ++ x ∷ []) (keyOf 2 (packed (length done) x 0 0) 0) (n + 1) (omega arith) (rw length-append (omega (arith, at-most 2 16 x (a .0)))) (a .1) (rw length-append (omega arith)))
+      (nodes-on ns (done ++ x ∷ []) (keyOf 2 (packed (length done) x 0 0) 0) (n + 1) (omega arith) (rw length-append (omega (arith, at-most 2 64 x (a .0)))) (a .1) (rw length-append (omega arith)))
 
   after-nodes : (last : ℕ) → last < keyOf 3 0 0 → Leads (at last (1 + length (p .nodes)) (made p (p .nodes) [] [] [] []))
       (map edgeFrame (p .edges) ++ (map transitionFrame (p .automaton .transitions) ++ (map initialFrame (p .automaton .initial) ++ map rejectingFrame (p .automaton .rejecting))))
@@ -131,19 +131,19 @@ module _ (p : Program) (w : WellFormed p) where
       let ns = p .nodes in let es = p .edges in let ts = p .automaton .transitions in let is = p .automaton .initial in let rs = p .automaton .rejecting in
       let state : ℕ → Bool = λ q. ltb q (p .automaton .states) in
       followed (map edgeFrame es) _
-      (section edgeFrame edgeKey (λ xs. made p ns xs [] [] []) (edgeFits p) (keyOf 3 0 0) (keyOf 4 0 0) (λ x. omega arith) (λ x f. omega (arith, edge-bytes p w x f))
+      (section edgeFrame edgeKey (λ xs. made p ns xs [] [] []) (edgeFits p) (keyOf 3 0 0) (keyOf 4 0 0) 256 (λ x. omega arith) (λ x f. omega (arith, edge-bytes p w x f))
       (λ last n done x h z f c. rw (lt-ltb last (edgeKey x) z, lt-ltb 0 n h, here, f, lt-leb 256 (length done) c))
       (λ last n done x. refl) es last _ (omega arith) z (omega arith) (w .edges-ascend) (w .edges-fit) (w .edges-limited))
       (λ last z. followed (map transitionFrame ts) _
-      (section transitionFrame transitionKey (λ xs. made p ns es xs [] []) (transitionFits p) (keyOf 4 0 0) (keyOf 6 0 0) (λ x. omega arith) (λ x f. omega (arith, transition-bytes p w x f))
-      (λ last n done x h z f c. rw (lt-ltb last (transitionKey x) z, lt-ltb 0 n h, here, f, lt-leb 256 (length done) c))
+      (section transitionFrame transitionKey (λ xs. made p ns es xs [] []) (transitionFits p) (keyOf 4 0 0) (keyOf 6 0 0) 512 (λ x. omega arith) (λ x f. omega (arith, transition-bytes p w x f))
+      (λ last n done x h z f c. rw (lt-ltb last (transitionKey x) z, lt-ltb 0 n h, here, f, lt-leb 512 (length done) c))
       (λ last n done x. refl) ts last _ (omega arith) z (omega arith) (w .transitions-ascend) (w .transitions-fit) (w .transitions-limited))
       (λ last z. followed (map initialFrame is) _
-      (section initialFrame initialKey (λ xs. made p ns es ts xs []) state (keyOf 6 0 0) (keyOf 7 0 0) (λ x. omega arith) (λ x f. omega (arith, state-bytes p w 0x49 x (omega arith) f))
+      (section initialFrame initialKey (λ xs. made p ns es ts xs []) state (keyOf 6 0 0) (keyOf 7 0 0) 16 (λ x. omega arith) (λ x f. omega (arith, state-bytes p w 0x49 x (omega arith) f))
       (λ last n done x h z f c. rw (lt-ltb last (initialKey x) z, lt-ltb 0 n h, here, f))
       (λ last n done x. refl) is last _ (omega arith) z (omega arith) (w .initial-ascend) (w .initial-fit) (omega (arith, limit)))
       (λ last z.
-      section rejectingFrame rejectingKey (λ xs. made p ns es ts is xs) state (keyOf 7 0 0) (keyOf 8 0 0) (λ x. omega arith) (λ x f. omega (arith, state-bytes p w 0x46 x (omega arith) f))
+      section rejectingFrame rejectingKey (λ xs. made p ns es ts is xs) state (keyOf 7 0 0) (keyOf 8 0 0) 16 (λ x. omega arith) (λ x f. omega (arith, state-bytes p w 0x46 x (omega arith) f))
       (λ last n done x h z f c. rw (lt-ltb last (rejectingKey x) z, lt-ltb 0 n h, here, f))
       (λ last n done x. refl) rs last _ (omega arith) z (omega arith) (w .rejecting-ascend) (w .rejecting-fit) (omega (arith, limit)))))
 
@@ -159,7 +159,7 @@ module _ (p : Program) (w : WellFormed p) where
   unfolding readFrames judge judgeAs after afterAs
   end-read last n h z =
       let e : n / 256 * 256 + n % 256 ≡ n = omega arith in
-      rw (lt-ltb last (keyOf 8 (packed (n / 256) (n % 256) 0 0) 0) (omega arith), lt-ltb 0 n h, here, eq-eqb _ n e)
+      rw (lt-ltb last (keyOf 8 (packed (n / 256) (n % 256) 0 0) 0) (omega arith), lt-ltb 0 n h, here, eq-eqb _ n e, w .sized)
 
   pub again : readFrames start (framesOf p ++ endFrame (length (framesOf p)) ∷ []) ≡ accepted p
   again = rw (length-frames p) (frames-read .reads _ ∙ end-read (frames-read .last) _ (omega arith) (frames-read .low))

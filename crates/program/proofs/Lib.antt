@@ -4,6 +4,7 @@ pub mod SectionsAscend
 pub mod LinesJudged
 pub mod ProgramLimits
 pub mod ProgramRanged
+pub mod ChosenSizes
 pub mod ProgressSound
 pub mod RefusalsSmall
 pub mod FilesAsFrames

@@ -100,17 +100,17 @@ by-kind P b c d e f g i (suc (suc (suc (suc (suc (suc (suc (suc (suc n))))))))) 
 
 pub record Met (s : Progress) (k : ℕ) (l : Line) : Type 0 where
   pub known : 0 < k
-  pub counted : l .count ≡ size k
+  pub counted : l .count ≡ size (s .program .automaton .states) k
   pub later : s .last < keyOf k (word l) (rest l)
   pub header : k ≡ 1 → (s .frames ≡ 0) × (countsFit (num l 1) (num l 2) (num l 3) ≡ true)
   pub begun : 1 < k → 0 < s .frames
-  pub nodes : k ≡ 2 → (num l 1 ≡ length (s .program .nodes)) × (num l 1 < s .program .routines) × (within 2 16 (num l 2) ≡ true)
+  pub nodes : k ≡ 2 → (num l 1 ≡ length (s .program .nodes)) × (num l 1 < s .program .routines) × (within 2 64 (num l 2) ≡ true)
   pub complete : 2 < k → length (s .program .nodes) ≡ s .program .routines
   pub edge : k ≡ 3 → (edgeFits (s .program) (edgeIn l) ≡ true) × (length (s .program .edges) < 256)
   pub transition : k ≡ 4
       → (transitionFits (s .program) (record { before = num l 1; label = num l 2; after = num l 3 }) ≡ true)
-      × (length (s .program .automaton .transitions) < 256)
-  pub row : k ≡ 5 → (rowFits (s .program .automaton) (rowIn l) ≡ true) × (length (s .program .automaton .transitions) ≡ 0) × (length (s .rows) < 256)
+      × (length (s .program .automaton .transitions) < 512)
+  pub row : k ≡ 5 → (rowFits (s .program .automaton) (rowIn (s .program .automaton .states) l) ≡ true) × (length (s .program .automaton .transitions) ≡ 0) × (length (s .rows) < 256)
   pub initial : k ≡ 6 → ltb (num l 1) (s .program .automaton .states) ≡ true
   pub rejecting : k ≡ 7 → ltb (num l 1) (s .program .automaton .states) ≡ true
   pub end : k ≡ 8 → num l 1 * 256 + num l 2 ≡ s .frames
@@ -134,7 +134,7 @@ pub met : (s : Progress) (k : ℕ) (l : Line) → judgeAs s k l ≡ 0 → Met s 
 unfolding judgeAs
 met s k l j =
     let p = s .program in
-    let w = no-fault (eqb (l .count) 0) (eqb k 0) (not (eqb (l .count) (size k)))
+    let w = no-fault (eqb (l .count) 0) (eqb k 0) (not (eqb (l .count) (size (p .automaton .states) k)))
     (not (ordered (s .last) (s .frames) (p .routines) (length (p .nodes)) (length (p .automaton .transitions)) k l)) (not (ranged p k l))
     (full (length (p .edges)) (length (p .automaton .transitions)) (length (s .rows)) k) (miscounted (s .frames) k l) j in
     let v = both (ltb (s .last) (keyOf k (word l) (rest l)) && inPlace (s .frames) (p .routines) (length (p .nodes)) k l) (not (mixed (length (p .automaton .transitions)) k)) (not-false _ (w .2)) in
@@ -142,18 +142,18 @@ met s k l j =
     let r = not-false (ranged p k l) (w .3) in
     record {
       known = positive k (eqb-false k 0 (w .0));
-      counted = eqb-true (l .count) (size k) (not-false _ (w .1));
+      counted = eqb-true (l .count) (size (p .automaton .states) k) (not-false _ (w .1));
       later = ltb-true (s .last) (keyOf k (word l) (rest l)) (o .0);
       header = λ e. (eqb-true (s .frames) 0 (simp (e, or-false) at (o .1)), simp (e, or-false) at r);
       begun = λ h. ltb-true 0 (s .frames) (begun-by (eqb k 2) _ _ (ltb 2 k) _ (rw (ne-eqb k 1 (λ e. omega arith)) at (o .1)));
       nodes = λ e.
-          let x : ltb (num l 1) (p .routines) && within 2 16 (num l 2) ≡ true = simp (e, or-false) at r in
+          let x : ltb (num l 1) (p .routines) && within 2 64 (num l 2) ≡ true = simp (e, or-false) at r in
           let y : ltb 0 (s .frames) && due (p .routines) (length (p .nodes)) (num l 1) ≡ true = simp (e, or-false) at (o .1) in
           let z = ltb-true (num l 1) (p .routines) (both (ltb (num l 1) (p .routines)) _ x .0) in
           (due-here (p .routines) (length (p .nodes)) (num l 1) (both (ltb 0 (s .frames)) _ y .1) z, z, both (ltb (num l 1) (p .routines)) _ x .1);
       complete = λ h. eqb-true _ _ (both (ltb 0 (s .frames)) _ (rw (ne-eqb k 1 (λ e. omega arith), ne-eqb k 2 (λ e. omega arith), lt-ltb 2 k h) at (o .1)) .1);
       edge = λ e. (simp (e, or-false) at r, leb-false 256 _ (simp (e, or-false) at (w .4)));
-      transition = λ e. (simp (e, or-false) at r, leb-false 256 _ (simp (e, or-false) at (w .4)));
+      transition = λ e. (simp (e, or-false) at r, leb-false 512 _ (simp (e, or-false) at (w .4)));
       row = λ e. (simp (e, or-false) at r, none-there (length (p .automaton .transitions)) (rw e at (v .1)), leb-false 256 _ (rw e at (w .4)));
       initial = λ e. simp (e, or-false) at r;
       rejecting = λ e. simp (e, or-false) at r;

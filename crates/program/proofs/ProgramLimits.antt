@@ -26,28 +26,28 @@ use Rattle.base.proofs.Bools.{both}
 
 pub record Limits (p : Program) : Type 0 where
   pub routines : p .routines ≤ 16
-  pub states : p .automaton .states ≤ 8
+  pub states : p .automaton .states ≤ 16
   pub actions : p .automaton .actions ≤ 32
   pub nodes : length (p .nodes) ≤ 16
   pub edges : length (p .edges) ≤ 256
-  pub transitions : length (p .automaton .transitions) ≤ 256
-  pub initial : length (p .automaton .initial) ≤ 8
-  pub rejecting : length (p .automaton .rejecting) ≤ 8
+  pub transitions : length (p .automaton .transitions) ≤ 512
+  pub initial : length (p .automaton .initial) ≤ 16
+  pub rejecting : length (p .automaton .rejecting) ≤ 16
 
 -- a list of states ascends, so there are at most as many as there are states
-states-few : (r n : ℕ) (qs : List ℕ) → n ≤ 8 → Ascending 0 (map (λ q. keyOf r (packed q 0 0 0) 0) qs) → All (λ q. ltb q n) qs → length qs ≤ 8
+states-few : (r n : ℕ) (qs : List ℕ) → n ≤ 16 → Ascending 0 (map (λ q. keyOf r (packed q 0 0 0) 0) qs) → All (λ q. ltb q n) qs → length qs ≤ 16
 states-few r n qs h s a = omega (arith, few (λ q. keyOf r (packed q 0 0 0) 0) (λ a b z. omega arith) n 0 qs s a)
 
 pub limits : (p : Program) → countsFit (p .routines) (p .automaton .states) (p .automaton .actions) ≡ true → length (p .nodes) ≤ p .routines
-    → length (p .edges) ≤ 256 → length (p .automaton .transitions) ≤ 256
+    → length (p .edges) ≤ 256 → length (p .automaton .transitions) ≤ 512
     → Ascending 0 (map initialKey (p .automaton .initial)) → All (λ q. ltb q (p .automaton .states)) (p .automaton .initial)
     → Ascending 0 (map rejectingKey (p .automaton .rejecting)) → All (λ q. ltb q (p .automaton .states)) (p .automaton .rejecting) → Limits p
 limits p c n e t si ai sr ar =
     let r = p .routines in let q = p .automaton .states in let a = p .automaton .actions in
-    let w = both (within 1 16 r && within 1 8 q) (within 1 32 a) c in
-    let v = both (within 1 16 r) (within 1 8 q) (w .0) in
+    let w = both (within 1 16 r && within 1 16 q) (within 1 32 a) c in
+    let v = both (within 1 16 r) (within 1 16 q) (w .0) in
     let x = at-most 1 16 r (v .0) in
-    let y = at-most 1 8 q (v .1) in
+    let y = at-most 1 16 q (v .1) in
     record {
       routines = x;
       states = y;
@@ -122,8 +122,8 @@ nothing : length (text []) ≡ 0
 unfolding text
 nothing = refl
 
--- 9 for the header, and 16 * 7 + 256 * 11 + 256 * 9 + 8 * 5 + 8 * 5 for the sections
-sections-short : (p : Program) → WellFormed p → length (text (framesOf p)) ≤ 5321
+-- 9 for the header, and 16 * 7 + 256 * 11 + 512 * 9 + 16 * 5 + 16 * 5 for the sections
+sections-short : (p : Program) → WellFormed p → length (text (framesOf p)) ≤ 7705
 unfolding framesOf
 sections-short p w =
     simp (
@@ -139,6 +139,6 @@ sections-short p w =
     (omega (arith, well-formed-limits p w))
 
 -- and 7 for the end frame
-pub written-short : (p : Program) → WellFormed p → length (written p) ≤ 5328
+pub written-short : (p : Program) → WellFormed p → length (written p) ≤ 7712
 unfolding written
 written-short p w = simp (text-append, length-append, length-line, nothing) (omega (arith, sections-short p w))

@@ -11,6 +11,7 @@ use Rattle.text.specs.declared.Line.{Line}
 use Rattle.automaton.specs.Automaton.{Transition}
 use Rattle.program.specs.Sizes.{maxFrames}
 use Rattle.program.specs.Program.{Program, within, countsFit, edgeFits, transitionFits}
+use Rattle.program.specs.Chosen.{sizesFit}
 use Rattle.program.specs.Frames.{size, num, kind, word, rest, packed, keyOf, edgeKey, transitionKey, initialKey, rejectingKey}
 use Rattle.program.specs.WellFormed.{All, WellFormed}
 use Rattle.program.specs.Reading.{Progress, start, edgeIn, transitionIn, rowIn, more, judge, programAfter, afterAs, after}
@@ -30,12 +31,12 @@ pub record Tabular (rows : List TableRow) (transitions : List Transition) (last 
 pub record Begun (s : Progress) : Type 0 where
   pub counts-fit : countsFit (s .program .routines) (s .program .automaton .states) (s .program .automaton .actions) ≡ true
   pub nodes-few : length (s .program .nodes) ≤ s .program .routines
-  pub nodes-fit : All (within 2 16) (s .program .nodes)
+  pub nodes-fit : All (within 2 64) (s .program .nodes)
   pub complete : s .ended ≡ true → length (s .program .nodes) ≡ s .program .routines
   pub edges : Section (edgeFits (s .program)) edgeKey (s .program .edges) (s .last)
   pub edges-limited : length (s .program .edges) ≤ 256
   pub transitions : Section (transitionFits (s .program)) transitionKey (s .program .automaton .transitions) (s .last)
-  pub transitions-limited : length (s .program .automaton .transitions) ≤ 256
+  pub transitions-limited : length (s .program .automaton .transitions) ≤ 512
   pub rows-fit : All (rowFits (s .program .automaton)) (s .rows)
   pub rows-limited : length (s .rows) ≤ 256
   pub tabular : Tabular (s .rows) (s .program .automaton .transitions) (s .last)
@@ -69,24 +70,27 @@ header-begun l c =
     }
 
 -- one frame more is one element more in one section, one row more, or the end
-one-more : (p : Program) (rows : List TableRow) (l : Line) (k : ℕ) → 1 < k → k ≤ 8
-    → frameCount (programAfter p k l) + length (more (eqb k 5) (rowIn l) rows) + cond (eqb k 8) 1 0 ≡ frameCount p + length rows + 1
-one-more p rows l =
-    by-kind (λ k. frameCount (programAfter p k l) + length (more (eqb k 5) (rowIn l) rows) + cond (eqb k 8) 1 0 ≡ frameCount p + length rows + 1)
+one-more : (p : Program) (rows : List TableRow) (x : TableRow) (l : Line) (k : ℕ) → 1 < k → k ≤ 8
+    → frameCount (programAfter p k l) + length (more (eqb k 5) x rows) + cond (eqb k 8) 1 0 ≡ frameCount p + length rows + 1
+one-more p rows x l =
+    by-kind (λ k. frameCount (programAfter p k l) + length (more (eqb k 5) x rows) + cond (eqb k 8) 1 0 ≡ frameCount p + length rows + 1)
     (simp length-append (omega arith)) (simp length-append (omega arith)) (simp length-append (omega arith)) (simp length-append (omega arith))
     (simp length-append (omega arith)) (simp length-append (omega arith)) (omega arith)
 
 module _ (s : Progress) (k : ℕ) (l : Line) (pad : Padded l) (b : Begun s) (m : Met s k l) (h : 1 < k) (j : k ≤ 8) where
-  past : (i : ℕ) → size k ≤ i → num l i ≡ 0
+  abbrev states : ℕ
+  states = s .program .automaton .states
+
+  past : (i : ℕ) → size states k ≤ i → num l i ≡ 0
   past i z = pad i (omega (arith, m .counted))
 
   -- the three numbers that only a row has
-  past-four : size k ≤ 5 → rest l ≡ 0
+  past-four : size states k ≤ 5 → rest l ≡ 0
   past-four z = rw (past 5 (omega arith), past 6 (omega arith), past 7 (omega arith))
 
-  state-key : (r : ℕ) → k ≡ r → size r ≡ 2 → keyOf r (packed (num l 1) 0 0 0) 0 ≡ keyOf k (word l) (rest l)
+  state-key : (r : ℕ) → k ≡ r → size states r ≡ 2 → keyOf r (packed (num l 1) 0 0 0) 0 ≡ keyOf k (word l) (rest l)
   state-key r i e =
-      let z : size k ≡ 2 = ap size i ∙ e in
+      let z : size states k ≡ 2 = ap (size states) i ∙ e in
       rw (past 2 (omega arith), past 3 (omega arith), past 4 (omega arith), past-four (omega arith), i)
 
   -- there is no edge yet when a routine is added
@@ -96,8 +100,8 @@ module _ (s : Progress) (k : ℕ) (l : Line) (pad : Padded l) (b : Begun s) (m :
   edges-on true e =
       let i = eqb-true k 2 e in
       let w = m .nodes i in
-      let n = at-most 2 16 (num l 2) (w .2) in
-      let z : size k ≤ 5 = rw i (omega arith) in
+      let n = at-most 2 64 (num l 2) (w .2) in
+      let z : size states k ≤ 5 = rw i (omega arith) in
       let u : s .last < keyOf 3 0 0 = omega (arith, rw i at (m .later), begun-limits s b, past 3 (rw i (omega arith)), past 4 (rw i (omega arith)), past-four z) in
       rw (i, none-yet edgeKey 0 (s .last) (s .program .edges) (λ x. omega arith) (b .edges .rise)) (no-section _ _ _)
   edges-on false e =
@@ -111,7 +115,7 @@ module _ (s : Progress) (k : ℕ) (l : Line) (pad : Padded l) (b : Begun s) (m :
       omega (arith, i, past 4 (rw i (omega arith)), past-four (rw i (omega arith)), t)
 
   tabular-on : (t u : Bool) → eqb k 5 ≡ t → eqb k 4 ≡ u
-      → Tabular (more t (rowIn l) (s .rows)) (more u (transitionIn l) (s .program .automaton .transitions)) (keyOf k (word l) (rest l))
+      → Tabular (more t (rowIn states l) (s .rows)) (more u (transitionIn l) (s .program .automaton .transitions)) (keyOf k (word l) (rest l))
   tabular-on true true e f = absurd (omega (arith, eqb-true k 5 e, eqb-true k 4 f))
   tabular-on true false e f =
       let i = eqb-true k 5 e in
@@ -137,21 +141,21 @@ module _ (s : Progress) (k : ℕ) (l : Line) (pad : Padded l) (b : Begun s) (m :
       (record {
         counts-fit = b .counts-fit;
         nodes-few = limited-more (eqb k 2) (num l 2) (p .routines) (p .nodes) (b .nodes-few) (λ e. omega (arith, m .nodes (eqb-true k 2 e)));
-        nodes-fit = all-more (eqb k 2) (num l 2) (within 2 16) (p .nodes) (b .nodes-fit) (λ e. m .nodes (eqb-true k 2 e) .2);
+        nodes-fit = all-more (eqb k 2) (num l 2) (within 2 64) (p .nodes) (b .nodes-fit) (λ e. m .nodes (eqb-true k 2 e) .2);
         complete = λ e. let i = eqb-true k 8 e in rw i (m .complete (omega arith));
         edges = edges-on (eqb k 2) refl;
         edges-limited = limited-more (eqb k 3) (edgeIn l) 256 (p .edges) (b .edges-limited) (λ e. m .edge (eqb-true k 3 e) .1);
         transitions = section-more (eqb k 4) _ (transitionFits p) transitionKey (s .last) key (a .transitions) (m .later)
             (λ e. let i = eqb-true k 4 e in (m .transition i .0, rw (past 4 (rw i (omega arith)), past-four (rw i (omega arith)), i))) (b .transitions);
-        transitions-limited = limited-more (eqb k 4) _ 256 (a .transitions) (b .transitions-limited) (λ e. m .transition (eqb-true k 4 e) .1);
-        rows-fit = all-more (eqb k 5) (rowIn l) (rowFits a) (s .rows) (b .rows-fit) (λ e. m .row (eqb-true k 5 e) .0);
-        rows-limited = limited-more (eqb k 5) (rowIn l) 256 (s .rows) (b .rows-limited) (λ e. m .row (eqb-true k 5 e) .2);
+        transitions-limited = limited-more (eqb k 4) _ 512 (a .transitions) (b .transitions-limited) (λ e. m .transition (eqb-true k 4 e) .1);
+        rows-fit = all-more (eqb k 5) (rowIn states l) (rowFits a) (s .rows) (b .rows-fit) (λ e. m .row (eqb-true k 5 e) .0);
+        rows-limited = limited-more (eqb k 5) (rowIn states l) 256 (s .rows) (b .rows-limited) (λ e. m .row (eqb-true k 5 e) .2);
         tabular = tabular-on (eqb k 5) (eqb k 4) refl refl;
         initial = section-more (eqb k 6) (num l 1) state initialKey (s .last) key (a .initial) (m .later)
             (λ e. let i = eqb-true k 6 e in (m .initial i, state-key 6 i refl)) (b .initial);
         rejecting = section-more (eqb k 7) (num l 1) state rejectingKey (s .last) key (a .rejecting) (m .later)
             (λ e. let i = eqb-true k 7 e in (m .rejecting i, state-key 7 i refl)) (b .rejecting);
-        counted = omega (arith, one-more p (s .rows) l k h j, rw o at (b .counted));
+        counted = omega (arith, one-more p (s .rows) (rowIn states l) l k h j, rw o at (b .counted));
       })
 
 -- ---- before it or after it
@@ -201,7 +205,7 @@ room-for-row s l j = λ e. met s (kind l) l j .row e .2
 
 -- transitions or rows, and not both
 one-kind : (rows : List TableRow) (transitions : List Transition) (last : ℕ) → Tabular rows transitions last → length rows ≤ 256
-    → length transitions ≤ 256 → length transitions + length rows ≤ 256
+    → length transitions ≤ 512 → length transitions + length rows ≤ 512
 one-kind [] ts last t h i = omega arith
 one-kind (r ∷ rows) ts last t h i = rw (t .no-transition (omega arith)) (omega arith)
 
@@ -225,8 +229,8 @@ ended-begun s g o = go (s .frames) refl
     go zero e = absurd (let z = g .fresh e in let y : _≡_ {A = ℕ} 0 1 = cc in omega arith)
     go (suc n) e = g .begun (omega arith)
 
-pub sound-accepted : (s : Progress) → Sound s → s .ended ≡ true → WellFormed (s .program)
-sound-accepted s g o =
+pub sound-accepted : (s : Progress) → Sound s → s .ended ≡ true → sizesFit (s .program) ≡ true → WellFormed (s .program)
+sound-accepted s g o z =
     let b = ended-begun s g o in
     record {
       counts-fit = b .counts-fit;
@@ -242,4 +246,5 @@ sound-accepted s g o =
       initial-ascend = rising-ascending 0 _ (s .last) (b .initial .rise);
       rejecting-fit = b .rejecting .fit;
       rejecting-ascend = rising-ascending 0 _ (s .last) (b .rejecting .rise);
+      sized = z;
     }

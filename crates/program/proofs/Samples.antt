@@ -1,5 +1,6 @@
 -- The paper's sample program F and some damaged copies, read and written by the definitions.
 use mathlib.Core.Path.{_≡_, refl}
+use mathlib.Core.Bool.{true, false}
 use mathlib.Core.List.{List, [], _∷_, _++_}
 use Prim.Native.Nat.{ℕ}
 use Prim.Native.String.{String}
@@ -7,10 +8,11 @@ use Rattle.text.specs.Hex.{hex}
 use Rattle.text.specs.Lines.{lines, numbers}
 use Rattle.automaton.specs.Automaton.{Transition}
 use Rattle.program.specs.Program.{Program}
+use Rattle.program.specs.Chosen.{largest, numbers as marksLength}
 use Rattle.program.specs.Sample.{bytes, header, F}
 use Rattle.program.specs.declared.Verdict.the-variants.{Accepted}
 use Rattle.program.specs.Writing.{nodesFrames, framesOf, text, written}
-use Rattle.program.specs.Reading.{accepted, refused, judgeAs, judge, afterAs, after, readFrom, readFile}
+use Rattle.program.specs.Reading.{accepted, refused, full, judgeAs, judge, afterAs, after, readFrom, readFile}
 use Rattle.rows.specs.Rows.{pairsFrom, timesMet, tableRefusal, nextState}
 
 abbrev pub sample : Program
@@ -35,7 +37,7 @@ sample =
 
 -- to unfold this is to unfold all that reading computes with
 reading : Unit {0}
-unfolding lines numbers judgeAs judge afterAs after pairsFrom timesMet tableRefusal nextState readFrom readFile
+unfolding lines numbers judgeAs judge afterAs after pairsFrom timesMet tableRefusal nextState largest marksLength readFrom readFile
 reading = tt
 
 sample-read : readFile (bytes F) ≡ accepted sample
@@ -258,3 +260,95 @@ next-state-outside = refl
 row-too-short : readFile (rule ("550300000003" ∷ []) "450003") ≡ refused 3 3
 unfolding reading
 row-too-short = refl
+
+-- ---- rows of two numbers of state bits: nine states and one action
+
+-- one routine, these lines, and the end frame with this count
+abbrev nine : List String → String → List ℕ
+nine rows end = bytes (("50010901" ∷ "520002" ∷ []) ++ rows ++ end ∷ [])
+
+wide-row : readFile (nine ("5501FF0000000108" ∷ []) "450003") .verdict ≡ Accepted
+unfolding reading
+wide-row = refl
+
+-- eight states need one number only
+eight-states : readFile (bytes ("50010801" ∷ "520002" ∷ "55FF0000000107" ∷ "450003" ∷ [])) .verdict ≡ Accepted
+unfolding reading
+eight-states = refl
+
+-- the high number first: state 8 has the row that comes last
+wide-rows : readFile (nine ("5500FF0000000108" ∷ "5501000000000108" ∷ []) "450004") .verdict ≡ Accepted
+unfolding reading
+wide-rows = refl
+
+wide-rows-descend : readFile (nine ("5501000000000108" ∷ "5500FF0000000108" ∷ []) "450004") ≡ refused 4 4
+unfolding reading
+wide-rows-descend = refl
+
+last-pair-missing : readFile (nine ("5500FF0000000108" ∷ []) "450003") ≡ refused 19 0
+unfolding reading
+last-pair-missing = refl
+
+wide-bit-outside : readFile (nine ("5503FF0000000108" ∷ []) "450003") ≡ refused 5 3
+unfolding reading
+wide-bit-outside = refl
+
+wide-row-too-short : readFile (nine ("55FF0000000108" ∷ []) "450003") ≡ refused 3 3
+unfolding reading
+wide-row-too-short = refl
+
+row-too-long : readFile (rule ("5500030000000301" ∷ []) "450003") ≡ refused 3 3
+unfolding reading
+row-too-long = refl
+
+-- before the header there are 0 states, and a row has one number of state bits
+wide-row-first : readFile (bytes ("5501FF0000000108" ∷ [])) ≡ refused 3 1
+unfolding reading
+wide-row-first = refl
+
+row-first : readFile (bytes ("55FF0000000108" ∷ [])) ≡ refused 4 1
+unfolding reading
+row-first = refl
+
+-- ---- sizes: so many routines, all with the same count of nodes, 16 states and one action
+
+most-states : readFile (bytes ("50011001" ∷ "520002" ∷ "450002" ∷ [])) .verdict ≡ Accepted
+unfolding reading
+most-states = refl
+
+one-state-more : readFile (bytes ("50011101" ∷ "520002" ∷ "450002" ∷ [])) ≡ refused 5 1
+unfolding reading
+one-state-more = refl
+
+-- 64 places and 16 states: a product of 16,384
+most-nodes : readFile (bytes ("50011001" ∷ "520040" ∷ "450002" ∷ [])) .verdict ≡ Accepted
+unfolding reading
+most-nodes = refl
+
+one-node-more : readFile (bytes ("50011001" ∷ "520041" ∷ "450002" ∷ [])) ≡ refused 5 2
+unfolding reading
+one-node-more = refl
+
+product-above : readFile (bytes ("50021001" ∷ "520021" ∷ "520102" ∷ "450003" ∷ [])) ≡ refused 23 0
+unfolding reading
+product-above = refl
+
+-- the table is judged before the sizes
+table-before-sizes : readFile (bytes ("50021001" ∷ "520021" ∷ "520102" ∷ "557FFF0000000100" ∷ "450004" ∷ [])) ≡ refused 19 0
+unfolding reading
+table-before-sizes = refl
+
+sizes-after-table : readFile (bytes ("50021001" ∷ "520021" ∷ "520102" ∷ "55FFFF0000000100" ∷ "450004" ∷ [])) ≡ refused 23 0
+unfolding reading
+sizes-after-table = refl
+
+-- ---- 6: the 257th edge, the 513th transition and the 257th row
+
+last-edge : (full 255 0 0 3 ≡ false) × (full 256 0 0 3 ≡ true)
+last-edge = (refl, refl)
+
+last-transition : (full 0 511 0 4 ≡ false) × (full 0 512 0 4 ≡ true)
+last-transition = (refl, refl)
+
+last-row : (full 0 0 255 5 ≡ false) × (full 0 0 256 5 ≡ true)
+last-row = (refl, refl)

@@ -42,8 +42,8 @@ module _ (p : Program) (w : WellFormed p) (rs : List TableRow) (fit : All (rowFi
   -- there is a state, and there is an action
   some : (0 < states) × (0 < actions)
   some =
-      let a = both (within 1 16 (p .routines) && within 1 8 states) (within 1 32 actions) (w .counts-fit) in
-      let b = both (within 1 16 (p .routines)) (within 1 8 states) (a .0) in
+      let a = both (within 1 16 (p .routines) && within 1 16 states) (within 1 32 actions) (w .counts-fit) in
+      let b = both (within 1 16 (p .routines)) (within 1 16 states) (a .0) in
       (leb-true 1 states (both _ _ (b .1) .0), leb-true 1 actions (both _ _ (a .1) .0))
 
   next-small : (x : Pair) → transitionFor rs x .after < states
@@ -70,7 +70,7 @@ module _ (p : Program) (w : WellFormed p) (rs : List TableRow) (fit : All (rowFi
   table-ascends : Ascending 0 (map transitionKey (tableTransitions rs (pairsOf p)))
   table-ascends = rw (map-map transitionKey (transitionFor rs) (pairsOf p)) (ascending-by key actions next-above 0 _ 0 (omega arith))
 
-  table-limited : length (tableTransitions rs (pairsOf p)) ≤ 256
+  table-limited : length (tableTransitions rs (pairsOf p)) ≤ 512
   table-limited = rw (transitions-length rs states actions) (few-pairs (limit .states) (limit .actions))
 
   pub table-well-formed : WellFormed (withTransitions p (tableTransitions rs (pairsOf p)))
@@ -89,4 +89,5 @@ module _ (p : Program) (w : WellFormed p) (rs : List TableRow) (fit : All (rowFi
         initial-ascend = w .initial-ascend;
         rejecting-fit = w .rejecting-fit;
         rejecting-ascend = w .rejecting-ascend;
+        sized = w .sized;
       }

@@ -29,7 +29,7 @@ written-back file h = accepted-file file h .comes-back
 -- What is written of a well-formed program has no row.
 pub no-row-written : (p : Program) → WellFormed p → rowsIn (written p) ≡ []
 unfolding written
-no-row-written p w = rows-text _ (all-bytes p w) ∙ no-row-framed p
+no-row-written p w = rows-text _ _ (all-bytes p w) ∙ no-row-framed _ p
 
 -- An accepted file is what is written of its program exactly when it has no row.
 pub same-without-rows : (file : List ℕ) → readFile file .verdict ≡ Accepted → (written (readFile file .program) ≡ file) ↔ (rowsIn file ≡ [])
@@ -44,11 +44,11 @@ pub read-again : (p : Program) → WellFormed p → readFile (written p) ≡ acc
 unfolding readFile written
 read-again p w = read-text _ start (all-bytes p w) ∙ again p w
 
--- A well-formed program's file has at most 5,328 bytes.
-pub written-limited : (p : Program) → WellFormed p → length (written p) ≤ 5328
+-- A well-formed program's file has at most 7,712 bytes.
+pub written-limited : (p : Program) → WellFormed p → length (written p) ≤ 7712
 written-limited = written-short
 
--- A refusal's number is 1 to 8, 19 or 20, and its line at most 547, whatever the file.
-pub few-lines : (file : List ℕ) → (n line : ℕ) → readFile file .verdict ≡ Refused n line → (0 < n) × (n ≤ 20) × (line ≤ 547) × ((n ≤ 8) ⊎ (19 ≤ n))
+-- A refusal's number is 1 to 8, 19, 20 or 23, and its line at most 819, whatever the file.
+pub few-lines : (file : List ℕ) → (n line : ℕ) → readFile file .verdict ≡ Refused n line → (0 < n) × (n ≤ 23) × (line ≤ 819) × ((n ≤ 8) ⊎ (19 ≤ n)) × (n ≢ 21) × (n ≢ 22)
 unfolding readFile Small
 few-lines file n line e = rw e at (small-refusals (lines file) start start-sound)

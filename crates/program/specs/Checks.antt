@@ -5,7 +5,8 @@ use mathlib.Core.Path.{_≡_}
 use mathlib.Core.Bool.{Bool, false, cond, not}
 use mathlib.Core.List.{List, [], _∷_}
 use lib.Dec.{ltb, eqb}
-use Rattle.program.specs.Sizes.{marksSize, outputSize}
+use Rattle.program.specs.Sizes.{outputSize}
+use Rattle.program.specs.Chosen.{sizesOf, numbers}
 use Rattle.program.specs.Reading.{readFile}
 use Rattle.program.specs.declared.Verdict.{Verdict}
 use Rattle.program.specs.declared.Verdict.the-variants.{Accepted, Refused}
@@ -43,25 +44,27 @@ abbrev pub under : ℕ → Length → Bool
 under size NotAsked = false
 under size (Of n) = ltb n size
 
-abbrev pub bufferRows : Length → Length → Length → List Row
-bufferRows marks output work =
-    -- the marks do not have 16,384 bytes
-    row 9 (otherThan marksSize marks)
-    -- the output has under 5,328 bytes
+-- size is how many configurations of the file's program have a number
+abbrev pub bufferRows : ℕ → Length → Length → Length → List Row
+bufferRows size marks output work =
+    -- the marks do not have a byte for each of them
+    row 9 (otherThan size marks)
+    -- the output has under 7,712 bytes
     ∷ row 10 (under outputSize output)
-    -- the working buffer does not have 16,384 bytes
-    ∷ row 11 (otherThan marksSize work)
+    -- the working buffer does not have as many
+    ∷ row 11 (otherThan size work)
     ∷ []
 
 -- ---- the file, and then the lengths
 
 -- a refused file is refused as it is; else the first row decides that the lengths meet
-abbrev pub checkedBy : Verdict → Length → Length → Length → Verdict
-checkedBy Accepted marks output work = verdictOf (firstMet (bufferRows marks output work))
-checkedBy (Refused n line) marks output work = Refused n line
+abbrev pub checkedBy : Verdict → ℕ → Length → Length → Length → Verdict
+checkedBy Accepted size marks output work = verdictOf (firstMet (bufferRows size marks output work))
+checkedBy (Refused n line) size marks output work = Refused n line
 
 unfoldable pub checked : List ℕ → Length → Length → Length → Verdict
-checked file marks output work = checkedBy (readFile file .verdict) marks output work
+checked file marks output work =
+    let o = readFile file in checkedBy (o .verdict) (numbers (sizesOf (o .program))) marks output work
 
 -- ---- what passing these checks says of the buffers
 
@@ -74,7 +77,7 @@ HasRoom size NotAsked = Unit
 HasRoom size (Of n) = size ≤ n
 
 -- each buffer that there is has its size
-pub record Sized (marks output work : Length) : Type 0 where
-  pub marks-length : HasLength marksSize marks
+pub record Sized (size : ℕ) (marks output work : Length) : Type 0 where
+  pub marks-length : HasLength size marks
   pub output-length : HasRoom outputSize output
-  pub work-length : HasLength marksSize work
+  pub work-length : HasLength size work

@@ -2,7 +2,7 @@
 use Prim.Native.Nat.{ℕ, _+_, _*_, _/_, _%_}
 use mathlib.Core.Bool.{cond}
 use mathlib.Core.List.{List, [], _∷_}
-use lib.Dec.{eqb}
+use lib.Dec.{ltb, eqb}
 use lib.ListN.{getD}
 use Rattle.text.specs.declared.Line.{Line}
 use Rattle.automaton.specs.Automaton.{Transition}
@@ -15,10 +15,15 @@ kindOrder k =
     cond (eqb k 0x50) 1 (cond (eqb k 0x52) 2 (cond (eqb k 0x53) 3 (cond (eqb k 0x54) 4 (cond (eqb k 0x55) 5
     (cond (eqb k 0x49) 6 (cond (eqb k 0x46) 7 (cond (eqb k 0x45) 8 0)))))))
 
--- how many numbers a frame of the kind at that place has, its kind among them
-abbrev pub size : ℕ → ℕ
-size k =
-    cond (eqb k 1) 4 (cond (eqb k 2) 3 (cond (eqb k 3) 5 (cond (eqb k 4) 4 (cond (eqb k 5) 7 (cond (eqb k 8) 3 2)))))
+-- how many numbers a row has, its kind among them: two of state bits where there are more than 8 states, else one
+abbrev pub rowSize : ℕ → ℕ
+rowSize states = cond (ltb 8 states) 8 7
+
+-- how many numbers a frame of the kind at that place has, its kind among them, where there are so many states
+abbrev pub size : ℕ → ℕ → ℕ
+size states k =
+    cond (eqb k 1) 4 (cond (eqb k 2) 3 (cond (eqb k 3) 5 (cond (eqb k 4) 4 (cond (eqb k 5) (rowSize states)
+    (cond (eqb k 8) 3 2)))))
 
 -- the numbers of a line, the kind at 0
 abbrev pub num : Line → ℕ → ℕ

@@ -1,5 +1,6 @@
 pub mod Sizes
 pub mod Program
+pub mod Chosen
 pub mod Frames
 pub mod Writing
 pub mod WellFormed

@@ -1,4 +1,4 @@
--- Reading a file: line after line, and the first faulty line decides; then the table of a file with rows.
+-- Reading a file: line after line, and the first faulty line decides; then the table of a file with rows, and the sizes.
 use Prim.Native.Nat.{ℕ, _+_, _*_}
 use mathlib.Core.Bool.{Bool, false, cond, _&&_, _||_, not}
 use mathlib.Core.List.{List, [], _∷_, _++_}
@@ -12,6 +12,7 @@ use Rattle.rows.specs.Rows.{maxRows, TableRow, rowFits, Pair, pairs, tableRefus
 use Rattle.program.specs.Sizes.{maxEdges}
 use Rattle.program.specs.Program.{Edge, Program, noProgram, within, nodesFit, countsFit}
 use Rattle.program.specs.Program.{edgeFits, transitionFits}
+use Rattle.program.specs.Chosen.{sizesFit}
 use Rattle.program.specs.Frames.{size, num, kind, packed, word, rest, keyOf}
 use Rattle.program.specs.declared.Verdict.{Verdict}
 use Rattle.program.specs.declared.Verdict.the-variants.{Accepted, Refused}
@@ -56,10 +57,21 @@ edgeIn l = record { routine = num l 1; source = num l 2; label = num l 3; target
 abbrev pub transitionIn : Line → Transition
 transitionIn l = record { before = num l 1; label = num l 2; after = num l 3 }
 
--- a row (paper: a frame 55): one number of state bits, four of action bits, high first, and the next state
-abbrev pub rowIn : Line → TableRow
-rowIn l =
-    record { states = num l 1; actions = packed (num l 2) (num l 3) (num l 4) (num l 5); next = num l 6 }
+-- a row (paper: a frame 55): the numbers of state bits, four of action bits, high first, and the next state
+abbrev pub narrowRow : Line → TableRow
+narrowRow l = record { states = num l 1; actions = packed (num l 2) (num l 3) (num l 4) (num l 5); next = num l 6 }
+
+abbrev pub wideRow : Line → TableRow
+wideRow l =
+    record {
+      states = num l 1 * 256 + num l 2;
+      actions = packed (num l 3) (num l 4) (num l 5) (num l 6);
+      next = num l 7;
+    }
+
+-- two numbers of state bits, high first, where there are more than 8 states, else one
+abbrev pub rowIn : ℕ → Line → TableRow
+rowIn states l = cond (ltb 8 states) (wideRow l) (narrowRow l)
 
 abbrev pub ranged : Program → ℕ → Line → Bool
 ranged p k l =
@@ -67,11 +79,11 @@ ranged p k l =
     || (eqb k 2 && ltb (num l 1) (p .routines) && nodesFit (num l 2))
     || (eqb k 3 && edgeFits p (edgeIn l))
     || (eqb k 4 && transitionFits p (transitionIn l))
-    || (eqb k 5 && rowFits (p .automaton) (rowIn l))
+    || (eqb k 5 && rowFits (p .automaton) (rowIn (p .automaton .states) l))
     || (within 6 7 k && ltb (num l 1) (p .automaton .states))
     || eqb k 8
 
--- the 257th edge, transition or row
+-- the 257th edge, the 513th transition or the 257th row
 abbrev pub full : ℕ → ℕ → ℕ → ℕ → Bool
 full edges transitions rows k =
     (eqb k 3 && leb maxEdges edges) || (eqb k 4 && leb maxTransitions transitions) || (eqb k 5 && leb maxRows rows)
@@ -84,10 +96,10 @@ miscounted frames k l = eqb k 8 && not (eqb (num l 1 * 256 + num l 2) frames)
 abbrev pub lowest : Bool → Bool → Bool → Bool → Bool → Bool → Bool → ℕ
 lowest a b c d e f g = cond a 1 (cond b 2 (cond c 3 (cond d 4 (cond e 5 (cond f 6 (cond g 7 0))))))
 
--- the refusal that a line meets after this progress, or 0
+-- the refusal that a line meets after this progress, or 0; before the header there are 0 states
 unfoldable pub judgeAs : Progress → ℕ → Line → ℕ
 judgeAs s k l =
-    lowest (eqb (l .count) 0) (eqb k 0) (not (eqb (l .count) (size k)))
+    lowest (eqb (l .count) 0) (eqb k 0) (not (eqb (l .count) (size (s .program .automaton .states) k)))
     (not (ordered (s .last) (s .frames) (s .program .routines) (length (s .program .nodes))
     (length (s .program .automaton .transitions)) k l))
     (not (ranged (s .program) k l))
@@ -128,7 +140,7 @@ afterAs s k l =
       last = keyOf k (word l) (rest l);
       frames = s .frames + 1;
       ended = eqb k 8;
-      rows = more (eqb k 5) (rowIn l) (s .rows);
+      rows = more (eqb k 5) (rowIn (s .program .automaton .states) l) (s .rows);
       program = programAfter (s .program) k l;
     }
 
@@ -170,13 +182,17 @@ withTransitions p ts =
           };
     }
 
+-- sizes whose product is above 16,384 refuse the file (23), with line 0
+abbrev pub sizesDecide : Program → Outcome
+sizesDecide p = cond (sizesFit p) (accepted p) (refused 23 0)
+
 -- a table that is refused (19, 20) refuses the file, with line 0; else its transitions are the program's
 abbrev pub tableDecides : Bool → ℕ → List TableRow → Program → Outcome
-tableDecides good n rs p = cond good (accepted (withTransitions p (tableTransitions rs (pairsOf p)))) (refused n 0)
+tableDecides good n rs p = cond good (sizesDecide (withTransitions p (tableTransitions rs (pairsOf p)))) (refused n 0)
 
--- every line is good: only a file with rows has a table
+-- every line is good: only a file with rows has a table, and the sizes are asked last
 abbrev pub finished : List TableRow → Program → Outcome
-finished [] p = accepted p
+finished [] p = sizesDecide p
 finished (r ∷ rs) p =
     tableDecides (eqb (tableRefusal (r ∷ rs) (pairsOf p)) 0) (tableRefusal (r ∷ rs) (pairsOf p)) (r ∷ rs) p
 
@@ -193,17 +209,17 @@ readFrom s (l ∷ ls) = decided s (judge s (lineFrom (numbers l))) (readFrom (af
 unfoldable pub readFile : List ℕ → Outcome
 readFile file = readFrom start (lines file)
 
--- ---- the rows of a file: those of its lines of kind 55
+-- ---- the rows of a file: those of its lines of kind 55, by the states of its program
 
-abbrev pub rowFirst : Line → List TableRow → List TableRow
-rowFirst l rs = cond (eqb (kind l) 5) (rowIn l ∷ rs) rs
+abbrev pub rowFirst : ℕ → Line → List TableRow → List TableRow
+rowFirst states l rs = cond (eqb (kind l) 5) (rowIn states l ∷ rs) rs
 
-unfoldable pub rowsFrom : List (List ℕ) → List TableRow
-rowsFrom [] = []
-rowsFrom (l ∷ ls) = rowFirst (lineFrom (numbers l)) (rowsFrom ls)
+unfoldable pub rowsFrom : ℕ → List (List ℕ) → List TableRow
+rowsFrom states [] = []
+rowsFrom states (l ∷ ls) = rowFirst states (lineFrom (numbers l)) (rowsFrom states ls)
 
 abbrev pub rowsIn : List ℕ → List TableRow
-rowsIn file = rowsFrom (lines file)
+rowsIn file = rowsFrom (readFile file .program .automaton .states) (lines file)
 
 -- ---- the numbers of a verdict
 

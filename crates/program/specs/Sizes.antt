@@ -7,7 +7,7 @@ maxRoutines = 16
 
 -- nodes of one routine (paper: places)
 abbrev pub maxNodes : ℕ
-maxNodes = 16
+maxNodes = 64
 
 abbrev pub maxEdges : ℕ
 maxEdges = 256
@@ -16,10 +16,10 @@ maxEdges = 256
 abbrev pub maxFrames : ℕ
 maxFrames = 1 + maxRoutines + maxEdges + maxTransitions + maxStates + maxStates
 
--- a byte for each configuration (paper: the sheet): 16 routines, 16 nodes, 8 roots and 8 states
-abbrev pub marksSize : ℕ
-marksSize = 16384
+-- the most configurations that may have a number: a byte for each (paper: the sheet)
+abbrev pub marksMost : ℕ
+marksMost = 16384
 
 -- the least length of an output: no program is written as more bytes
 abbrev pub outputSize : ℕ
-outputSize = 5328
+outputSize = 7712

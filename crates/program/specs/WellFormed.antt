@@ -9,6 +9,7 @@ use Rattle.tables.specs.Keys.{Ascending}
 use Rattle.automaton.specs.Sizes.{maxTransitions}
 use Rattle.program.specs.Sizes.{maxEdges}
 use Rattle.program.specs.Program.{Program, nodesFit, countsFit, edgeFits, transitionFits}
+use Rattle.program.specs.Chosen.{sizesFit}
 use Rattle.program.specs.Frames.{edgeKey, transitionKey, initialKey, rejectingKey}
 
 -- every element passes a test
@@ -30,3 +31,4 @@ pub record WellFormed (p : Program) : Type 0 where
   pub initial-ascend : Ascending 0 (map initialKey (p .automaton .initial))
   pub rejecting-fit : All (λ q. ltb q (p .automaton .states)) (p .automaton .rejecting)
   pub rejecting-ascend : Ascending 0 (map rejectingKey (p .automaton .rejecting))
+  pub sized : sizesFit p ≡ true

@@ -1,4 +1,5 @@
 // The program of a file, decoded: counts, nodes, edges and the automaton, by value.
+pub mod chosen;
 pub mod edges;
 pub mod frames;
 pub mod sizes;

@@ -8,9 +8,9 @@ use borrow.Author.Tests.{ne-eqb}
 use Rattle.automaton.specs.Automaton.{Transition}
 use Rattle.rows.specs.Rows.{TableRow, tableRefusal, tableTransitions}
 use Rattle.program.specs.Program.{Program}
-use Rattle.program.specs.Reading.{accepted, refused, pairsOf, withTransitions, finished}
+use Rattle.program.specs.Reading.{sizesDecide, refused, pairsOf, withTransitions, finished}
 
-pub without-rows : (rs : List TableRow) (p : Program) → length rs ≡ 0 → accepted p ≡ finished rs p
+pub without-rows : (rs : List TableRow) (p : Program) → length rs ≡ 0 → sizesDecide p ≡ finished rs p
 without-rows [] p h = refl
 without-rows (r ∷ rs) p h = absurd (omega arith)
 
@@ -19,6 +19,6 @@ table-refused [] p h e k = absurd (h refl)
 table-refused (r ∷ rs) p {n} h e k = rw (← e, ne-eqb n 0 (λ z. omega arith))
 
 pub table-accepted : (rs : List TableRow) (p : Program) {ts : List Transition} → (length rs ≡ 0 → ⊥) → tableRefusal rs (pairsOf p) ≡ 0
-    → ts ≡ tableTransitions rs (pairsOf p) → accepted (withTransitions p ts) ≡ finished rs p
+    → ts ≡ tableTransitions rs (pairsOf p) → sizesDecide (withTransitions p ts) ≡ finished rs p
 table-accepted [] p h e k = absurd (h refl)
 table-accepted (r ∷ rs) p h e k = rw (e, k)

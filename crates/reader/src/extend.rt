@@ -136,7 +136,7 @@ fn program_after(p: DecodedProgram, k: u8, l: Line) -> DecodedProgram
 pub fn after_frame(s: Reader, l: Line) -> Reader
     requires { ⌜ Room (programOf (s .program)) (kind l) × (s .frames < 2 ^ 63) ⌝ }
     ensures { λ r. ⌜ ((rows : List TableRow)
-        → progressOf r (more (eqb (kind l) 5) (rowIn l) rows) ≡ after (progressOf s rows) l) ⌝ }
+        → progressOf r (more (eqb (kind l) 5) (rowIn (s .program .automaton .states) l) rows) ≡ after (progressOf s rows) l) ⌝ }
 {
     let k = kind_of(l);
     let p = s.program;

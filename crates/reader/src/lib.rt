@@ -15,9 +15,12 @@ use frames::row_in;
 use program::DecodedProgram;
 use program::Nodes;
 use program::Verdict;
+use program::chosen::sizes_of;
 use program::edges::no_edges;
+use program::sizes::MARKS_MOST;
 use program::sizes::MAX_EDGES;
 use program::sizes::MAX_ROUTINES;
+use program::sizes::length_of;
 use rows::Rows;
 use rows::add_row;
 use rows::no_rows;
@@ -38,7 +41,7 @@ ghost use Rattle.rows.specs.Decoded.{rowsOf};
 ghost use Rattle.program.specs.Frames.{kind};
 ghost use Rattle.program.specs.RoomParts.{RoomForRow};
 ghost use Rattle.program.specs.Reading.{start, rowIn, more, judge, accepted, refused, withTransitions};
-ghost use Rattle.program.specs.Reading.{finished, readFile};
+ghost use Rattle.program.specs.Reading.{sizesDecide, finished, readFile};
 ghost use Rattle.program.specs.Decoded.{programOf};
 ghost use Rattle.reader.specs.Parts.{progressOf};
 ghost use Rattle.reader.specs.Outcome.{outcomeOf};
@@ -135,12 +138,12 @@ fn fault_of(s: Reader, rows: usize, l: Line) -> u8
 
 // The rows after a line without a fault, which finds room: hence the `requires`. They stand beside what else is known,
 // so that a line that is no row does not move them.
-fn rows_after(t: Rows, l: Line) -> Rows
+fn rows_after(states: u8, t: Rows, l: Line) -> Rows
     requires { ⌜ RoomForRow (rowsOf t) (kind l) ⌝ }
-    ensures { λ r. ⌜ rowsOf r ≡ more (eqb (kind l) 5) (rowIn l) (rowsOf t) ⌝ }
+    ensures { λ r. ⌜ rowsOf r ≡ more (eqb (kind l) 5) (rowIn states l) (rowsOf t) ⌝ }
 {
     if kind_of(l) == 5 {
-        return add_row(t, row_in(l));
+        return add_row(t, row_in(states, l));
     }
     t
 }
@@ -169,14 +172,24 @@ fn with_transitions(p: DecodedProgram, transitions: Transitions) -> DecodedProgr
     }
 }
 
-// The end of a file whose lines are all good: rows are judged as a table, and become transitions. The header was judged
-// long before: hence the `requires`.
+// The program, unless the product of its sizes is too large.
+fn accept_sized(p: DecodedProgram) -> Reading
+    ensures { λ r. ⌜ outcomeOf r ≡ sizesDecide (programOf p) ⌝ }
+{
+    if length_of(sizes_of(p)) <= MARKS_MOST {
+        return accept(p);
+    }
+    refuse(23, 0)
+}
+
+// The end of a file whose lines are all good: rows are judged as a table, and become transitions; the sizes are judged
+// last. The header was judged long before: hence the `requires`.
 fn finish(p: DecodedProgram, rows: Rows) -> Reading
     requires { ⌜ (p .automaton .states ≤ maxStates) × (p .automaton .actions ≤ maxActions) ⌝ }
     ensures { λ r. ⌜ outcomeOf r ≡ finished (rowsOf rows) (programOf p) ⌝ }
 {
     if row_count(rows) == 0 {
-        return accept(p);
+        return accept_sized(p);
     }
     let a = p.automaton;
     let table = table_of(rows, a.states, a.actions);
@@ -184,7 +197,7 @@ fn finish(p: DecodedProgram, rows: Rows) -> Reading
         return refuse(table.refusal, 0);
     }
     let transitions = table.transitions;
-    accept(with_transitions(p, transitions))
+    accept_sized(with_transitions(p, transitions))
 }
 
 // Reads a file: the verdict, and the program where it is accepted.
@@ -204,8 +217,8 @@ pub fn read(file: &[u8]) -> Reading
         if 0 < n {
             return refuse(n, s.frames + 1);
         }
+        rows = rows_after(s.program.automaton.states, rows, l);
         s = after_frame(s, l);
-        rows = rows_after(rows, l);
         at = next.next;
     }
     if s.ended {

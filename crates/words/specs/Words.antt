@@ -1,9 +1,11 @@
 -- Flags kept as bits: flag i is bit i % 64 of word i / 64.
-use Prim.Native.Nat.{ℕ, zero, suc, _/_, _%_, _^_, _≤_, _<_}
+use Prim.Native.Nat.{ℕ, zero, suc, _+_, _/_, _%_, _^_, _≤_, _<_}
 use mathlib.Core.Path.{_≡_}
 use mathlib.Core.List.{List, [], _∷_, _++_}
 use lib.Bits.{bitOr, bitXor}
 use lib.ListN.{length, getD}
+use Rattle.base.specs.Bits.{bit}
+use Rattle.base.specs.Flags.{isSet}
 
 abbrev pub wordBits : ℕ
 wordBits = 64
@@ -21,6 +23,10 @@ flagsIn (suc k) w = w % 2 ∷ flagsIn k (w / 2)
 unfoldable pub flagsOf : List ℕ → List ℕ
 flagsOf [] = []
 flagsOf (w ∷ ws) = flagsIn wordBits w ++ flagsOf ws
+
+-- the bits are the flags from a place on; past the end none is set
+pub record BitsFrom (flags : List ℕ) (at bits : ℕ) : Type 0 where
+  pub bit-from : (j : ℕ) → j < wordBits → bit j bits ≡ isSet flags (at + j)
 
 -- no flag below this one is set
 pub record NoneBelow (flags : List ℕ) (low : ℕ) : Type 0 where

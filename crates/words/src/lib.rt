@@ -2,9 +2,37 @@
 ghost use mathlib.Core.Path.{_≡_};
 ghost use Prim.Native.Nat.{_≤_};
 ghost use lib.ListN.{length, set};
-ghost use Rattle.words.specs.Words.{maxWords, flagsOf, NoneBelow, FirstFlag};
+ghost use Rattle.base.specs.Flags.{isSet};
+ghost use Rattle.words.specs.Words.{maxWords, flagsOf, BitsFrom, NoneBelow, FirstFlag};
 
 pub const WORD_BITS: usize = 64;
+
+// Whether a flag is set: past the end none is.
+pub fn has_flag(words: &[u64], at: usize) -> bool
+    ensures { λ r. ⌜ r ≡ isSet (flagsOf (now (words .entry))) at ⌝ }
+{
+    let i = at / WORD_BITS;
+    if i < words.len() {
+        return (words[i] >> (at % WORD_BITS)) % 2 == 1;
+    }
+    false
+}
+
+// The flags from a place on, as many as a word has: they are in two words. A shift by all 64 bits is none, so that the
+// second is shifted twice.
+pub fn bits_from(words: &[u64], at: usize) -> u64
+    ensures { λ r. ⌜ BitsFrom (flagsOf (now (words .entry))) at r ⌝ }
+{
+    let i = at / WORD_BITS;
+    let s = at % WORD_BITS;
+    if i + 1 < words.len() {
+        return (words[i] >> s) | ((words[i + 1] << 1) << (63 - s));
+    }
+    if i < words.len() {
+        return words[i] >> s;
+    }
+    0
+}
 
 // A place past the end is no flag's, and sets none.
 pub fn set_at(words: &mut [u64], at: usize)

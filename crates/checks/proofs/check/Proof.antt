@@ -8,7 +8,7 @@ use Rattle.checks.proofs.check.Tie as tie
 
 -- the number is that of the first row met
 first : (c : tie.After-refusal-of) → let z = c .before .before .before .before in
-    c .refusal-of .result ≡ firstMet (bufferRows (z .args .marks) (z .args .output) (z .args .work))
+    c .refusal-of .result ≡ firstMet (bufferRows (z .args .size) (z .args .marks) (z .args .output) (z .args .work))
 first c =
     let a = c .before .before .before .other-than .ensures in
     let b = c .before .before .under .ensures in

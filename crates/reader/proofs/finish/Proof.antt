@@ -1,4 +1,4 @@
--- `reader::finish` meets its contract: without a row the program is accepted, and with rows the table decides.
+-- `reader::finish` meets its contract: without a row the sizes decide, and with rows the table before them.
 use mathlib.Core.Path.{_≡_, sym, ap, _∙_}
 use mathlib.Core.List.{List}
 use native.Mathlib.Omega.{arith}
@@ -7,7 +7,7 @@ use Rattle.rows.specs.Rows.{TableRow}
 use Rattle.rows.specs.Decoded.{rowsOf}
 use Rattle.program.specs.Program.{Program}
 use Rattle.program.specs.Decoded.{programOf}
-use Rattle.program.specs.Reading.{accepted}
+use Rattle.program.specs.Reading.{sizesDecide}
 use Rattle.reader.proofs.FileFinished.{without-rows, table-refused, table-accepted}
 use Rattle.reader.proofs.finish.Statement.{statement}
 use Rattle.reader.proofs.finish.Tie as tie
@@ -21,7 +21,7 @@ program c = programOf (c .before .args .p)
 returns : tie.Need-returns
 returns c =
     let u = c .before .before in
-    c .accept .ensures ∙ without-rows (rows u) (program u) (sym (u .row-count .ensures) ∙ c .before .if1 .taken)
+    c .accept-sized .ensures ∙ without-rows (rows u) (program u) (sym (u .row-count .ensures) ∙ c .before .if1 .taken)
 
 returns-2 : tie.Need-returns-2
 returns-2 c =
@@ -38,8 +38,8 @@ returns-3 c =
     let u = t .before .before .before in
     let k = t .table-of .ensures in
     let z : t .table-of .result .refusal ≡ 0 = omega arith in
-    c .accept2 .ensures
-    ∙ ap accepted (w .with-transitions .ensures)
+    c .accept-sized2 .ensures
+    ∙ ap sizesDecide (w .with-transitions .ensures)
     ∙ table-accepted (rows u) (program u) (λ y. t .before .before .if1 .left (u .row-count .ensures ∙ y)) (sym (k .refusal) ∙ z) (k .transitions z)
 
 pub finish-spec : {M : Type 1} → statement M

@@ -75,17 +75,17 @@ returns-2 c =
 
 after-frame-requires : tie.Need-after-frame-requires Inv-loop μ-loop
 after-frame-requires c κs =
-    let f = c .before in
+    let f = c .before .before in
     let p = turn f in (
-      rw (f .before .before .before .read-line .ensures) (has-room (fileOf p) (p .loop .s) (rowsAt p) (p .loop .at) (p .loop .inv) (not-ended f) (no-fault c)),
+      rw (f .before .before .before .read-line .ensures) (has-room (fileOf p) (p .loop .s) (rowsAt p) (p .loop .at) (p .loop .inv) (not-ended f) (no-fault (c .before))),
       omega (arith, some-frames p),
     )
 
 rows-after-requires : tie.Need-rows-after-requires Inv-loop μ-loop
 rows-after-requires c κs =
-    let f = c .before .before in
+    let f = c .before in
     let p = turn f in
-    rw (f .before .before .before .read-line .ensures) (has-room-for-row (fileOf p) (p .loop .s) (rowsAt p) (p .loop .at) (p .loop .inv) (not-ended f) (no-fault (c .before)))
+    rw (f .before .before .before .read-line .ensures) (has-room-for-row (fileOf p) (p .loop .s) (rowsAt p) (p .loop .at) (p .loop .inv) (not-ended f) (no-fault c))
 
 loop-less : tie.Need-loop-less Inv-loop μ-loop
 loop-less c =
@@ -99,9 +99,9 @@ loop-again c =
     let f = c .before .before .before in
     let p = turn f in
     let l = f .before .before .before .read-line .ensures in
-    let known = c .before .after-frame in
+    let known = c .after-frame in
     rw l (continues (fileOf p) (p .loop .s) (rowsAt p) (p .loop .at) (p .loop .inv) (not-ended f) (no-fault (c .before .before)) (in-file f) _ _
-    (ap (progressOf (known .result)) (c .rows-after .ensures) ∙ known .ensures (rowsAt p) ∙ ap (λ (x : ReadLine). after (progressOf (p .loop .s) (rowsAt p)) (x .line)) l))
+    (ap (progressOf (known .result)) (c .before .rows-after .ensures) ∙ known .ensures (rowsAt p) ∙ ap (λ (x : ReadLine). after (progressOf (p .loop .s) (rowsAt p)) (x .line)) l))
 
 finish-requires : tie.Need-finish-requires Inv-loop μ-loop
 finish-requires c κs = let p = c .before .before .before in small (fileOf p) (p .loop .s) (rowsAt p) (p .loop .at) (p .loop .inv) (c .before .if3 .taken)
@@ -124,4 +124,4 @@ read-spec =
     tie.close
     (tie.spec Inv-loop μ-loop (λ c κs. search needs) (λ c κs. search needs) loop-holds add-refuse (λ c κs. search needs)
     returns (λ c κs. search needs) (λ c κs. search needs) (λ c κs. search needs) add-refuse-2 (λ c κs. search needs)
-    returns-2 after-frame-requires rows-after-requires loop-less loop-again finish-requires returns-3 add-refuse-3 (λ c κs. search needs) returns-4)
+    returns-2 rows-after-requires after-frame-requires loop-less loop-again finish-requires returns-3 add-refuse-3 (λ c κs. search needs) returns-4)

@@ -25,7 +25,7 @@ returns c =
     let t = c .before .before in
     let z = t .before .before .args in
     rw (eq-eqb (kind (z .l)) 5 (is-row t))
-    (map-more rowOf true _ (rowIn (z .l)) (rowKeysOf (z .t)) _ (c .add-row .ensures) (c .before .row-in .ensures))
+    (map-more rowOf true _ (rowIn (z .states) (z .l)) (rowKeysOf (z .t)) _ (c .add-row .ensures) (c .before .row-in .ensures))
 
 returns-2 : tie.Need-returns-2
 returns-2 c = rw (ne-eqb (kind (c .before .before .args .l)) 5 (λ e. c .if1 .left (c .before .kind-of .ensures ∙ e)))

@@ -2,11 +2,10 @@
 -- others decide.
 use mathlib.Core.Path.{_≡_, refl, sym, ap, _∙_}
 use mathlib.Core.List.{map}
-use Prim.Native.Nat.{_-_, _<_}
+use Prim.Native.Nat.{_-_, _/_, _%_, _<_}
 use native.Mathlib.Omega.{arith}
-use native.Mathlib.Nat.{div-le-self, mod-le}
+use native.Mathlib.Nat.{div-lt-iff-lt-mul, mod-lt}
 use lib.ListN.{length, take}
-use mir.Facts.{fits-le}
 use borrow.Author.Needs.{needs}
 use Rattle.rows.specs.Rows.{pairAt, timesMet, pairRefusal}
 use Rattle.rows.specs.Decoded.{rowOf, rowsOf}
@@ -36,10 +35,16 @@ room : (c : tie.In-loop Inv-loop μ-loop) → c .before .loop .i < length (c .be
 room c = let z = c .before .before .before in omega (arith, c .before .loop .inv .size, few-pairs (z .pre .0) (z .pre .1))
 
 cast-q : tie.Need-cast-q Inv-loop μ-loop
-cast-q c = fits-le (div-le-self _ _) (omega (arith, room c, c .before .loop .inv .size))
+cast-q c =
+    let a = c .before .before .before .args in
+    let h : c .before .loop .i / a .actions < a .states = div-lt-iff-lt-mul {k = a .actions} (some c) .1 (omega arith) in
+    omega (arith, h)
 
 cast-a : tie.Need-cast-a Inv-loop μ-loop
-cast-a c = fits-le (mod-le _ _) (omega (arith, room c, c .before .loop .inv .size))
+cast-a c =
+    let a = c .before .before .before .args in
+    let h : c .before .loop .i % a .actions < a .actions = mod-lt _ (some c) in
+    omega (arith, h)
 
 -- what the pair meets
 judged : (c : tie.After-pair-refusal Inv-loop μ-loop)
