@@ -7,7 +7,7 @@ use native.Mathlib.Omega.{arith}
 use lib.Dec.{eqb}
 use lib.ListN.{length}
 use borrow.Author.Tests.{eqb-true, eq-eqb}
-use Rattle.program.specs.Sizes.{marksSize}
+use Rattle.program.specs.Chosen.{sizesOf, numbers}
 use Rattle.program.specs.Program.{Program}
 use Rattle.program.specs.WellFormed.{WellFormed}
 use Rattle.program.specs.Checks.{row, firstMet, verdictOf}
@@ -25,19 +25,28 @@ use Rattle.worklist.specs.Parts.{within}
 
 -- what those ask who are called where nothing is refused
 pub ready : {file : List ℕ} {m w : ℕ} {r : Reading} → Checked file (Of m) NotAsked (Of w) r → r .verdict ≡ Accepted
-    → WellFormed (programOf (r .program)) × ((m ≡ marksSize) × (w ≡ marksSize))
+    → WellFormed (programOf (r .program)) × ((m ≡ numbers (sizesOf (programOf (r .program)))) × (w ≡ numbers (sizesOf (programOf (r .program)))))
 ready k h = (k .well-formed h, (k .sized h .marks-length, k .sized h .work-length))
 
 module _ (file marks work : List ℕ) {r : Reading} (k : Checked file (Of (length marks)) NotAsked (Of (length work)) r) {v : Verdict} (h : r .verdict ≡ v) where
   pub analyze-answered : (limit : ℕ) → let w = followedBy v (limited (programOf (r .program)) limit) in
       (analyzeBy w (programOf (r .program)) ≡ analyzeAnswer file marks work limit)
-      × (onSuccess w (freshMarks (programOf (r .program))) marks ≡ marksAfter file marks work limit) × (onSuccess v none-set work ≡ workAfter file marks work)
+      × (onSuccess w (freshMarks (programOf (r .program))) marks ≡ marksAfter file marks work limit) × (onSuccess v (none-set (sizesOf (programOf (r .program)))) work ≡ workAfter file marks work)
   unfolding analyzeAnswer marksAfter workAfter
-  analyze-answered limit = rw (← k .verdict, h, k .program) (refl, refl, refl)
+  analyze-answered limit =
+      let e = k .program in
+      let w = sym h ∙ k .verdict in (
+        λ i. analyzeBy (followedBy (w i) (limited (e i) limit)) (e i),
+        λ i. onSuccess (followedBy (w i) (limited (e i) limit)) (freshMarks (e i)) marks,
+        λ i. onSuccess (w i) (none-set (sizesOf (e i))) work,
+      )
 
-  pub next-answered : (low : ℕ) → (nextBy v (programOf (r .program)) marks low ≡ nextAnswer file marks work low) × (onSuccess v none-set work ≡ workAfter file marks work)
+  pub next-answered : (low : ℕ) → (nextBy v (programOf (r .program)) marks low ≡ nextAnswer file marks work low) × (onSuccess v (none-set (sizesOf (programOf (r .program)))) work ≡ workAfter file marks work)
   unfolding nextAnswer workAfter
-  next-answered low = rw (← k .verdict, h, k .program) (refl, refl)
+  next-answered low =
+      let e = k .program in
+      let w = sym h ∙ k .verdict in
+      (λ i. nextBy (w i) (e i) marks low, λ i. onSuccess (w i) (none-set (sizesOf (e i))) work)
 
 -- ---- the same bytes
 
@@ -93,6 +102,6 @@ module _ (p : Program) (marks : List ℕ) where
   refused-foreign {n} {line} =
       by-marks (λ v. v ≡ Refused n line → n ≡ 17) (λ t e. absurd (let z : _≡_ {A = ℕ} 0 1 = cc in omega arith)) (λ t e. cc)
 
-  pub own-found : (low i : ℕ) → owned p marks ≡ Accepted → firstFrom low (violationsFrom p marks 0) ≡ within 16384 i
-      → foundOf (within 16384 i) ≡ nextBy Accepted p marks low
+  pub own-found : (low i : ℕ) → owned p marks ≡ Accepted → firstFrom low (violationsFrom (sizesOf p) p marks 0) ≡ within (numbers (sizesOf p)) i
+      → foundOf (within (numbers (sizesOf p)) i) ≡ nextBy Accepted p marks low
   own-found low i e f = rw e (ap foundOf (sym (rw (accepted-own e) at f)))

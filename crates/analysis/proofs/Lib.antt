@@ -1,3 +1,4 @@
 pub mod ViolationsCounted
 pub mod AnswersByChecks
 pub mod LimitDecides
+pub mod Samples

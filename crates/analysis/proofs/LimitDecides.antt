@@ -1,12 +1,12 @@
 -- The limit is enough and what was analyzed is the program's own, or the analysis is given up.
 use Prim.Native.Nat.{ℕ, _≤_, _<_}
-use mathlib.Core.Path.{_≡_, refl, sym, ap, _∙_}
+use mathlib.Core.Path.{_≡_, refl, sym, ap, subst, _∙_}
 use mathlib.Core.Bool.{Bool, true, false}
 use mathlib.Core.List.{List, [], _∷_}
 use lib.Dec.{ltb}
 use lib.ListN.{length}
 use borrow.Author.Tests.{lt-ltb, le-ltb, ltb-true, ltb-false, leb-true, leb-false}
-use Rattle.program.specs.Sizes.{marksSize}
+use Rattle.program.specs.Chosen.{sizesOf, numbers}
 use Rattle.program.specs.Program.{Program}
 use Rattle.program.specs.WellFormed.{WellFormed}
 use Rattle.program.specs.Checks.{row, firstMet, verdictOf}
@@ -15,6 +15,9 @@ use Rattle.program.specs.declared.Verdict.the-variants.{Accepted, Refused}
 use Rattle.reach.specs.Sizes.{enoughIterations}
 use Rattle.reach.specs.Worklist.{Worklist, analysis}
 use Rattle.reach.specs.Marks.{freshMarks}
+use Rattle.reach.proofs.ProgramInSizes.{usable, ranged, sized}
+use Rattle.reach.specs.Ranged.{Sized}
+use Rattle.program.specs.declared.sizes.Sizes.{Sizes}
 use Rattle.reach.proofs.ShapeKept.{marks-length}
 use Rattle.reach.proofs.TakingsBounded.{iterations-bound}
 use Rattle.worklist.specs.Parts.{Analyzed}
@@ -40,15 +43,15 @@ module _ (p : Program) (limit : ℕ) where
       go false a r = a refl
 
 -- so many iterations are enough for every program, and refuse nothing
-pub unlimited : (v : Verdict) (p : Program) → followedBy v (limited p enoughIterations) ≡ v
-unlimited v p = rw (enough-accepted p enoughIterations (iterations-bound p)) (go v)
+pub unlimited : (v : Verdict) (p : Program) → WellFormed p → followedBy v (limited p (enoughIterations (sizesOf p))) ≡ v
+unlimited v p wf = rw (enough-accepted p (enoughIterations (sizesOf p)) (iterations-bound (sizesOf p) (usable p wf) p)) (go v)
   where
     go : (v : Verdict) → followedBy v Accepted ≡ v
     go Accepted = refl
     go (Refused n line) = refl
 
 -- what is left of an analysis, where it has ended and where it has not
-module _ (p : Program) (wf : WellFormed p) (limit : ℕ) {m : List ℕ} {n : ℕ} {t : Bool} (a : Analyzed p limit m n t) where
+module _ (p : Program) (wf : WellFormed p) (limit : ℕ) {m : List ℕ} {n : ℕ} {t : Bool} (a : Analyzed (sizesOf p) p limit m n t) where
   pub gives-up : t ≡ false → limited p limit ≡ Refused 22 0
   gives-up e = above-refused p limit (leb-false _ _ (sym (a .ended) ∙ e))
 
@@ -60,15 +63,21 @@ module _ (p : Program) (wf : WellFormed p) (limit : ℕ) {m : List ℕ} {n : ℕ
     ended-accepted = enough-accepted p limit enough
 
     pub ended-marks : m ≡ freshMarks p
-    ended-marks = a .marks ∙ ap (λ (s : Worklist). s .marks) (limit-enough p wf limit enough)
+    ended-marks = a .marks ∙ ap (λ (s : Worklist). s .marks) (limit-enough (sizesOf p) (usable p wf) p (ranged p wf) limit enough)
 
     pub ended-count : n ≡ analysis p .iterations
-    ended-count = a .iterations ∙ ap (λ (s : Worklist). s .iterations) (limit-enough p wf limit enough)
+    ended-count = a .iterations ∙ ap (λ (s : Worklist). s .iterations) (limit-enough (sizesOf p) (usable p wf) p (ranged p wf) limit enough)
 
-    pub ended-length : length m ≡ marksSize
-    ended-length = ap length ended-marks ∙ marks-length p
+    pub ended-length : length m ≡ numbers (sizesOf p)
+    ended-length = ap length ended-marks ∙ marks-length (sizesOf p) (usable p wf) p
+
+-- sizes that are the program's own
+pub own-sized : {Z : Sizes} (p : Program) → Z ≡ sizesOf p → WellFormed p → Sized Z p
+own-sized p e wf = subst (λ (y : Sizes). Sized y p) (sym e) (sized p wf)
 
 -- without a limit the marks are the program's own
-pub own-marks : (p : Program) → WellFormed p → {m : List ℕ} {n : ℕ} {t : Bool} → Analyzed p enoughIterations m n t → m ≡ freshMarks p
-own-marks p wf a =
-    a .marks ∙ ap (λ (s : Worklist). s .marks) (limit-enough p wf enoughIterations (iterations-bound p))
+pub own-marks : {Z : Sizes} {limit : ℕ} (p : Program) → WellFormed p → Z ≡ sizesOf p → limit ≡ enoughIterations Z → {m : List ℕ} {n : ℕ} {t : Bool} → Analyzed Z p limit m n t → m ≡ freshMarks p
+own-marks {Z} {limit} p wf e l {m} {n} {t} a =
+    let b : Analyzed Z p (enoughIterations Z) m n t = subst (λ (k : ℕ). Analyzed Z p k m n t) l a in
+    let c : Analyzed (sizesOf p) p (enoughIterations (sizesOf p)) m n t = subst (λ (y : Sizes). Analyzed y p (enoughIterations y) m n t) e b in
+    c .marks ∙ ap (λ (s : Worklist). s .marks) (limit-enough (sizesOf p) (usable p wf) p (ranged p wf) (enoughIterations (sizesOf p)) (iterations-bound (sizesOf p) (usable p wf) p))

@@ -7,6 +7,7 @@ use mathlib.Core.List.{List, [], _∷_}
 use lib.Dec.{eqb, ltb}
 use lib.ListN.{length}
 use Rattle.program.specs.Program.{Program}
+use Rattle.program.specs.Chosen.{sizesOf}
 use Rattle.program.specs.Reading.{readFile}
 use Rattle.program.specs.Checks.{Row, row, firstMet, verdictOf, checked}
 use Rattle.program.specs.declared.Verdict.{Verdict}
@@ -77,7 +78,8 @@ marksAfter file marks work limit =
 
 -- the working buffer is all zero once the file and the lengths are checked, also after 17 and 22
 unfoldable pub workAfter : List ℕ → List ℕ → List ℕ → List ℕ
-workAfter file marks work = onSuccess (checkedMarks file marks work) none-set work
+workAfter file marks work =
+    onSuccess (checkedMarks file marks work) (none-set (sizesOf (readFile file .program))) work
 
 -- ---- `next_violation`
 

@@ -12,12 +12,13 @@ use own::is_own;
 use program::DecodedProgram;
 use program::Length;
 use program::Verdict;
-use program::sizes::MARKS_SIZE;
+use program::chosen::sizes_of;
+use program::sizes::Sizes;
 use worklist::run::Stop;
 use worklist::run::analyze_program;
 ghost use mathlib.Core.Path.{_≡_};
 ghost use lib.ListN.{length};
-ghost use Rattle.program.specs.Sizes.{marksSize};
+ghost use Rattle.program.specs.Chosen.{sizesOf, numbers};
 ghost use Rattle.program.specs.WellFormed.{WellFormed};
 ghost use Rattle.program.specs.Decoded.{programOf};
 ghost use Rattle.program.specs.declared.Verdict.the-variants.{Accepted};
@@ -43,14 +44,16 @@ pub enum NextAnswer {
 // The marks that were worked out are handed over and counted; an analysis that has not ended is given up (22), and the
 // lent marks stay. It is asked of what `analyze_program` leaves: hence the `requires`.
 fn hand_over(
+    z: Sizes,
     p: DecodedProgram,
     worked: &[u8],
     marks: &mut [u8],
     limit: usize,
     stop: Stop,
 ) -> AnalyzeAnswer
-    requires { ⌜ WellFormed (programOf p) × Analyzed (programOf p) limit (now worked) (stop .iterations) (stop .ended)
-        × (length (now marks) ≡ marksSize) ⌝ }
+    requires { ⌜ (z ≡ sizesOf (programOf p)) × WellFormed (programOf p)
+        × Analyzed z (programOf p) limit (now worked) (stop .iterations) (stop .ended)
+        × (length (now marks) ≡ numbers (sizesOf (programOf p))) ⌝ }
     ensures { λ r. ⌜ (r ≡ analyzeBy (limited (programOf p) limit) (programOf p))
         × (now (marks .exit) ≡ onSuccess (limited (programOf p) limit) (freshMarks (programOf p))
         (now (marks .entry))) ⌝ }
@@ -61,7 +64,7 @@ fn hand_over(
         let rejecting = rejecting_flags(rule);
         let flags = rejecting.flags;
         let configurations = count_set(marks);
-        let violations = count_violations(marks, &flags);
+        let violations = count_violations(z, marks, &flags);
         return AnalyzeAnswer::Counts(configurations, violations, stop.iterations);
     }
     AnalyzeAnswer::Refused(22, 0)
@@ -75,13 +78,15 @@ fn analyze_counts(
     limit: usize,
 ) -> AnalyzeAnswer
     requires { ⌜ WellFormed (programOf p) ⌝ }
-    requires { ⌜ (length (now marks) ≡ marksSize) × (length (now work) ≡ marksSize) ⌝ }
+    requires { ⌜ (length (now marks) ≡ numbers (sizesOf (programOf p)))
+        × (length (now work) ≡ numbers (sizesOf (programOf p))) ⌝ }
     ensures { λ r. ⌜ (r ≡ analyzeBy (limited (programOf p) limit) (programOf p))
         × (now (marks .exit) ≡ onSuccess (limited (programOf p) limit) (freshMarks (programOf p)) (now (marks .entry)))
-        × (now (work .exit) ≡ none-set) ⌝ }
+        × (now (work .exit) ≡ none-set (sizesOf (programOf p))) ⌝ }
 {
-    let stop = analyze_program(p, work, limit);
-    let answer = hand_over(p, work, marks, limit, stop);
+    let z = sizes_of(p);
+    let stop = analyze_program(z, p, work, limit);
+    let answer = hand_over(z, p, work, marks, limit, stop);
     clear(work);
     answer
 }
@@ -110,8 +115,9 @@ pub fn analyze(file: &[u8], marks: &mut [u8], work: &mut [u8], limit: usize) -> 
 // accepts only well-formed programs, and the caller has measured the buffers: hence the `requires`.
 pub fn check_own(p: DecodedProgram, marks: &[u8], work: &mut [u8]) -> Verdict
     requires { ⌜ WellFormed (programOf p) ⌝ }
-    requires { ⌜ (length (now marks) ≡ marksSize) × (length (now work) ≡ marksSize) ⌝ }
-    ensures { λ r. ⌜ (r ≡ owned (programOf p) (now (marks .entry))) × (now (work .exit) ≡ none-set) ⌝ }
+    requires { ⌜ (length (now marks) ≡ numbers (sizesOf (programOf p)))
+        × (length (now work) ≡ numbers (sizesOf (programOf p))) ⌝ }
+    ensures { λ r. ⌜ (r ≡ owned (programOf p) (now (marks .entry))) × (now (work .exit) ≡ none-set (sizesOf (programOf p))) ⌝ }
 {
     if is_own(p, marks, work) {
         return Verdict::Accepted;
@@ -122,8 +128,9 @@ pub fn check_own(p: DecodedProgram, marks: &[u8], work: &mut [u8]) -> Verdict
 // Where the marks are the program's own, the first violation not below the number is sought.
 fn search_own(p: DecodedProgram, marks: &[u8], work: &mut [u8], low: usize) -> NextAnswer
     requires { ⌜ WellFormed (programOf p) ⌝ }
-    requires { ⌜ (length (now marks) ≡ marksSize) × (length (now work) ≡ marksSize) ⌝ }
-    ensures { λ r. ⌜ (r ≡ nextBy Accepted (programOf p) (now (marks .entry)) low) × (now (work .exit) ≡ none-set) ⌝ }
+    requires { ⌜ (length (now marks) ≡ numbers (sizesOf (programOf p)))
+        × (length (now work) ≡ numbers (sizesOf (programOf p))) ⌝ }
+    ensures { λ r. ⌜ (r ≡ nextBy Accepted (programOf p) (now (marks .entry)) low) × (now (work .exit) ≡ none-set (sizesOf (programOf p))) ⌝ }
 {
     let own = check_own(p, marks, work);
     match own {
@@ -132,17 +139,18 @@ fn search_own(p: DecodedProgram, marks: &[u8], work: &mut [u8], low: usize) -> N
             let rule = p.automaton;
             let rejecting = rejecting_flags(rule);
             let flags = rejecting.flags;
-            let i = first_violation(marks, &flags, low);
-            found(i)
+            let z = sizes_of(p);
+            let i = first_violation(z, marks, &flags, low);
+            found(i, marks.len())
         }
     }
 }
 
 // A search's result past the end says that there is none.
-fn found(i: usize) -> NextAnswer
-    ensures { λ r. ⌜ r ≡ foundOf (within marksSize i) ⌝ }
+fn found(i: usize, size: usize) -> NextAnswer
+    ensures { λ r. ⌜ r ≡ foundOf (within size i) ⌝ }
 {
-    if i < MARKS_SIZE {
+    if i < size {
         return NextAnswer::Found(i);
     }
     NextAnswer::Nothing

@@ -5,7 +5,6 @@ use mathlib.Core.Bool.{Bool, true, false, cond}
 use mathlib.Core.List.{List}
 use lib.ListN.{getD}
 use borrow.Author.Tests.{lt-ltb, le-ltb}
-use Rattle.automaton.specs.Sizes.{maxStates}
 use Rattle.index.specs.Index.{leaves, callsOne}
 use Rattle.program.specs.Sizes.{maxRoutines}
 use Rattle.program.specs.Program.{isCall, calledBy}
@@ -13,6 +12,7 @@ use Rattle.program.specs.Decoded.{edgeOf}
 use Rattle.reach.specs.Configurations.{number}
 use Rattle.reach.specs.Worklist.{Worklist, mark}
 use Rattle.marking.specs.Parts.{Becomes, each, moveStep, callStep, labelStep, edgeStep, stateStep, callerStep}
+use Rattle.program.specs.declared.sizes.Sizes.{Sizes}
 
 -- number j is marked, and a step follows
 pub mark-then : {at j : ℕ} {g : Worklist → Worklist} {m w m₁ w₁ m₂ w₂ : List ℕ} → at ≡ j → Becomes (mark at) m w m₁ w₁ → Becomes g m₁ w₁ m₂ w₂
@@ -27,41 +27,42 @@ module _ {b : Bool} (g : Worklist → Worklist) {m w : List ℕ} where
   pub step-left : b ≡ false → Becomes (λ s. cond b (g s) s) m w m w
   step-left t = record { becomes = λ k n. rw t }
 
-module _ (next known : List ℕ) (base q label : ℕ) {m w : List ℕ} where
-  pub label-call : {m′ w′ : List ℕ} → isCall label ≡ true → calledBy label < maxRoutines
-      → Becomes (callStep next known base (calledBy label) q) m w m′ w′ → Becomes (labelStep next known base q label) m w m′ w′
-  unfolding labelStep
-  label-call e h b = record { becomes = λ k n. rw (e, lt-ltb (calledBy label) maxRoutines h) (b .becomes k n) }
+module _ (Z : Sizes) where
+  module _ (next known : List ℕ) (base q label : ℕ) {m w : List ℕ} where
+    pub label-call : {m′ w′ : List ℕ} → isCall label ≡ true → calledBy label < maxRoutines
+        → Becomes (callStep Z next known base (calledBy label) q) m w m′ w′ → Becomes (labelStep Z next known base q label) m w m′ w′
+    unfolding labelStep
+    label-call e h b = record { becomes = λ k n. rw (e, lt-ltb (calledBy label) maxRoutines h) (b .becomes k n) }
 
-  pub label-past : isCall label ≡ true → maxRoutines ≤ calledBy label → Becomes (labelStep next known base q label) m w m w
-  unfolding labelStep
-  label-past e h = record { becomes = λ k n. rw (e, le-ltb (calledBy label) maxRoutines h) }
+    pub label-past : isCall label ≡ true → maxRoutines ≤ calledBy label → Becomes (labelStep Z next known base q label) m w m w
+    unfolding labelStep
+    label-past e h = record { becomes = λ k n. rw (e, le-ltb (calledBy label) maxRoutines h) }
 
-  pub label-action : {m′ w′ : List ℕ} → isCall label ≡ false → Becomes (moveStep next base q label) m w m′ w′
-      → Becomes (labelStep next known base q label) m w m′ w′
-  unfolding labelStep
-  label-action e b = record { becomes = λ k n. rw e (b .becomes k n) }
+    pub label-action : {m′ w′ : List ℕ} → isCall label ≡ false → Becomes (moveStep (Z .states) next base q label) m w m′ w′
+        → Becomes (labelStep Z next known base q label) m w m′ w′
+    unfolding labelStep
+    label-action e b = record { becomes = λ k n. rw e (b .becomes k n) }
 
--- an edge that the index has for the node, and one that it passes over
-module _ (next known : List ℕ) (f n r q : ℕ) (keys : List ℕ) (i : ℕ) where
-  pub edge-here : {m w m′ w′ : List ℕ} → leaves keys f n i ≡ true
-      → Becomes (labelStep next known (number f (edgeOf (getD keys i 0) .target) r 0) q (edgeOf (getD keys i 0) .label)) m w m′ w′
-      → Becomes (edgeStep next known f n r q (edgeOf (getD keys i 0))) m w m′ w′
-  unfolding edgeStep
-  edge-here t b = record { becomes = λ k c. rw t (b .becomes k c) }
+  -- an edge that the index has for the node, and one that it passes over
+  module _ (next known : List ℕ) (f n r q : ℕ) (keys : List ℕ) (i : ℕ) where
+    pub edge-here : {m w m′ w′ : List ℕ} → leaves keys f n i ≡ true
+        → Becomes (labelStep Z next known (number Z f (edgeOf (getD keys i 0) .target) r 0) q (edgeOf (getD keys i 0) .label)) m w m′ w′
+        → Becomes (edgeStep Z next known f n r q (edgeOf (getD keys i 0))) m w m′ w′
+    unfolding edgeStep
+    edge-here t b = record { becomes = λ k c. rw t (b .becomes k c) }
 
-  pub edge-other : leaves keys f n i ≡ false → (s : Worklist) → edgeStep next known f n r q (edgeOf (getD keys i 0)) s ≡ s
-  unfolding edgeStep
-  edge-other t s = rw t
+    pub edge-other : leaves keys f n i ≡ false → (s : Worklist) → edgeStep Z next known f n r q (edgeOf (getD keys i 0)) s ≡ s
+    unfolding edgeStep
+    edge-other t s = rw t
 
--- an edge that the index has for the routine, and one that it passes over
-module _ (next : List ℕ) (f r : ℕ) (keys : List ℕ) (i : ℕ) where
-  pub caller-here : {m w m′ w′ : List ℕ} → callsOne keys f i ≡ true
-      → Becomes (each (stateStep next r (edgeOf (getD keys i 0))) maxStates 0) m w m′ w′
-      → Becomes (callerStep next f r (edgeOf (getD keys i 0))) m w m′ w′
-  unfolding callerStep
-  caller-here t b = record { becomes = λ k c. rw t (b .becomes k c) }
+  -- an edge that the index has for the routine, and one that it passes over
+  module _ (next : List ℕ) (f r : ℕ) (keys : List ℕ) (i : ℕ) where
+    pub caller-here : {m w m′ w′ : List ℕ} → callsOne keys f i ≡ true
+        → Becomes (each (stateStep Z next r (edgeOf (getD keys i 0))) (Z .states) 0) m w m′ w′
+        → Becomes (callerStep Z next f r (edgeOf (getD keys i 0))) m w m′ w′
+    unfolding callerStep
+    caller-here t b = record { becomes = λ k c. rw t (b .becomes k c) }
 
-  pub caller-other : callsOne keys f i ≡ false → (s : Worklist) → callerStep next f r (edgeOf (getD keys i 0)) s ≡ s
-  unfolding callerStep
-  caller-other t s = rw t
+    pub caller-other : callsOne keys f i ≡ false → (s : Worklist) → callerStep Z next f r (edgeOf (getD keys i 0)) s ≡ s
+    unfolding callerStep
+    caller-other t s = rw t

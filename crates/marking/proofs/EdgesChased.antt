@@ -7,9 +7,8 @@ use native.Mathlib.Omega.{arith}
 use lib.ListN.{length}
 use Rattle.index.specs.Index.{seek}
 use Rattle.index.proofs.NumbersSought.{seek-at-least, seek-at-most, seek-meets, seek-passes}
-use Rattle.program.specs.Sizes.{marksSize}
 use Rattle.reach.specs.Worklist.{Worklist}
-use Rattle.marking.specs.Parts.{pendingWords, Becomes, Lowers}
+use Rattle.marking.specs.Parts.{Becomes, Lowers}
 use Rattle.marking.proofs.StepsMark.{Looping, loop-start, loop-turn, loop-skip}
 
 -- where the test fails the step does nothing
@@ -32,10 +31,9 @@ chase {t} {f} {n} {j = j} {i = i} p l e =
       meets = λ k. rw e (seek-meets t (n - j) j (omega (arith, e)));
     }
 
-pub chase-start : {t : ℕ → Bool} {f : ℕ → Worklist → Worklist} {n i : ℕ} (m w : List ℕ) (low : ℕ) → Passes t f → length m ≡ marksSize → length w ≡ pendingWords
-    → i ≡ seek t n 0 → Chasing t f n m w low i m w low
-chase-start {t} {f} {n} m w low p a b e =
-    chase p (loop-start f n m w low a b) (let z : n - 0 ≡ n = omega arith in rw z e)
+pub chase-start : {t : ℕ → Bool} {f : ℕ → Worklist → Worklist} {n i : ℕ} (m w : List ℕ) (low : ℕ) → Passes t f → i ≡ seek t n 0 → Chasing t f n m w low i m w low
+chase-start {t} {f} {n} m w low p e =
+    chase p (loop-start f n m w low) (let z : n - 0 ≡ n = omega arith in rw z e)
 
 module _ {t : ℕ → Bool} {f : ℕ → Worklist → Worklist} {n : ℕ} {m₀ w₀ : List ℕ} {low₀ i : ℕ} {m w : List ℕ} {low : ℕ} (c : Chasing t f n m₀ w₀ low₀ i m w low) where
   pub chase-turn : {m′ w′ : List ℕ} {low′ at : ℕ} → Passes t f → i < n → Becomes (f i) m w m′ w′ → Lowers w low w′ low′ → length m′ ≡ length m → length w′ ≡ length w

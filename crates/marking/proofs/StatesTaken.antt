@@ -1,8 +1,8 @@
 -- The states of a set in turn, until none is left: what is left is the set halved for each state that is passed.
-use Prim.Native.Nat.{ℕ, _+_, _-_, _/_, _%_, _^_, _≤_}
+use Prim.Native.Nat.{ℕ, _+_, _-_, _/_, _%_, _^_, _≤_, _<_}
 use mathlib.Core.Logic.{_≢_}
 use mathlib.Core.Path.{_≡_, sym, ap, _∙_}
-use mathlib.Core.Bool.{true, false, cond}
+use mathlib.Core.Bool.{Bool, true, false, cond}
 use mathlib.Core.List.{List}
 use native.Mathlib.Omega.{arith}
 use native.Mathlib.Nat.{zero-div}
@@ -36,14 +36,14 @@ module _ {set x left : ℕ} (l : Leaving set x left) where
 
   -- the lowest state of what is left is k states on
   module _ {k : ℕ} (low : LowestOf left k) where
+    passed : (y : ℕ) → x ≤ y → y < x + k → bit y set ≡ false
+    passed y a b =
+        let e : x + (y - x) ≡ y = omega arith in
+        ap (λ (i : ℕ). bit i set) (sym e) ∙ sym (left-bit (y - x)) ∙ low .below (y - x) (omega arith)
+
     pub passed-states : (base : ℕ) {n : ℕ} → n ≤ x + k → Idle (markState set base) x n
     unfolding markWhen
-    passed-states base h =
-        record {
-          idle = λ y a b s.
-              let e : x + (y - x) ≡ y = omega arith in
-              rw (ap (λ (i : ℕ). bit i set) (sym e) ∙ sym (left-bit (y - x)) ∙ low .below (y - x) (omega arith));
-        }
+    passed-states base h = record { idle = λ y a b s. rw (passed y a (omega arith)) }
 
     pub found-state : left ≢ 0 → bit (x + k) set ≡ true
     found-state h = sym (left-bit k) ∙ low .found h .0
@@ -76,3 +76,15 @@ module _ {set x left : ℕ} (l : Leaving set x left) where
 
     pub none-followed : (g : ℕ → Worklist → Worklist) (n : ℕ) → Idle (λ y. λ s. cond (bit y set) (g y s) s) x n
     none-followed g n = record { idle = λ y h k s. rw (left-out y h) }
+
+-- ---- a test that the set answers, for the first n states
+
+pub record Answered (n : ℕ) (t : ℕ → Bool) (set : ℕ) : Type 0 where
+  pub answered : (y : ℕ) → y < n → t y ≡ bit y set
+
+module _ {n set x left : ℕ} {t : ℕ → Bool} (a : Answered n t set) (l : Leaving set x left) (g : ℕ → Worklist → Worklist) where
+  pub tests-passed : {k m : ℕ} → LowestOf left k → m ≤ n → m ≤ x + k → Idle (λ y. λ s. cond (t y) (g y s) s) x m
+  tests-passed low h b = record { idle = λ y i j s. rw (a .answered y (omega arith) ∙ passed l low y i (omega arith)) }
+
+  pub tests-over : left ≡ 0 → Idle (λ y. λ s. cond (t y) (g y s) s) x n
+  tests-over e = record { idle = λ y i j s. rw (a .answered y j ∙ left-out l e y i) }

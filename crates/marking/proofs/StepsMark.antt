@@ -1,35 +1,36 @@
 -- One configuration marked or set pending, and the lower bound of what is pending.
 use Prim.Native.Nat.{ℕ, zero, suc, _≤_, _<_, _+_, _-_}
-use mathlib.Core.Path.{_≡_, sym, ap, _∙_}
+use mathlib.Core.Path.{_≡_, refl, sym, ap, _∙_}
 use mathlib.Core.List.{List}
 use native.Mathlib.Omega.{arith}
 use native.Mathlib.Nat.{sub-zero}
 use native.Mathlib.Numerals.{add-one}
-use lib.ListN.{length, getD, set, List·getD-eq-default}
+use lib.ListN.{length, getD, set, take, length-set, length-take, List·getD-eq-default}
 use lib.Seq.{set-out, getD-set-other}
 use borrow.Author.Tests.{eq-eqb, ne-eqb}
-use Rattle.program.specs.Sizes.{marksSize}
 use Rattle.reach.specs.Worklist.{Worklist, mark, wake}
 use Rattle.words.specs.Words.{flagsOf}
-use Rattle.marking.specs.Parts.{pendingWords, worklist, Becomes, Lowers, each}
+use Rattle.words.proofs.FlagsOfPart.{take-set}
+use Rattle.marking.specs.Parts.{working, Becomes, Lowers, each}
 
 module _ (m w : List ℕ) (at : ℕ) where
   pub mark-new : {w′ : List ℕ} → getD m at 0 ≡ 0 → flagsOf w′ ≡ set (flagsOf w) at 1 → Becomes (mark at) m w (set m at 1) w′
   unfolding mark
-  mark-new e f = record { becomes = λ k n. rw (mark, eq-eqb (getD m at 0) 0 e, f) }
+  mark-new e f = record { becomes = λ k n. rw (mark, eq-eqb (getD m at 0) 0 e, length-set m at 1, f, take-set (length m) (flagsOf w) at 1) }
 
   pub mark-old : (getD m at 0 ≡ 0 → ⊥) → Becomes (mark at) m w m w
   unfolding mark
   mark-old e = record { becomes = λ k n. rw (mark, ne-eqb (getD m at 0) 0 e) }
 
-  pub mark-out : length m ≤ at → length (flagsOf w) ≤ at → Becomes (mark at) m w m w
+  pub mark-out : length m ≤ at → Becomes (mark at) m w m w
   unfolding mark
-  mark-out a b =
-      record { becomes = λ k n. rw (mark, eq-eqb (getD m at 0) 0 (List·getD-eq-default m 0 a), set-out m at 1 a, set-out (flagsOf w) at 1 b) }
+  mark-out a =
+      let l = length-take (length m) (flagsOf w) in
+      record { becomes = λ k n. rw (mark, eq-eqb (getD m at 0) 0 (List·getD-eq-default m 0 a), set-out m at 1 a, set-out (take (length m) (flagsOf w)) at 1 (omega arith)) }
 
   pub wake-marked : {w′ : List ℕ} → (getD m at 0 ≡ 0 → ⊥) → flagsOf w′ ≡ set (flagsOf w) at 1 → Becomes (wake at) m w m w′
   unfolding wake
-  wake-marked e f = record { becomes = λ k n. rw (wake, ne-eqb (getD m at 0) 0 e, f) }
+  wake-marked e f = record { becomes = λ k n. rw (wake, ne-eqb (getD m at 0) 0 e, f, take-set (length m) (flagsOf w) at 1) }
 
   pub wake-unmarked : getD m at 0 ≡ 0 → Becomes (wake at) m w m w
   unfolding wake
@@ -75,15 +76,14 @@ each-skip f n (suc k) i s h t =
 -- what holds at the head of such a loop: what is left to do from here gives the whole
 pub record Looping (f : ℕ → Worklist → Worklist) (n : ℕ) (m₀ w₀ : List ℕ) (low₀ j : ℕ) (m w : List ℕ) (low : ℕ) : Type 0 where
   pub within : j ≤ n
-  pub marks-length : length m ≡ marksSize
-  pub pending-length : length w ≡ pendingWords
-  pub rest : (known : List ℕ) (c : ℕ) → each f (n - j) j (worklist m w known c) ≡ each f n 0 (worklist m₀ w₀ known c)
+  pub marks-length : length m ≡ length m₀
+  pub pending-length : length w ≡ length w₀
+  pub rest : (known : List ℕ) (c : ℕ) → each f (n - j) j (working m w known c) ≡ each f n 0 (working m₀ w₀ known c)
   pub lowers : Lowers w₀ low₀ w low
 
-pub loop-start : (f : ℕ → Worklist → Worklist) (n : ℕ) (m w : List ℕ) (low : ℕ) → length m ≡ marksSize → length w ≡ pendingWords
-    → Looping f n m w low 0 m w low
-loop-start f n m w low a b =
-    record { within = omega arith; marks-length = a; pending-length = b; rest = λ known c. simp sub-zero; lowers = λ h. h }
+pub loop-start : (f : ℕ → Worklist → Worklist) (n : ℕ) (m w : List ℕ) (low : ℕ) → Looping f n m w low 0 m w low
+loop-start f n m w low =
+    record { within = omega arith; marks-length = refl; pending-length = refl; rest = λ known c. simp sub-zero; lowers = λ h. h }
 
 module _ {f : ℕ → Worklist → Worklist} {n : ℕ} {m₀ w₀ : List ℕ} {low₀ j : ℕ} {m w : List ℕ} {low : ℕ} (l : Looping f n m₀ w₀ low₀ j m w low) where
   pub loop-turn : {m′ w′ : List ℕ} {low′ : ℕ} → j < n → Becomes (f j) m w m′ w′ → Lowers w low w′ low′ → length m′ ≡ length m → length w′ ≡ length w
@@ -94,7 +94,7 @@ module _ {f : ℕ → Worklist → Worklist} {n : ℕ} {m₀ w₀ : List ℕ} {l
         marks-length = a ∙ l .marks-length;
         pending-length = e ∙ l .pending-length;
         rest = λ known c.
-            ap (each f (n - (j + 1)) (j + 1)) (b .becomes known c) ∙ sym (each-turn f n j (worklist m w known c) h) ∙ l .rest known c;
+            ap (each f (n - (j + 1)) (j + 1)) (b .becomes known c) ∙ sym (each-turn f n j (working m w known c) h) ∙ l .rest known c;
         lowers = λ x. d (l .lowers x);
       }
 
@@ -107,12 +107,12 @@ module _ {f : ℕ → Worklist → Worklist} {n : ℕ} {m₀ w₀ : List ℕ} {l
         marks-length = l .marks-length;
         pending-length = l .pending-length;
         rest = λ known c.
-            sym (rw e at (each-skip f n (i - j) j (worklist m w known c) (omega arith) (record { idle = λ x u v. t .idle x u (omega arith) }))) ∙ l .rest known c;
+            sym (rw e at (each-skip f n (i - j) j (working m w known c) (omega arith) (record { idle = λ x u v. t .idle x u (omega arith) }))) ∙ l .rest known c;
         lowers = l .lowers;
       }
 
   pub loop-end : n ≤ j → Becomes (each f n 0) m₀ w₀ m w × Lowers w₀ low₀ w low
-  loop-end h = (record { becomes = λ known c. sym (each-done f n j (worklist m w known c) h) ∙ l .rest known c }, l .lowers)
+  loop-end h = (record { becomes = λ known c. sym (each-done f n j (working m w known c) h) ∙ l .rest known c }, l .lowers)
 
 -- nothing is left to do
 pub loop-idle : {f : ℕ → Worklist → Worklist} {n : ℕ} {m₀ w₀ : List ℕ} {low₀ j : ℕ} {m w : List ℕ} {low : ℕ} → Looping f n m₀ w₀ low₀ j m w low

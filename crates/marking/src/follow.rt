@@ -1,11 +1,11 @@
 // Following one configuration: what each edge from it marks, and what each edge that calls a routine wakes.
+use crate::lowest_state;
 use crate::mark;
 use crate::mark_each;
 use crate::wake_roots;
 use automaton::next::next_after;
 use automaton::sizes::FIRST_CALL;
 use automaton::sizes::FIRST_RETURN;
-use automaton::sizes::MAX_STATES;
 use base::bits::has_bit;
 use index::first_caller;
 use index::first_edge;
@@ -16,33 +16,30 @@ use program::edges::called_by;
 use program::edges::edge;
 use program::edges::is_call;
 use program::sizes::MAX_ROUTINES;
+use program::sizes::Sizes;
 use reach::configuration::Configuration;
 use reach::configuration::entry_of;
+use reach::configuration::narrow;
 use reach::configuration::number_of;
+use reach::configuration::summary_of;
+use words::bits_from;
 ghost use mathlib.Core.Path.{_≡_};
-ghost use Prim.Native.Nat.{_<_};
+ghost use Prim.Native.Nat.{_<_, _≤_};
 ghost use lib.ListN.{length, getD};
 ghost use Rattle.automaton.specs.Sizes.{maxStates};
 ghost use Rattle.index.specs.Index.{Indexed};
-ghost use Rattle.program.specs.Sizes.{maxRoutines, maxNodes, marksSize};
+ghost use Rattle.program.specs.Sizes.{maxRoutines, maxNodes};
 ghost use Rattle.program.specs.Decoded.{edgeOf, edgeView};
 ghost use Rattle.reach.specs.Configurations.{byteNumbers};
-ghost use Rattle.marking.specs.Parts.{pendingWords, knownWords, Becomes, Lowers, each, endsAt};
+ghost use Rattle.marking.specs.Parts.{Becomes, Lowers, each};
 ghost use Rattle.marking.specs.Parts.{summaryStep, entryStep, callStep, labelStep, edgeStep};
 ghost use Rattle.marking.specs.Parts.{stateStep, callerStep};
 
-// The states in which routine g is known to end with root y, as a set. Its word is within the table, and the root's
-// bits within the word: hence the `requires`.
-fn ends_of(known: &[u64], g: u8, y: u8) -> u64
-    requires { ⌜ (length (now known) ≡ knownWords) × (g < maxRoutines) × (y < maxStates) ⌝ }
-    ensures { λ r. ⌜ r ≡ endsAt (now (known .entry)) g y ⌝ }
-{
-    (known[g as usize] >> (y * MAX_STATES as u8)) % (1 << MAX_STATES)
-}
-
 // What a call of g that gave root y gives by its known summaries: the results of the return from each. A summary ends
-// before the return's move.
+// before the return's move. The flags of the next root follow those of this one: past the states nothing is followed.
+// One word has the flags of a root: hence the bound on the states, here and in what calls this.
 fn follow_summaries(
+    z: Sizes,
     next: &[u16],
     known: &[u64],
     marks: &mut [u8],
@@ -52,31 +49,32 @@ fn follow_summaries(
     y: u8,
     low: usize,
 ) -> usize
-    requires { ⌜ (length (now known) ≡ knownWords) × (base < byteNumbers) × (g < maxRoutines) × (y < maxStates) ⌝ }
-    requires { ⌜ (length (now marks) ≡ marksSize) × (length (now pending) ≡ pendingWords) ⌝ }
-    ensures { λ v. ⌜ Becomes (each (summaryStep (now (next .entry)) (now (known .entry)) base g y) maxStates 0)
+    requires { ⌜ (base < byteNumbers) × (g < maxRoutines) × (z .states ≤ maxStates) ⌝ }
+    ensures { λ v. ⌜ Becomes (each (summaryStep z (now (next .entry)) (now (known .entry)) base g y) (z .states) 0)
         (now (marks .entry)) (now (pending .entry)) (now (marks .exit)) (now (pending .exit))
         × Lowers (now (pending .entry)) low (now (pending .exit)) v ⌝ }
 {
+    let states = z.states;
     let mut lowest = low;
-    let mut left = ends_of(known, g, y);
-    let mut x: u8 = 0;
-    while x < MAX_STATES as u8 {
-        if left == 0 {
+    let mut left = bits_from(known, summary_of(z, g, y, 0));
+    let mut s: usize = 0;
+    while left != 0 {
+        let k = lowest_state(left);
+        if states as usize <= s + k {
             return lowest;
         }
-        if left % 2 == 1 {
-            let results = next_after(next, x, FIRST_RETURN + g);
-            lowest = mark_each(results, marks, pending, base, lowest);
-        }
-        left = left / 2;
-        x = x + 1;
+        let x = narrow(s + k);
+        let results = next_after(next, x, FIRST_RETURN + g);
+        lowest = mark_each(z.states, results, marks, pending, base, lowest);
+        left = (left >> k) / 2;
+        s = s + k + 1;
     }
     lowest
 }
 
 // What a call of g that gave root y gives: the entry with that root, and what its known summaries give.
 fn follow_entry(
+    z: Sizes,
     next: &[u16],
     known: &[u64],
     marks: &mut [u8],
@@ -86,19 +84,19 @@ fn follow_entry(
     y: u8,
     low: usize,
 ) -> usize
-    requires { ⌜ (length (now known) ≡ knownWords) × (base < byteNumbers) × (g < maxRoutines) × (y < maxStates) ⌝ }
-    requires { ⌜ (length (now marks) ≡ marksSize) × (length (now pending) ≡ pendingWords) ⌝ }
-    ensures { λ v. ⌜ Becomes (entryStep (now (next .entry)) (now (known .entry)) base g y)
+    requires { ⌜ (base < byteNumbers) × (g < maxRoutines) × (z .states ≤ maxStates) ⌝ }
+    ensures { λ v. ⌜ Becomes (entryStep z (now (next .entry)) (now (known .entry)) base g y)
         (now (marks .entry)) (now (pending .entry)) (now (marks .exit)) (now (pending .exit))
         × Lowers (now (pending .entry)) low (now (pending .exit)) v ⌝ }
 {
-    let entry = entry_of(g, y);
+    let entry = entry_of(z, g, y);
     let lowest = mark(marks, pending, entry, low);
-    follow_summaries(next, known, marks, pending, base, g, y, lowest)
+    follow_summaries(z, next, known, marks, pending, base, g, y, lowest)
 }
 
 // A call of g in state q: every root that its move gives.
 fn follow_call(
+    z: Sizes,
     next: &[u16],
     known: &[u64],
     marks: &mut [u8],
@@ -108,21 +106,21 @@ fn follow_call(
     q: u8,
     low: usize,
 ) -> usize
-    requires { ⌜ (length (now known) ≡ knownWords) × (base < byteNumbers) × (g < maxRoutines) ⌝ }
-    requires { ⌜ (length (now marks) ≡ marksSize) × (length (now pending) ≡ pendingWords) ⌝ }
-    ensures { λ v. ⌜ Becomes (callStep (now (next .entry)) (now (known .entry)) base g q)
+    requires { ⌜ (base < byteNumbers) × (g < maxRoutines) × (z .states ≤ maxStates) ⌝ }
+    ensures { λ v. ⌜ Becomes (callStep z (now (next .entry)) (now (known .entry)) base g q)
         (now (marks .entry)) (now (pending .entry)) (now (marks .exit)) (now (pending .exit))
         × Lowers (now (pending .entry)) low (now (pending .exit)) v ⌝ }
 {
+    let states = z.states;
     let mut lowest = low;
     let mut left = next_after(next, q, FIRST_CALL + g);
     let mut y: u8 = 0;
-    while y < MAX_STATES as u8 {
+    while y < states {
         if left == 0 {
             return lowest;
         }
         if left % 2 == 1 {
-            lowest = follow_entry(next, known, marks, pending, base, g, y, lowest);
+            lowest = follow_entry(z, next, known, marks, pending, base, g, y, lowest);
         }
         left = left / 2;
         y = y + 1;
@@ -131,6 +129,7 @@ fn follow_call(
 }
 
 fn follow_label(
+    z: Sizes,
     next: &[u16],
     known: &[u64],
     marks: &mut [u8],
@@ -140,26 +139,26 @@ fn follow_label(
     label: u8,
     low: usize,
 ) -> usize
-    requires { ⌜ (length (now known) ≡ knownWords) × (base < byteNumbers) ⌝ }
-    requires { ⌜ (length (now marks) ≡ marksSize) × (length (now pending) ≡ pendingWords) ⌝ }
-    ensures { λ v. ⌜ Becomes (labelStep (now (next .entry)) (now (known .entry)) base q label)
+    requires { ⌜ (base < byteNumbers) × (z .states ≤ maxStates) ⌝ }
+    ensures { λ v. ⌜ Becomes (labelStep z (now (next .entry)) (now (known .entry)) base q label)
         (now (marks .entry)) (now (pending .entry)) (now (marks .exit)) (now (pending .exit))
         × Lowers (now (pending .entry)) low (now (pending .exit)) v ⌝ }
 {
     if is_call(label) {
         let g = called_by(label);
         if g < MAX_ROUTINES as u8 {
-            return follow_call(next, known, marks, pending, base, g, q, low);
+            return follow_call(z, next, known, marks, pending, base, g, q, low);
         }
         return low;
     }
     let results = next_after(next, q, label);
-    mark_each(results, marks, pending, base, low)
+    mark_each(z.states, results, marks, pending, base, low)
 }
 
-// Every edge from the node of a configuration, as the index has them. The tables have the sizes of `analyze_program`,
-// and the index is that of the keys: hence the `requires`.
+// Every edge from the node of a configuration, as the index has them. The index is that of the keys, and has this
+// node: hence the `requires`.
 pub fn follow_edges(
+    z: Sizes,
     keys: &[u32],
     index: &[u16],
     next: &[u16],
@@ -169,10 +168,9 @@ pub fn follow_edges(
     c: Configuration,
     low: usize,
 ) -> usize
-    requires { ⌜ Indexed (now keys) (now index) × (length (now known) ≡ knownWords)
-        × (c .routine < maxRoutines) × (c .node < maxNodes) ⌝ }
-    requires { ⌜ (length (now marks) ≡ marksSize) × (length (now pending) ≡ pendingWords) ⌝ }
-    ensures { λ v. ⌜ Becomes (each (λ i. edgeStep (now (next .entry)) (now (known .entry))
+    requires { ⌜ Indexed (now keys) (now index) × (c .routine < maxRoutines) × (c .node < maxNodes)
+        × (z .states ≤ maxStates) ⌝ }
+    ensures { λ v. ⌜ Becomes (each (λ i. edgeStep z (now (next .entry)) (now (known .entry))
         (c .routine) (c .node) (c .root) (c .state) (edgeOf (getD (now (keys .entry)) i 0)))
         (length (now (keys .entry))) 0)
         (now (marks .entry)) (now (pending .entry)) (now (marks .exit)) (now (pending .exit))
@@ -182,8 +180,18 @@ pub fn follow_edges(
     let mut i = first_edge(index, c.routine, c.node);
     while i < keys.len() {
         let e = edge(keys[i]);
-        let base = number_of(c.routine, e.target, c.root, 0);
-        lowest = follow_label(next, known, marks, pending, base, c.state, e.label, lowest);
+        let base = number_of(z, c.routine, e.target, c.root, 0);
+        lowest = follow_label(
+            z,
+            next,
+            known,
+            marks,
+            pending,
+            base,
+            c.state,
+            e.label,
+            lowest,
+        );
         i = next_edge(index, i);
     }
     lowest
@@ -191,6 +199,7 @@ pub fn follow_edges(
 
 // Everything at the node of a call in a state from which the call can give root r.
 fn wake_states(
+    z: Sizes,
     next: &[u16],
     marks: &[u8],
     pending: &mut [u64],
@@ -198,27 +207,28 @@ fn wake_states(
     r: u8,
     low: usize,
 ) -> usize
-    requires { ⌜ (length (now marks) ≡ marksSize) × (length (now pending) ≡ pendingWords) ⌝ }
-    ensures { λ v. ⌜ Becomes (each (stateStep (now (next .entry)) r (edgeView e)) maxStates 0)
+    ensures { λ v. ⌜ Becomes (each (stateStep z (now (next .entry)) r (edgeView e)) (z .states) 0)
         (now (marks .entry)) (now (pending .entry)) (now (marks .entry)) (now (pending .exit))
         × Lowers (now (pending .entry)) low (now (pending .exit)) v ⌝ }
 {
+    let states = z.states;
     let mut lowest = low;
     let mut x: u8 = 0;
-    while x < MAX_STATES as u8 {
+    while x < states {
         let roots = next_after(next, x, e.label);
         if has_bit(r, roots as u64) {
-            let base = number_of(e.routine, e.source, 0, x);
-            lowest = wake_roots(marks, pending, base, lowest);
+            let base = number_of(z, e.routine, e.source, 0, x);
+            lowest = wake_roots(states, marks, pending, base, lowest);
         }
         x = x + 1;
     }
     lowest
 }
 
-// Every configuration from which an edge calls routine f and the call can give root r. The marks have been measured,
-// and the index is that of the keys: hence the `requires`.
+// Every configuration from which an edge calls routine f and the call can give root r. The index is that of the keys,
+// and has this routine: hence the `requires`.
 pub fn wake_callers(
+    z: Sizes,
     keys: &[u32],
     index: &[u16],
     next: &[u16],
@@ -229,8 +239,7 @@ pub fn wake_callers(
     low: usize,
 ) -> usize
     requires { ⌜ Indexed (now keys) (now index) × (f < maxRoutines) ⌝ }
-    requires { ⌜ (length (now marks) ≡ marksSize) × (length (now pending) ≡ pendingWords) ⌝ }
-    ensures { λ v. ⌜ Becomes (each (λ i. callerStep (now (next .entry)) f r (edgeOf (getD (now (keys .entry)) i 0)))
+    ensures { λ v. ⌜ Becomes (each (λ i. callerStep z (now (next .entry)) f r (edgeOf (getD (now (keys .entry)) i 0)))
         (length (now (keys .entry))) 0)
         (now (marks .entry)) (now (pending .entry)) (now (marks .entry)) (now (pending .exit))
         × Lowers (now (pending .entry)) low (now (pending .exit)) v ⌝ }
@@ -239,7 +248,7 @@ pub fn wake_callers(
     let mut i = first_caller(index, f);
     while i < keys.len() {
         let e = edge(keys[i]);
-        lowest = wake_states(next, marks, pending, e, r, lowest);
+        lowest = wake_states(z, next, marks, pending, e, r, lowest);
         i = next_caller(index, i);
     }
     lowest

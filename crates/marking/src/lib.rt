@@ -1,30 +1,22 @@
 // What one iteration marks and sets pending. Here configurations are marked, and marked ones are set pending again.
 // What is pending is a bit for each configuration, in words. Each function returns a number below which nothing is
-// pending, if there was nothing below the one it was given. Whoever follows has measured the marks (refusal 9), and a
-// base is a configuration's number: hence each `requires`.
+// pending, if there was nothing below the one it was given. None asks for the length of the marks: a number past them
+// marks nothing. A base is a configuration's number: hence each `requires`.
 mod follow;
 pub mod take;
 
-use automaton::sizes::MAX_STATES;
-use program::sizes::MARKS_SIZE;
-use program::sizes::MAX_ROUTINES;
-use reach::spans::ROOT_SPAN;
-use words::WORD_BITS;
 use words::set_at;
 ghost use mathlib.Core.Path.{_≡_};
 ghost use Prim.Native.Nat.{_<_, _≤_};
-ghost use lib.ListN.{length};
-ghost use Rattle.automaton.specs.Sizes.{maxStates};
-ghost use Rattle.program.specs.Sizes.{marksSize};
 ghost use Rattle.reach.specs.Configurations.{byteNumbers};
 ghost use Rattle.reach.specs.Worklist.{mark as marked, wake as woken};
-ghost use Rattle.marking.specs.Parts.{Becomes, Lowers, pendingWords, each, LowestOf, markState, wakeAt};
+ghost use Rattle.marking.specs.Parts.{Becomes, Lowers, each, LowestOf, markState, wakeAt};
 
-// A word for each node: the configurations there.
-pub const PENDING_WORDS: usize = MARKS_SIZE / WORD_BITS;
+// Room for a bit for each configuration, at most 16,384 of them.
+pub const PENDING_WORDS: usize = 256;
 
-// A word for each routine: its summaries.
-pub const KNOWN_WORDS: usize = MAX_ROUTINES;
+// Room for a bit for each summary, at most 16 times 16 times 16 of them.
+pub const KNOWN_WORDS: usize = 64;
 
 fn lower(a: usize, b: usize) -> usize
     ensures { λ r. ⌜ (r ≤ a) × (r ≤ b) ⌝ }
@@ -37,12 +29,11 @@ fn lower(a: usize, b: usize) -> usize
 
 // Marks a configuration; where it was not marked, it becomes pending.
 pub fn mark(marks: &mut [u8], pending: &mut [u64], at: usize, low: usize) -> usize
-    requires { ⌜ (length (now marks) ≡ marksSize) × (length (now pending) ≡ pendingWords) ⌝ }
     ensures { λ r. ⌜ Becomes (marked at)
         (now (marks .entry)) (now (pending .entry)) (now (marks .exit)) (now (pending .exit))
         × Lowers (now (pending .entry)) low (now (pending .exit)) r ⌝ }
 {
-    if at < MARKS_SIZE {
+    if at < marks.len() {
         if marks[at] == 0 {
             marks[at] = 1;
             set_at(pending, at);
@@ -53,27 +44,33 @@ pub fn mark(marks: &mut [u8], pending: &mut [u64], at: usize, low: usize) -> usi
 }
 
 // The lowest state of a set that is not empty.
-fn lowest_state(set: u16) -> usize
+fn lowest_state(set: u64) -> usize
     ensures { λ s. ⌜ LowestOf set s ⌝ }
 {
-    u16::trailing_zeros(set) as usize
+    u64::trailing_zeros(set) as usize
 }
 
 // Marks base + s for each state s of a set, the lowest of what is left of it each time. A set has no other bits, but
 // the table could be any: past the states nothing is marked.
-fn mark_each(set: u16, marks: &mut [u8], pending: &mut [u64], base: usize, low: usize) -> usize
+fn mark_each(
+    states: u8,
+    set: u16,
+    marks: &mut [u8],
+    pending: &mut [u64],
+    base: usize,
+    low: usize,
+) -> usize
     requires { ⌜ base < byteNumbers ⌝ }
-    requires { ⌜ (length (now marks) ≡ marksSize) × (length (now pending) ≡ pendingWords) ⌝ }
-    ensures { λ r. ⌜ Becomes (each (markState set base) maxStates 0)
+    ensures { λ r. ⌜ Becomes (each (markState set base) states 0)
         (now (marks .entry)) (now (pending .entry)) (now (marks .exit)) (now (pending .exit))
         × Lowers (now (pending .entry)) low (now (pending .exit)) r ⌝ }
 {
     let mut lowest = low;
-    let mut left = set;
+    let mut left = set as u64;
     let mut s: usize = 0;
     while left != 0 {
         let k = lowest_state(left);
-        if MAX_STATES <= s + k {
+        if states as usize <= s + k {
             return lowest;
         }
         lowest = mark(marks, pending, base + (s + k), lowest);
@@ -85,12 +82,11 @@ fn mark_each(set: u16, marks: &mut [u8], pending: &mut [u64], base: usize, low: 
 
 // Sets a marked configuration pending again.
 fn wake(marks: &[u8], pending: &mut [u64], at: usize, low: usize) -> usize
-    requires { ⌜ (length (now marks) ≡ marksSize) × (length (now pending) ≡ pendingWords) ⌝ }
     ensures { λ r. ⌜ Becomes (woken at)
         (now (marks .entry)) (now (pending .entry)) (now (marks .entry)) (now (pending .exit))
         × Lowers (now (pending .entry)) low (now (pending .exit)) r ⌝ }
 {
-    if at < MARKS_SIZE {
+    if at < marks.len() {
         if marks[at] != 0 {
             set_at(pending, at);
             return lower(low, at);
@@ -100,17 +96,18 @@ fn wake(marks: &[u8], pending: &mut [u64], at: usize, low: usize) -> usize
 }
 
 // Wakes what has the same node and state as the base, whatever its root.
-fn wake_roots(marks: &[u8], pending: &mut [u64], base: usize, low: usize) -> usize
+fn wake_roots(states: u8, marks: &[u8], pending: &mut [u64], base: usize, low: usize) -> usize
     requires { ⌜ base < byteNumbers ⌝ }
-    requires { ⌜ (length (now marks) ≡ marksSize) × (length (now pending) ≡ pendingWords) ⌝ }
-    ensures { λ r. ⌜ Becomes (each (wakeAt base) maxStates 0)
+    ensures { λ r. ⌜ Becomes (each (wakeAt states base) states 0)
         (now (marks .entry)) (now (pending .entry)) (now (marks .entry)) (now (pending .exit))
         × Lowers (now (pending .entry)) low (now (pending .exit)) r ⌝ }
 {
     let mut lowest = low;
-    let mut r: usize = 0;
-    while r < MAX_STATES {
-        lowest = wake(marks, pending, base + ROOT_SPAN * r, lowest);
+    let mut at = base;
+    let mut r: u8 = 0;
+    while r < states {
+        lowest = wake(marks, pending, at, lowest);
+        at = at + states as usize;
         r = r + 1;
     }
     lowest

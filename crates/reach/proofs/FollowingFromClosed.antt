@@ -6,14 +6,12 @@ use Prim.Native.Nat.{ℕ, _-_, _<_}
 use native.Mathlib.Omega.{arith}
 use native.Mathlib.Decide.{ℕ-discrete}
 use Rattle.program.specs.Program.{Program}
-use Rattle.program.specs.WellFormed.{WellFormed}
-use Rattle.reach.specs.Sizes.{enoughIterations}
 use Rattle.reach.specs.Configurations.{number, routineOf, nodeOf, rootOf, stateOf, At}
 use Rattle.reach.specs.Reachable.{Derivable, seeded, Any}
 use Rattle.reach.specs.Worklist.{Worklist, Shape, lowest, summary, work}
 use Rattle.reach.specs.Marks.{Marked, Shows, Between, ClosedBut}
 use Rattle.reach.proofs.Numbers.{number-of, node-of, parts-in-range}
-use Rattle.reach.proofs.ProgramInSizes.{sizes, after-small, Proper}
+use Rattle.reach.proofs.ProgramInSizes.{after-small, Proper}
 use Rattle.base.specs.Flags.{On}
 use Rattle.base.proofs.SetFlags.{on-lt}
 use Rattle.reach.proofs.ShapeKept.{work-shape}
@@ -21,15 +19,11 @@ use Rattle.reach.proofs.WorklistInvariant.{Closed, Follows}
 use Rattle.reach.proofs.ExitsSettled.{Settled}
 use Rattle.reach.proofs.AnalysisExact.{follow-exact-ended}
 use Rattle.reach.proofs.MarksShown.{shows-marked}
-
--- the marked configurations of these numbers that are no exits are pending, no others, and the summaries of the marked exits are
--- known
-pub record Awaits (low high : ℕ) (s : Worklist) : Type 0 where
-  pub shape : Shape s
-  pub woken : {j : ℕ} → On (s .marks) j → Between low high j → nodeOf j ≢ 1 → On (s .pending) j
-  pub waits : {j : ℕ} → On (s .pending) j → On (s .marks) j × (nodeOf j ≢ 1)
-  pub learnt : (g r q : ℕ) → g < 16 → r < 8 → q < 8 → On (s .marks) (number g 1 r q) → On (s .known) (summary g r q)
-  pub known : (g r q : ℕ) → g < 16 → r < 8 → q < 8 → On (s .known) (summary g r q) → On (s .marks) (number g 1 r q)
+use Rattle.program.specs.declared.sizes.Sizes.{Sizes}
+use Rattle.program.specs.Chosen.{numbers}
+use Rattle.reach.specs.Sizes.{summaries, enoughIterations}
+use Rattle.reach.specs.Configurations.{Usable}
+use Rattle.reach.specs.Ranged.{Ranged}
 
 dec-between : (low high j : ℕ) → Dec (Between low high j)
 dec-between low high j =
@@ -38,76 +32,86 @@ dec-between low high j =
       | yes a ↦ elim (ℕ-discrete (high - j) 0) [ yes b ↦ no (λ x. omega (arith, x .1)) | no b ↦ yes (omega arith, omega arith) ]
     ]
 
-module _ (p : Program) (w : WellFormed p) (low high : ℕ) (s : Worklist) (h : ClosedBut p low high (s .marks)) (k : Awaits low high s) where
-  proper : Proper p (Marked (s .marks))
-  proper = record { in-range = λ x. x .0; state = λ x. h .states x }
+module _ (Z : Sizes) (U : Usable Z) where
+  -- the marked configurations of these numbers that are no exits are pending, no others, and the summaries of the marked exits are
+  -- known
+  pub record Awaits (low high : ℕ) (s : Worklist) : Type 0 where
+    pub shape : Shape Z s
+    pub woken : {j : ℕ} → On (s .marks) j → Between low high j → nodeOf Z j ≢ 1 → On (s .pending) j
+    pub waits : {j : ℕ} → On (s .pending) j → On (s .marks) j × (nodeOf Z j ≢ 1)
+    pub learnt : (g r q : ℕ) → g < Z .routines → r < Z .states → q < Z .states → On (s .marks) (number Z g 1 r q) → On (s .known) (summary Z g r q)
+    pub known : (g r q : ℕ) → g < Z .routines → r < Z .states → q < Z .states → On (s .known) (summary Z g r q) → On (s .marks) (number Z g 1 r q)
 
-  marked-at : {j : ℕ} → On (s .marks) j → At (Marked (s .marks)) j
-  marked-at {j} o =
-      let b : j < 16384 = omega (arith, h .marks-length, on-lt (s .marks) j o) in
-      (parts-in-range j b, subst (On (s .marks)) (sym (number-of j)) o .on)
+  module _ (p : Program) (w : Ranged Z p) (low high : ℕ) (s : Worklist) (h : ClosedBut Z p low high (s .marks)) (k : Awaits low high s) where
+    proper : Proper Z p (Marked Z (s .marks))
+    proper = record { in-range = λ x. x .0; state = λ x. h .states x }
 
-  -- ---- what is not pending has led to all that follows from it
+    marked-at : {j : ℕ} → On (s .marks) j → At Z (Marked Z (s .marks)) j
+    marked-at {j} o =
+        let b : j < numbers Z = omega (arith, h .marks-length, on-lt (s .marks) j o) in
+        (parts-in-range Z U j b, subst (On (s .marks)) (sym (number-of Z j)) o .on)
 
-  -- the summary of an exit is known
-  at-exit : {j : ℕ} → On (s .marks) j → nodeOf j ≡ 1 → On (s .known) (summary (routineOf j) (rootOf j) (stateOf j))
-  at-exit {j} o e =
-      let x = marked-at o .0 in
-      k .learnt (routineOf j) (rootOf j) (stateOf j) (x .routine) (x .root) (x .state)
-      (subst (λ (n : ℕ). On (s .marks) (number (routineOf j) n (rootOf j) (stateOf j))) e (subst (On (s .marks)) (sym (number-of j)) o))
+    -- ---- what is not pending has led to all that follows from it
 
-  -- no edge leads from an exit
-  exit-done : {j : ℕ} → On (s .marks) j → nodeOf j ≡ 1 → At (Closed p s) j
-  exit-done o e =
-      let z = sizes p w in
-      record {
-        exit = at-exit o;
-        acts = λ x y v. absurd (z .no-exit y e);
-        calls = λ x y v. absurd (z .no-exit y e);
-        returns = λ r x t hx y v o v′. absurd (z .no-exit y e);
-      }
+    -- the summary of an exit is known
+    at-exit : {j : ℕ} → On (s .marks) j → nodeOf Z j ≡ 1 → On (s .known) (summary Z (routineOf Z j) (rootOf Z j) (stateOf Z j))
+    at-exit {j} o e =
+        let x = marked-at o .0 in
+        k .learnt (routineOf Z j) (rootOf Z j) (stateOf Z j) (x .routine) (x .root) (x .state)
+        (subst (λ (n : ℕ). On (s .marks) (number Z (routineOf Z j) n (rootOf Z j) (stateOf Z j))) e (subst (On (s .marks)) (sym (number-of Z j)) o))
 
-  -- outside the numbers what follows is marked
-  outside-done : {j : ℕ} → On (s .marks) j → ¬ (Between low high j) → At (Closed p s) j
-  outside-done {j} o ne =
-      let c = h .closed (marked-at o) (subst (λ (i : ℕ). ¬ (Between low high i)) (sym (number-of j)) ne) in
-      record {
-        exit = at-exit o;
-        acts = λ x e v. record { on = c .acts e v .1 };
-        calls = λ x e v. record { on = c .calls e v .1 };
-        returns = λ {g = g} r x t hx e v o v′.
-            let z = sizes p w in
-            let hg = z .called e in
-            let hr = after-small z _ _ _ v in
-            let y : Marked (s .marks) g 1 r x = (record { routine = hg; node = omega arith; root = hr; state = hx }, k .known g r x hg hr hx o .on) in
-            record { on = c .returns e v y v′ .1 };
-      }
+    -- no edge leads from an exit
+    exit-done : {j : ℕ} → On (s .marks) j → nodeOf Z j ≡ 1 → At Z (Closed Z U p s) j
+    exit-done o e =
+        let z = w in
+        record {
+          exit = at-exit o;
+          acts = λ x y v. absurd (z .no-exit y e);
+          calls = λ x y v. absurd (z .no-exit y e);
+          returns = λ r x t hx y v o v′. absurd (z .no-exit y e);
+        }
 
-  awaits-follows : Follows p (Marked (s .marks)) s
-  awaits-follows =
-      record {
-        shape = k .shape;
-        sound = λ {j} o. seeded (marked-at o) tt;
-        seeds = λ x. record { on = x .1 };
-        pending = λ o. k .waits o .0;
-        known = k .known;
-        closed = λ {j} o.
-            elim (ℕ-discrete (nodeOf j) 1) [
-              | yes e ↦ inr (exit-done o e)
-              | no e ↦ elim (dec-between low high j) [ yes b ↦ inl (k .woken o b e) | no b ↦ inr (outside-done o b) ]
-            ];
-      }
+    -- outside the numbers what follows is marked
+    outside-done : {j : ℕ} → On (s .marks) j → ¬ (Between low high j) → At Z (Closed Z U p s) j
+    outside-done {j} o ne =
+        let c = h .closed (marked-at o) (subst (λ (i : ℕ). ¬ (Between low high i)) (sym (number-of Z j)) ne) in
+        record {
+          exit = at-exit o;
+          acts = λ x e v. record { on = c .acts e v .1 };
+          calls = λ x e v. record { on = c .calls e v .1 };
+          returns = λ {g = g} r x t hx e v o v′.
+              let z = w in
+              let hg = z .called e in
+              let hr = after-small z _ _ _ v in
+              let y : Marked Z (s .marks) g 1 r x = (record { routine = hg; node = omega arith; root = hr; state = hx }, k .known g r x hg hr hx o .on) in
+              record { on = c .returns e v y v′ .1 };
+        }
 
-  -- no exit is pending
-  awaits-settled : Settled s
-  awaits-settled =
-      record {
-        not-pending = λ g r q hg hr hq o x. k .waits x .1 (node-of (record { routine = hg; node = omega arith; root = hr; state = hq }));
-      }
+    awaits-follows : Follows Z U p (Marked Z (s .marks)) s
+    awaits-follows =
+        record {
+          shape = k .shape;
+          sound = λ {j} o. seeded (marked-at o) tt;
+          seeds = λ x. record { on = x .1 };
+          pending = λ o. k .waits o .0;
+          known = k .known;
+          closed = λ {j} o.
+              elim (ℕ-discrete (nodeOf Z j) 1) [
+                | yes e ↦ inr (exit-done o e)
+                | no e ↦ elim (dec-between low high j) [ yes b ↦ inl (k .woken o b e) | no b ↦ inr (outside-done o b) ]
+              ];
+        }
 
-  -- ---- so following ends with what follows from the marks
+    -- no exit is pending
+    awaits-settled : Settled Z U s
+    awaits-settled =
+        record {
+          not-pending = λ g r q hg hr hq o x. k .waits x .1 (node-of (record { routine = hg; node = omega arith; root = hr; state = hq }));
+        }
 
-  pub awaits-shows : Shows (Derivable p (Marked (s .marks)) Any) (work enoughIterations p (lowest (s .pending) 0) s .marks)
-  awaits-shows =
-      let z = work-shape enoughIterations p (lowest (s .pending) 0) s refl (k .shape) in
-      shows-marked (z .marks-length) (z .marks-bits) (follow-exact-ended p w (Marked (s .marks)) proper s awaits-follows awaits-settled)
+    -- ---- so following ends with what follows from the marks
+
+    pub awaits-shows : Shows Z (Derivable p (Marked Z (s .marks)) Any) (work Z (enoughIterations Z) p (lowest (s .pending) 0) s .marks)
+    awaits-shows =
+        let z = work-shape Z U (enoughIterations Z) p (lowest (s .pending) 0) s refl (k .shape) in
+        shows-marked Z U (z .marks-length) (z .marks-bits) (follow-exact-ended Z U p w (Marked Z (s .marks)) proper s awaits-follows awaits-settled)

@@ -1,5 +1,6 @@
 pub mod Numbers
 pub mod ProgramInSizes
+pub mod WithinMost
 pub mod LowestPending
 pub mod Labels
 pub mod ShapeKept
@@ -20,3 +21,4 @@ pub mod ViolationsExact
 pub mod FollowingFromClosed
 pub mod Growing
 pub mod EntriesTaken
+pub mod ProductsDivide

@@ -3,22 +3,29 @@ use mathlib.Core.Path.{_≡_, refl, sym, subst}
 use mathlib.Core.Logic.{_≢_}
 use mathlib.Core.Bool.{Bool, true, false, cond, _&&_, not}
 use mathlib.Core.List.{List, [], _∷_, map, List·Memᴰ, List·Memᴰ·head, List·Memᴰ·tail}
-use Prim.Native.Nat.{ℕ, _+_, _-_, _≤_, _<_}
+use Prim.Native.Nat.{ℕ, _+_, _*_, _-_, _≤_, _<_}
 use native.Mathlib.Omega.{arith}
+use native.Mathlib.Nat.{le-refl, mul-le-mul}
 use lib.Dec.{ltb, leb, eqb}
 use lib.ListN.{getD}
-use borrow.Author.Tests.{ltb-true, ltb-false, eqb-true, eqb-false, not-true}
+use borrow.Author.Tests.{ltb-true, ltb-false, leb-true, eqb-true, eqb-false, not-true}
+use Rattle.automaton.specs.Sizes.{maxStates, maxActions}
 use Rattle.automaton.specs.Automaton.{listed, heard, stays, moves, callOf, returnOf, labelFits}
 use Rattle.automaton.proofs.EventsHeard.{listed-in}
 use Rattle.automaton.specs.declared.Event.{Event}
 use Rattle.automaton.specs.declared.Event.the-variants.{Action, Call, Return}
-use Rattle.program.specs.Program.{Edge, Program, within, placed, edgeFits, transitionFits}
+use Rattle.program.specs.Sizes.{maxRoutines, maxNodes}
+use Rattle.program.specs.declared.sizes.Sizes.{Sizes}
+use Rattle.program.specs.Program.{Edge, Program, within, nodesFit, placed, edgeFits, transitionFits}
+use Rattle.program.specs.Chosen.{largest, sizesOf, Admitted}
+use Rattle.program.proofs.ChosenSizes.{admitted, largest-at}
 use Rattle.program.specs.WellFormed.{WellFormed}
 use Rattle.program.proofs.SectionsAscend.{all-at, all-in}
-use Rattle.program.proofs.LinesJudged.{at-most}
 use Rattle.base.proofs.Bools.{both, either}
 use Rattle.program.proofs.ProgramLimits.{transition-fits, well-formed-limits}
-use Rattle.reach.specs.Configurations.{Set, InRange}
+use Rattle.reach.specs.Configurations.{Set, Usable, InRange}
+use Rattle.reach.specs.Sizes.{summaries}
+use Rattle.reach.specs.Ranged.{Ranged, Sized}
 use Rattle.reach.specs.Runs.{Step, eventOf, stepOf, HasStep, Moves}
 use Rattle.reach.specs.Reachable.{Derivable, seeded, by-action, by-call, by-return, Initial, initial, Reachable}
 
@@ -39,32 +46,40 @@ pub label-call : (a g : ℕ) (t : Bool) → cond t (Action a) (Call (a - 0x40)) 
 label-call a g true e = absurd (let z : _≡_ {A = ℕ} 0 1 = cc in omega arith)
 label-call a g false e = (refl, cc)
 
--- ---- the ranges of a well-formed program
-
-pub record Sizes (p : Program) : Type 0 where
-  pub routine : {f n m : ℕ} {l : Event} → HasStep p f n l m → f < 16
-  pub source : {f n m : ℕ} {l : Event} → HasStep p f n l m → n < 16
-  pub target : {f n m : ℕ} {l : Event} → HasStep p f n l m → m < 16
-  pub called : {f n m g : ℕ} → HasStep p f n (Call g) m → g < 16
-  pub no-exit : {f n m : ℕ} {l : Event} → HasStep p f n l m → n ≢ 1
-  pub states : p .automaton .states ≤ 8
-  pub after : (q : ℕ) (e : Event) (s : ℕ) → Moves p q e s → s < p .automaton .states
-  pub begun : {q : ℕ} → List·Memᴰ q (p .automaton .initial) → q < p .automaton .states
-
-pub after-small : {p : Program} → Sizes p → (q : ℕ) (e : Event) (s : ℕ) → Moves p q e s → s < 8
+pub after-small : {Z : Sizes} {p : Program} → Ranged Z p → (q : ℕ) (e : Event) (s : ℕ) → Moves p q e s → s < Z .states
 after-small z q e s m = omega (arith, z .states, z .after q e s m)
 
--- ---- a well-formed program has the ranges
+-- ---- a well-formed program is within its own sizes
+
+at-least : (lo hi x : ℕ) → within lo hi x ≡ true → lo ≤ x
+at-least lo hi x h = leb-true lo x (both (leb lo x) (leb x hi) h .0)
+
+-- one routine, an entry, an exit and a state
+module _ (p : Program) (w : WellFormed p) where
+  fit : (within 1 maxRoutines (p .routines) && within 1 maxStates (p .automaton .states) ≡ true) × (within 1 maxActions (p .automaton .actions) ≡ true)
+  fit = both (within 1 maxRoutines (p .routines) && within 1 maxStates (p .automaton .states)) (within 1 maxActions (p .automaton .actions)) (w .counts-fit)
+
+  some-routine : 1 ≤ p .routines
+  some-routine = at-least 1 maxRoutines (p .routines) (both (within 1 maxRoutines (p .routines)) _ (fit .0) .0)
+
+  pub usable : Usable (sizesOf p)
+  usable =
+      let n = some-routine in
+      let first = at-least 2 maxNodes (getD (p .nodes) 0 0) (all-at nodesFit (p .nodes) 0 0 (w .nodes-fit) (omega (arith, w .complete))) in
+      record {
+        nodes = omega (arith, first, largest-at (p .nodes) 0);
+        states = at-least 1 maxStates (p .automaton .states) (both (within 1 maxRoutines (p .routines)) _ (fit .0) .1);
+      }
 
 -- the facts of a step's edge
 record Edged (p : Program) (f n : ℕ) (l : Event) (m : ℕ) : Type 0 where
   label : ℕ
   is : l ≡ eventOf label
-  routine : f < 16
-  source : n < 16
-  target : m < 16
+  routine : f < p .routines
+  source : n < largest (p .nodes)
+  target : m < largest (p .nodes)
   no-exit : n ≢ 1
-  small : label < 0x40 + 16
+  small : 0x40 ≤ label → label < 0x40 + p .routines
 
 edge-fits : (p : Program) → WellFormed p → (e : Edge) → edgeFits p e ≡ true → Edged p (e .routine) (e .source) (eventOf (e .label)) (e .target)
 edge-fits p w e h =
@@ -75,20 +90,19 @@ edge-fits p w e h =
     let d = both (ltb f (p .routines)) (placed ns n m) (c .0) in
     let x = both (ltb n ns && ltb m ns) (not (eqb n 1)) (d .1) in
     let y = both (ltb n ns) (ltb m ns) (x .0) in
-    let hf : f < p .routines = ltb-true f (p .routines) (d .0) in
-    let many : ns ≤ 16 = at-most 2 16 ns (all-at (within 2 16) (p .nodes) f 0 (w .nodes-fit) (omega (arith, w .complete))) in
+    let many = largest-at (p .nodes) f in
     let hn = ltb-true n ns (y .0) in
     let hm = ltb-true m ns (y .1) in
     record {
       label = a;
       is = refl;
-      routine = omega arith;
+      routine = ltb-true f (p .routines) (d .0);
       source = omega arith;
       target = omega arith;
       no-exit = eqb-false n 1 (not-true (eqb n 1) (x .1));
       small = either (ltb a (p .automaton .actions)) (leb 0x40 a && ltb a (0x40 + p .routines)) (c .1)
-          (λ z. let u = ltb-true a (p .automaton .actions) z in omega arith)
-          (λ z. let u = ltb-true a (0x40 + p .routines) (both (leb 0x40 a) (ltb a (0x40 + p .routines)) z .1) in omega arith);
+          (λ z. let u = ltb-true a (p .automaton .actions) z in λ v. omega arith)
+          (λ z. let u = ltb-true a (0x40 + p .routines) (both (leb 0x40 a) (ltb a (0x40 + p .routines)) z .1) in λ v. u);
     }
 
 edged : (p : Program) → WellFormed p → {f n m : ℕ} {l : Event} → HasStep p f n l m → Edged p f n l m
@@ -117,68 +131,84 @@ module _ (p : Program) (w : WellFormed p) where
   move-after q (Call f) s h = label-after (heard (callOf f) (p .automaton .transitions)) q (callOf f) s h
   move-after q (Return f) s h = label-after (heard (returnOf f) (p .automaton .transitions)) q (returnOf f) s h
 
-pub sizes : (p : Program) → WellFormed p → Sizes p
-sizes p w =
+pub ranged : (p : Program) → WellFormed p → Ranged (sizesOf p) p
+ranged p w =
     record {
+      main = some-routine p w;
+      routines = le-refl _;
       routine = λ h. edged p w h .routine;
       source = λ h. edged p w h .source;
       target = λ h. edged p w h .target;
       called = λ {g = g} h.
           let e = edged p w h in
           let c = label-call (e .label) g (ltb (e .label) 0x40) (sym (e .is)) in
-          let low = ltb-false (e .label) 0x40 (c .0) in
-          let small = e .small in
+          let small = e .small (ltb-false (e .label) 0x40 (c .0)) in
           omega (arith, c .1);
       no-exit = λ h. edged p w h .no-exit;
-      states = well-formed-limits p w .states;
+      states = le-refl _;
       after = move-after p w;
       begun = λ {q} m. ltb-true q (p .automaton .states) (all-in (λ q. ltb q (p .automaton .states)) (p .automaton .initial) (w .initial-fit) m);
     }
 
+-- the code has room for it
+pub summaries-few : {Z : Sizes} → Admitted Z → summaries Z ≤ 4096
+unfolding summaries
+summaries-few {Z} a =
+    let h = mul-le-mul {n₁ = Z .routines * Z .states} {m₁ = Z .states} {n₂ = maxRoutines * maxStates} {m₂ = maxStates}
+    (mul-le-mul {n₁ = Z .routines} {m₁ = Z .states} {n₂ = maxRoutines} {m₂ = maxStates} (a .routines) (a .states)) (a .states) in
+    omega arith
+
+pub sized : (p : Program) → WellFormed p → Sized (sizesOf p) p
+sized p w = record { usable = usable p w; admitted = admitted p w; ranged = ranged p w }
+
 -- ---- the derivable configurations are in range
 
 -- seeds in range, in states of the automaton
-pub record Proper (p : Program) (S : Set) : Type 0 where
-  pub in-range : {f n r q : ℕ} → S f n r q → InRange f n r q
+pub record Proper (Z : Sizes) (p : Program) (S : Set) : Type 0 where
+  pub in-range : {f n r q : ℕ} → S f n r q → InRange Z f n r q
   pub state : {f n r q : ℕ} → S f n r q → q < p .automaton .states
 
-pub initial-proper : (p : Program) → Sizes p → Proper p (Initial p)
-initial-proper p z = record { in-range = in-range; state = state }
-  where
-    in-range : {f n r q : ℕ} → Initial p f n r q → InRange f n r q
-    in-range (initial m) = let a = z .begun m in let b = z .states in record { routine = omega arith; node = omega arith; root = omega arith; state = omega arith }
+module _ (Z : Sizes) (U : Usable Z) where
+  pub initial-proper : (p : Program) → Ranged Z p → Proper Z p (Initial p)
+  initial-proper p z = record { in-range = in-range; state = state }
+    where
+      in-range : {f n r q : ℕ} → Initial p f n r q → InRange Z f n r q
+      in-range (initial m) =
+          let a = z .begun m in
+          let b = z .states in
+          record { routine = z .main; node = omega (arith, U .nodes); root = omega arith; state = omega arith }
 
-    state : {f n r q : ℕ} → Initial p f n r q → q < p .automaton .states
-    state (initial m) = z .begun m
+      state : {f n r q : ℕ} → Initial p f n r q → q < p .automaton .states
+      state (initial m) = z .begun m
 
-module _ {p : Program} {S W : Set} (z : Sizes p) (h : Proper p S) where
-  pub derivable-state : {f n r q : ℕ} → Derivable p S W f n r q → q < p .automaton .states
-  derivable-state (seeded x w) = h .state x
-  derivable-state (by-action d e m w) = z .after _ _ _ m
-  derivable-state (by-call d e m w) = z .after _ _ _ m
-  derivable-state (by-return d e m d′ m′ w) = z .after _ _ _ m′
+  module _ {p : Program} {S W : Set} (z : Ranged Z p) (h : Proper Z p S) where
+    pub derivable-state : {f n r q : ℕ} → Derivable p S W f n r q → q < p .automaton .states
+    derivable-state (seeded x w) = h .state x
+    derivable-state (by-action d e m w) = z .after _ _ _ m
+    derivable-state (by-call d e m w) = z .after _ _ _ m
+    derivable-state (by-return d e m d′ m′ w) = z .after _ _ _ m′
 
-  pub derivable-in-range : {f n r q : ℕ} → Derivable p S W f n r q → InRange f n r q
-  derivable-in-range (seeded x w) = h .in-range x
-  derivable-in-range (by-action d e m w) =
-      let c = derivable-in-range d in
-      record { routine = c .routine; node = z .target e; root = c .root; state = after-small z _ _ _ m }
-  derivable-in-range (by-call d e m w) =
-      record { routine = z .called e; node = omega arith; root = after-small z _ _ _ m; state = after-small z _ _ _ m }
-  derivable-in-range (by-return d e m d′ m′ w) =
-      let c = derivable-in-range d in
-      record { routine = c .routine; node = z .target e; root = c .root; state = after-small z _ _ _ m′ }
+    pub derivable-in-range : {f n r q : ℕ} → Derivable p S W f n r q → InRange Z f n r q
+    derivable-in-range (seeded x w) = h .in-range x
+    derivable-in-range (by-action d e m w) =
+        let c = derivable-in-range d in
+        record { routine = c .routine; node = z .target e; root = c .root; state = after-small z _ _ _ m }
+    derivable-in-range (by-call d e m w) =
+        record { routine = z .called e; node = omega (arith, U .nodes); root = after-small z _ _ _ m; state = after-small z _ _ _ m }
+    derivable-in-range (by-return d e m d′ m′ w) =
+        let c = derivable-in-range d in
+        record { routine = c .routine; node = z .target e; root = c .root; state = after-small z _ _ _ m′ }
 
--- every reachable configuration is in range, its root and state are states of the automaton
-module _ (p : Program) (w : WellFormed p) where
-  pub reachable-in-range : {f n r q : ℕ} → Reachable p f n r q → InRange f n r q
-  reachable-in-range d = derivable-in-range (sizes p w) (initial-proper p (sizes p w)) d
+  -- every reachable configuration is in range, its root and state are states of the automaton
+  module _ (p : Program) (w : Ranged Z p) where
+    pub reachable-in-range : {f n r q : ℕ} → Reachable p f n r q → InRange Z f n r q
+    reachable-in-range d = derivable-in-range w (initial-proper p w) d
 
-  pub reachable-state : {f n r q : ℕ} → Reachable p f n r q → q < p .automaton .states
-  reachable-state d = derivable-state (sizes p w) (initial-proper p (sizes p w)) d
+    pub reachable-state : {f n r q : ℕ} → Reachable p f n r q → q < p .automaton .states
+    reachable-state d = derivable-state w (initial-proper p w) d
 
-  pub reachable-root : {f n r q : ℕ} → Reachable p f n r q → r < p .automaton .states
-  reachable-root (seeded (initial m) x) = sizes p w .begun m
-  reachable-root (by-action d e m x) = reachable-root d
-  reachable-root (by-call d e m x) = sizes p w .after _ _ _ m
-  reachable-root (by-return d e m d′ m′ x) = reachable-root d
+    pub reachable-root : {f n r q : ℕ} → Reachable p f n r q → r < p .automaton .states
+    reachable-root (seeded (initial m) x) = w .begun m
+    reachable-root (by-action d e m x) = reachable-root d
+    reachable-root (by-call d e m x) = w .after _ _ _ m
+    reachable-root (by-return d e m d′ m′ x) = reachable-root d

@@ -9,9 +9,11 @@ use native.Mathlib.Nat.{suc-mul}
 use lib.Dec.{eqb}
 use lib.ListN.{getD}
 use borrow.Author.Tests.{eq-eqb}
-use Rattle.reach.specs.Sizes.{summariesSize}
 use Rattle.base.specs.Flags.{On}
 use Rattle.base.proofs.SetFlags.{dec-on, on-eqb}
+use Rattle.program.specs.declared.sizes.Sizes.{Sizes}
+use Rattle.reach.specs.Sizes.{summaries}
+use Rattle.reach.specs.Configurations.{Usable}
 
 -- ---- sums
 
@@ -62,21 +64,22 @@ flag-bit l j = elim (dec-on l j) [ yes h ↦ omega (arith, flag-on l j h) | no h
 pub flag-mono : (l k : List ℕ) (j : ℕ) → (On l j → On k j) → flag l j ≤ flag k j
 flag-mono l k j i = elim (dec-on l j) [ yes h ↦ omega (arith, flag-on l j h, flag-on k j (i h)) | no h ↦ omega (arith, flag-off l j h) ]
 
--- ---- how many summaries are known
+module _ (Z : Sizes) (U : Usable Z) where
+  -- ---- how many summaries are known
 
-pub knownCount : List ℕ → ℕ
-knownCount ks = sumTo summariesSize (flag ks)
+  pub knownCount : List ℕ → ℕ
+  knownCount ks = sumTo (summaries Z) (flag ks)
 
-pub known-most : (ks : List ℕ) → knownCount ks ≤ summariesSize
-unfolding knownCount
-known-most ks = sum-most summariesSize 1 (flag ks) (flag-bit ks)
-
-module _ (ks ls : List ℕ) (h : (i : ℕ) → On ks i → On ls i) where
-  pub known-mono : knownCount ks ≤ knownCount ls
+  pub known-most : (ks : List ℕ) → knownCount ks ≤ summaries Z
   unfolding knownCount
-  known-mono = sum-mono summariesSize (flag ks) (flag ls) (λ x. flag-mono ks ls x (h x))
+  known-most ks = omega (arith, sum-most (summaries Z) 1 (flag ks) (flag-bit ks))
 
-  pub known-more : (x : ℕ) → x < summariesSize → ¬ (On ks x) → On ls x → knownCount ks + 1 ≤ knownCount ls
-  unfolding knownCount
-  known-more x l not-yet yet =
-      sum-more summariesSize (flag ks) (flag ls) x (λ y. flag-mono ks ls y (h y)) l (omega (arith, flag-off ks x not-yet, flag-on ls x yet))
+  module _ (ks ls : List ℕ) (h : (i : ℕ) → On ks i → On ls i) where
+    pub known-mono : knownCount ks ≤ knownCount ls
+    unfolding knownCount
+    known-mono = sum-mono (summaries Z) (flag ks) (flag ls) (λ x. flag-mono ks ls x (h x))
+
+    pub known-more : (x : ℕ) → x < summaries Z → ¬ (On ks x) → On ls x → knownCount ks + 1 ≤ knownCount ls
+    unfolding knownCount
+    known-more x l not-yet yet =
+        sum-more (summaries Z) (flag ks) (flag ls) x (λ y. flag-mono ks ls y (h y)) l (omega (arith, flag-off ks x not-yet, flag-on ls x yet))

@@ -1,8 +1,10 @@
 pub mod Sizes
 pub mod Configurations
 pub mod Runs
+pub mod Ranged
 pub mod Reachable
 pub mod Worklist
 pub mod Takings
 pub mod Marks
 pub mod Violations
+pub mod SplitParts

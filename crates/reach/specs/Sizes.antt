@@ -1,26 +1,29 @@
 -- The sizes of what is kept of configurations, beside the marks.
-use Prim.Native.Nat.{ℕ, _*_}
+use Prim.Native.Nat.{ℕ, _+_, _*_}
 use Rattle.automaton.specs.Sizes.{maxStates}
-use Rattle.program.specs.Sizes.{maxRoutines, maxNodes}
+use Rattle.program.specs.Sizes.{maxRoutines}
+use Rattle.program.specs.declared.sizes.Sizes.{Sizes}
+use Rattle.program.specs.Chosen.{numbers}
 
--- so many numbers follow one another: those of a root, of a node, and of a routine
-abbrev pub rootSpan : ℕ
-rootSpan = maxStates
-
-abbrev pub nodeSpan : ℕ
-nodeSpan = maxStates * rootSpan
-
-abbrev pub routineSpan : ℕ
-routineSpan = maxNodes * nodeSpan
-
--- a flag for each root: its routine and its state
+-- a flag for each root: its routine and its state, whatever the sizes
 abbrev pub rootsSize : ℕ
 rootsSize = maxRoutines * maxStates
 
--- a byte for each summary (paper: a known pair): its routine, its root and its state
-abbrev pub summariesSize : ℕ
-summariesSize = 1024
+module _ (Z : Sizes) where
+  -- so many numbers follow one another: those of a root, of a node, and of a routine
+  abbrev pub rootSpan : ℕ
+  rootSpan = Z .states
 
--- 1,025 iterations (paper: takings) for each of the 16,384 configurations are always enough
-abbrev pub enoughIterations : ℕ
-enoughIterations = 16793600
+  abbrev pub nodeSpan : ℕ
+  nodeSpan = Z .states * Z .states
+
+  abbrev pub routineSpan : ℕ
+  routineSpan = Z .nodes * nodeSpan
+
+  -- a byte for each summary (paper: a known pair): its routine, its root and its state
+  unfoldable pub summaries : ℕ
+  summaries = Z .routines * Z .states * Z .states
+
+  -- so many iterations (paper: takings) are always enough: one for each configuration, and one more for each summary
+  unfoldable pub enoughIterations : ℕ
+  enoughIterations = numbers Z * (1 + summaries)

@@ -4,17 +4,18 @@ use mathlib.Core.Path.{_≡_}
 use mathlib.Core.Bool.{true}
 use mathlib.Core.Option.{Option, none, some}
 use mathlib.Core.List.{List, [], _∷_}
-use Rattle.program.specs.Sizes.{marksSize}
+use Rattle.program.specs.declared.sizes.Sizes.{Sizes}
+use Rattle.program.specs.Chosen.{numbers}
 use Rattle.automaton.specs.Automaton.{isRejecting}
 use Rattle.program.specs.Program.{Program}
 use Rattle.reach.specs.Configurations.{routineOf, nodeOf, rootOf, stateOf}
 use Rattle.reach.specs.Runs.{Occurs}
 
 -- the number of a configuration that occurs, its state a rejecting one now
-pub record Violation (p : Program) (i : ℕ) : Type 0 where
-  pub inside : i < marksSize
-  pub occurs : Occurs p (routineOf i) (nodeOf i) (rootOf i) (stateOf i)
-  pub rejects : isRejecting (p .automaton) (stateOf i) ≡ true
+pub record Violation (Z : Sizes) (p : Program) (i : ℕ) : Type 0 where
+  pub inside : i < numbers Z
+  pub occurs : Occurs p (routineOf Z i) (nodeOf Z i) (rootOf Z i) (stateOf Z i)
+  pub rejects : isRejecting (p .automaton) (stateOf Z i) ≡ true
 
 -- numbers that ascend: each is at least low, and the next is above it
 pub data Ascends : ℕ → List ℕ → Type 0 where

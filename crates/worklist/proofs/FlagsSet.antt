@@ -5,12 +5,14 @@ use mathlib.Core.Bool.{Bool, true, false, cond}
 use mathlib.Core.List.{List}
 use native.Mathlib.Omega.{arith}
 use native.Mathlib.Decide.{ℕ-discrete}
-use lib.ListN.{length, set, replicate, length-replicate}
+use lib.ListN.{length, set, take, replicate, length-replicate}
+use lib.Seq.{length-take-le}
 use Rattle.base.specs.Filled.{Filled}
 use Rattle.base.proofs.BytesFilled.{Filling, filling-more, filling-kept}
 use Rattle.base.proofs.SetFlags.{zeros}
 use Rattle.words.specs.Words.{flagsOf}
 use Rattle.words.proofs.FlagsAsked.{no-flags}
+use Rattle.words.proofs.FlagsOfPart.{take-at}
 
 -- at i the flags below are set where their numbers meet the test, and the others are not set; there are n words
 pub record Setting (t : ℕ → Bool) (n : ℕ) (words : List ℕ) (i : ℕ) : Type 0 where
@@ -48,3 +50,11 @@ module _ {t : ℕ → Bool} {n : ℕ} {words : List ℕ} {i : ℕ} (s : Setting 
               | no e ↦ s .filling .left j (omega arith) ∙ zeros (n * 64) j ∙ rw (h j (omega arith) k)
             ];
       }
+
+-- the first m flags, once they are set
+pub setting-first : {t : ℕ → Bool} {n : ℕ} {words : List ℕ} {i : ℕ} (m : ℕ) → m ≤ i → m ≤ n * 64 → Setting t n words i → Filled (λ j. cond (t j) 1 0) m (take m (flagsOf words))
+setting-first {words = words} m h k s =
+    record {
+      len = length-take-le m (flagsOf words) (omega (arith, s .filling .len));
+      byte = λ j l. take-at m (flagsOf words) j l ∙ s .filling .written j (omega arith);
+    }

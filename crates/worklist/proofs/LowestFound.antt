@@ -1,5 +1,5 @@
 -- The search for the lowest pending number.
-use Prim.Native.Nat.{ℕ, zero, suc, _+_, _<_}
+use Prim.Native.Nat.{ℕ, zero, suc, _+_, _≤_, _<_}
 use mathlib.Core.Path.{_≡_, refl, sym, ap, _∙_}
 use mathlib.Core.Logic.{_↔_}
 use mathlib.Core.Bool.{Bool, true, false, cond}
@@ -7,11 +7,12 @@ use mathlib.Core.Option.{some, none, Option·none-ne-some}
 use mathlib.Core.List.{List, [], _∷_}
 use native.Mathlib.Omega.{arith}
 use lib.Dec.{ltb, leb}
-use lib.ListN.{length, getD}
+use lib.ListN.{length, getD, take}
+use lib.Seq.{length-take-le}
 use borrow.Author.Tests.{eq-eqb, ne-eqb, ltb-true, ltb-false, le-ltb, leb-true, le-leb}
-use Rattle.program.specs.Sizes.{marksSize}
 use Rattle.reach.specs.Worklist.{lowest}
 use Rattle.words.specs.Words.{FirstFlag}
+use Rattle.words.proofs.FlagsOfPart.{take-at}
 use Rattle.worklist.specs.Parts.{within}
 
 found-at : (l : List ℕ) (x r : ℕ) → ((j : ℕ) → j < r → getD l j 0 ≡ 0) → r < length l → (getD l r 0 ≡ 0 → ⊥) → lowest l x ≡ some (x + r)
@@ -27,26 +28,31 @@ unfolding lowest
 not-found [] x z = refl
 not-found (b ∷ l) x z = rw (lowest, eq-eqb b 0 (z 0 (omega arith))) (not-found l (x + 1) (λ j i. z (suc j) (omega arith)))
 
--- the first flag that is set is the lowest number that is pending
-pub first-lowest : (l : List ℕ) (r : ℕ) → length l ≡ marksSize → FirstFlag l r → lowest l 0 ≡ within marksSize r
-first-lowest l r size f = go (ltb r marksSize) refl
+-- the first flag that is set is the lowest number that is pending, of the first n
+pub first-lowest : (l : List ℕ) (n r : ℕ) → n ≤ length l → FirstFlag l r → lowest (take n l) 0 ≡ within n r
+first-lowest l n r size f = go (ltb r n) refl
   where
-    go : (b : Bool) → ltb r marksSize ≡ b → lowest l 0 ≡ cond b (some r) none
+    len : length (take n l) ≡ n
+    len = length-take-le n l size
+
+    go : (b : Bool) → ltb r n ≡ b → lowest (take n l) 0 ≡ cond b (some r) none
     go true e =
-        let h = ltb-true r marksSize e in
+        let h = ltb-true r n e in
         let k = f .found (omega arith) in
-        found-at l 0 r (f .below .none-below) (omega arith) (λ z. omega arith) ∙ (let y : 0 + r ≡ r = omega arith in ap some y)
+        let y : 0 + r ≡ r = omega arith in
+        found-at (take n l) 0 r (λ j i. take-at n l j (omega arith) ∙ f .below .none-below j i) (omega (arith, len))
+        (λ z. omega (arith, take-at n l r h)) ∙ ap some y
     go false e =
-        let h = ltb-false r marksSize e in
-        not-found l 0 (λ j i. f .below .none-below j (omega arith))
+        let h = ltb-false r n e in
+        not-found (take n l) 0 (λ j i. take-at n l j (omega (arith, len)) ∙ f .below .none-below j (omega (arith, len)))
 
 -- nothing is pending exactly when what was found is past the end
-pub done-is : (l : List ℕ) (r : ℕ) → lowest l 0 ≡ within marksSize r → (leb marksSize r ≡ true) ↔ (lowest l 0 ≡ none)
-done-is l r e = (
-  λ h. e ∙ rw (le-ltb r marksSize (leb-true marksSize r h)),
-  λ h. le-leb marksSize r (ltb-false r marksSize (go (ltb r marksSize) refl (sym h ∙ e))),
+pub done-is : (l : List ℕ) (n r : ℕ) → lowest l 0 ≡ within n r → (leb n r ≡ true) ↔ (lowest l 0 ≡ none)
+done-is l n r e = (
+  λ h. e ∙ rw (le-ltb r n (leb-true n r h)),
+  λ h. le-leb n r (ltb-false r n (go (ltb r n) refl (sym h ∙ e))),
 )
   where
-    go : (t : Bool) → ltb r marksSize ≡ t → none ≡ cond t (some r) none → ltb r marksSize ≡ false
-    go true h n = absurd (Option·none-ne-some r n)
-    go false h n = h
+    go : (t : Bool) → ltb r n ≡ t → none ≡ cond t (some r) none → ltb r n ≡ false
+    go true h x = absurd (Option·none-ne-some r x)
+    go false h x = h

@@ -7,7 +7,8 @@ use mathlib.Core.List.{List}
 use native.Mathlib.Omega.{arith}
 use native.Mathlib.Decide.{ℕ-discrete}
 use lib.Dec.{eqb, ltb, leb}
-use lib.ListN.{length, getD, take, replicate, List·getD-eq-default}
+use lib.ListN.{length, getD, take, replicate, length-take, List·getD-eq-default}
+use lib.Seq.{length-take-le}
 use borrow.Author.Tests.{eqb-false, ne-eqb, lt-ltb, le-leb, ltb-true, leb-true}
 use Rattle.automaton.specs.NextStates.{Answers}
 use Rattle.index.specs.Index.{Indexed}
@@ -15,8 +16,9 @@ use Rattle.program.specs.Program.{Program}
 use Rattle.program.specs.WellFormed.{WellFormed}
 use Rattle.program.specs.Decoded.{programOf}
 use Rattle.program.specs.declared.DecodedProgram.{DecodedProgram}
-use Rattle.program.specs.Sizes.{maxEdges, marksSize}
-use Rattle.reach.specs.Sizes.{enoughIterations}
+use Rattle.program.specs.Sizes.{maxEdges, marksMost}
+use Rattle.reach.specs.Sizes.{enoughIterations, summaries}
+use Rattle.reach.specs.Ranged.{Sized}
 use Rattle.reach.specs.Configurations.{nodeOf}
 use Rattle.reach.specs.Reachable.{Derivable, Any}
 use Rattle.reach.specs.Worklist.{Worklist}
@@ -25,109 +27,125 @@ use Rattle.base.proofs.SetFlags.{on-lt}
 use Rattle.reach.proofs.FollowingFromClosed.{Awaits, awaits-shows}
 use Rattle.words.specs.Words.{flagsOf, NoneBelow}
 use Rattle.words.proofs.FlagsAsked.{flag-small}
+use Rattle.words.proofs.FlagsOfPart.{take-at}
 use Rattle.marking.specs.Parts.{pendingWords, worklist}
 use Rattle.worklist.specs.Parts.{isFirst, Awaited, Learnt, followed, Begun, Followable}
 use Rattle.worklist.proofs.FlagsSet.{Setting, setting-none, setting-all}
 use Rattle.worklist.proofs.RoutinePart.{table-edges}
 use Rattle.worklist.proofs.SummariesKnown.{exit-known, exit-marked}
+use Rattle.program.specs.declared.sizes.Sizes.{Sizes}
+use Rattle.reach.specs.Configurations.{Usable}
 
--- ---- the flag of a number
+take-small : (n : ℕ) (ws : List ℕ) (i : ℕ) → getD (take n (flagsOf ws)) i 0 ≤ 1
+take-small n ws i =
+    elim (ℕ-discrete (suc i - n) 0) [
+      | yes e ↦ rw (take-at n (flagsOf ws) i (omega arith)) (flag-small ws i)
+      | no e ↦
+          let z : getD (take n (flagsOf ws)) i 0 ≡ 0 = List·getD-eq-default (take n (flagsOf ws)) 0 (omega (arith, length-take n (flagsOf ws))) in
+          omega (arith, z)
+    ]
 
-module _ (low high mark i : ℕ) where
-  pub first-inside : low ≤ i → i < high → isFirst low high mark i ≡ not (eqb (nodeOf i) 1) && not (eqb mark 0)
-  first-inside l h = rw (le-leb low i l, lt-ltb i high h)
+module _ (Z : Sizes) (U : Usable Z) where
+  -- ---- the flag of a number
 
-  first-outside : ¬ (Between low high i) → isFirst low high mark i ≡ false
-  first-outside ne = go (leb low i) refl (ltb i high) refl
-    where
-      go : (a : Bool) → leb low i ≡ a → (b : Bool) → ltb i high ≡ b → a && b && (not (eqb (nodeOf i) 1) && not (eqb mark 0)) ≡ false
-      go true x true y = absurd (ne (leb-true low i x, ltb-true i high y))
-      go true x false y = refl
-      go false x b y = refl
+  module _ (low high mark i : ℕ) where
+    pub first-inside : low ≤ i → i < high → isFirst Z low high mark i ≡ not (eqb (nodeOf Z i) 1) && not (eqb mark 0)
+    first-inside l h = rw (le-leb low i l, lt-ltb i high h)
 
-  -- what is pending is marked, and no exit
-  is-first : _≢_ {A = ℕ} (cond (isFirst low high mark i) 1 0) 0 → (mark ≢ 0) × (nodeOf i ≢ 1)
-  is-first h = go (leb low i && ltb i high) (eqb (nodeOf i) 1) (eqb mark 0) refl refl h
-    where
-      go : (a b c : Bool) → eqb (nodeOf i) 1 ≡ b → eqb mark 0 ≡ c → _≢_ {A = ℕ} (cond (a && (not b && not c)) 1 0) 0 → (mark ≢ 0) × (nodeOf i ≢ 1)
-      go true false false x y h = (eqb-false mark 0 y, eqb-false (nodeOf i) 1 x)
-      go true false true x y h = absurd (h refl)
-      go true true c x y h = absurd (h refl)
-      go false b c x y h = absurd (h refl)
+    first-outside : ¬ (Between low high i) → isFirst Z low high mark i ≡ false
+    first-outside ne = go (leb low i) refl (ltb i high) refl
+      where
+        go : (a : Bool) → leb low i ≡ a → (b : Bool) → ltb i high ≡ b → a && b && (not (eqb (nodeOf Z i) 1) && not (eqb mark 0)) ≡ false
+        go true x true y = absurd (ne (leb-true low i x, ltb-true i high y))
+        go true x false y = refl
+        go false x b y = refl
 
--- ---- the flags, set from low up to high
+    -- what is pending is marked, and no exit
+    is-first : _≢_ {A = ℕ} (cond (isFirst Z low high mark i) 1 0) 0 → (mark ≢ 0) × (nodeOf Z i ≢ 1)
+    is-first h = go (leb low i && ltb i high) (eqb (nodeOf Z i) 1) (eqb mark 0) refl refl h
+      where
+        go : (a b c : Bool) → eqb (nodeOf Z i) 1 ≡ b → eqb mark 0 ≡ c → _≢_ {A = ℕ} (cond (a && (not b && not c)) 1 0) 0 → (mark ≢ 0) × (nodeOf Z i ≢ 1)
+        go true false false x y h = (eqb-false mark 0 y, eqb-false (nodeOf Z i) 1 x)
+        go true false true x y h = absurd (h refl)
+        go true true c x y h = absurd (h refl)
+        go false b c x y h = absurd (h refl)
 
-module _ (low high : ℕ) (marks : List ℕ) where
-  abbrev pub awaits : ℕ → Bool
-  awaits i = isFirst low high (getD marks i 0) i
+  -- ---- the flags, set from low up to high
 
-  pub await-start : Setting awaits pendingWords (replicate pendingWords 0) low
-  await-start = setting-none awaits pendingWords low (λ j h. first-outside low high (getD marks j 0) j (λ b. omega (arith, b .0)))
+  module _ (low high : ℕ) (marks : List ℕ) where
+    abbrev pub awaits : ℕ → Bool
+    awaits i = isFirst Z low high (getD marks i 0) i
 
-  pub await-end : (words : List ℕ) {i : ℕ} → Setting awaits pendingWords words i → high ≤ i → Awaited low high marks words
-  await-end words s h =
-      record { flags = setting-all s (λ j k l. first-outside low high (getD marks j 0) j (λ b. omega (arith, b .1))) }
+    pub await-start : Setting awaits pendingWords (replicate pendingWords 0) low
+    await-start = setting-none awaits pendingWords low (λ j h. first-outside low high (getD marks j 0) j (λ b. omega (arith, b .0)))
 
-  -- nothing below is pending
-  pub none-under : {pending : List ℕ} → Awaited low high marks pending → NoneBelow (flagsOf pending) low
-  none-under {pending} pe =
-      record {
-        none-below = λ j h.
-            elim (ℕ-discrete (suc j - marksSize) 0) [
-              | yes e ↦ pe .flags .byte j (omega arith) ∙ rw (first-outside low high (getD marks j 0) j (λ b. omega (arith, b .0)))
-              | no e ↦ let z : length (flagsOf pending) ≤ j = omega (arith, pe .flags .len) in List·getD-eq-default (flagsOf pending) 0 z
-            ];
-      }
+    pub await-end : (words : List ℕ) {i : ℕ} → Setting awaits pendingWords words i → high ≤ i → Awaited Z low high marks words
+    await-end words s h =
+        record { flags = setting-all s (λ j k l. first-outside low high (getD marks j 0) j (λ b. omega (arith, b .1))) }
 
--- ---- what is pending at the start
+    -- nothing below is pending
+    pub none-under : {pending : List ℕ} → Awaited Z low high marks pending → NoneBelow (flagsOf pending) low
+    none-under {pending} pe =
+        record {
+          none-below = λ j h.
+              elim (ℕ-discrete (suc j - marksMost) 0) [
+                | yes e ↦ pe .flags .byte j (omega arith) ∙ rw (first-outside low high (getD marks j 0) j (λ b. omega (arith, b .0)))
+                | no e ↦ let z : length (flagsOf pending) ≤ j = omega (arith, pe .flags .len) in List·getD-eq-default (flagsOf pending) 0 z
+              ];
+        }
 
-module _ {p : Program} {steps index next marks pending known : List ℕ} {low high : ℕ} (r : Followable p steps next low high marks)
-    (ix : Indexed steps index) (kn : Learnt marks known) (pe : Awaited low high marks pending) where
-  abbrev s : Worklist
-  s = worklist marks pending known 0
+  -- ---- what is pending at the start
 
-  starts : Awaits low high s
-  starts =
-      let c = r .closed in
-      record {
-        shape = record {
-          marks-length = c .marks-length;
-          pending-length = pe .flags .len;
-          known-length = kn .flags .len;
-          marks-bits = c .marks-bits;
-          pending-bits = flag-small pending;
-          known-bits = flag-small known;
-        };
-        woken = λ {j} o b n.
-            let l : j < marksSize = omega (arith, c .marks-length, on-lt marks j o) in
-            let e : getD (flagsOf pending) j 0 ≡ 1 = pe .flags .byte j l ∙ rw (first-inside low high (getD marks j 0) j (b .0) (b .1), ne-eqb (nodeOf j) 1 n, ne-eqb (getD marks j 0) 0 (o .on)) in
-            record { on = λ z. omega (arith, e) };
-        waits = λ {j} o.
-            let l : j < marksSize = omega (arith, pe .flags .len, on-lt (flagsOf pending) j o) in
-            let x = is-first low high (getD marks j 0) j (λ z. o .on (pe .flags .byte j l ∙ z)) in
-            (record { on = x .0 }, x .1);
-        learnt = exit-known marks kn;
-        known = exit-marked marks kn;
-      }
+  module _ {p : Program} {steps index next marks pending known : List ℕ} {low high : ℕ} (r : Followable Z p steps next low high marks)
+      (ix : Indexed steps index) (kn : Learnt Z marks known) (pe : Awaited Z low high marks pending) where
+    abbrev s : Worklist
+    s = worklist Z marks pending known 0
 
-  -- ---- following comes to its end, with what follows from the marks
+    many : length marks ≤ length (flagsOf pending)
+    many = omega (arith, r .closed .marks-length, r .sized .admitted .product, pe .flags .len)
 
-  pub part-begun : Begun p steps index next marks pending known
-  part-begun = record {
-    tables = record { well-formed = r .well-formed; edges = r .edges; indexed = ix; answers = r .answers };
-    shape = starts .shape;
-  }
+    starts : Awaits Z U low high s
+    starts =
+        let c = r .closed in
+        record {
+          shape = record {
+            marks-length = c .marks-length;
+            pending-length = length-take-le (length marks) (flagsOf pending) many ∙ c .marks-length;
+            known-length = kn .flags .len;
+            marks-bits = c .marks-bits;
+            pending-bits = take-small (length marks) pending;
+            known-bits = take-small (summaries Z) known;
+          };
+          woken = λ {j} o b n.
+              let l : j < length marks = on-lt marks j o in
+              let e : getD (take (length marks) (flagsOf pending)) j 0 ≡ 1 = take-at (length marks) (flagsOf pending) j l ∙ pe .flags .byte j (omega (arith, many, pe .flags .len)) ∙ rw (first-inside low high (getD marks j 0) j (b .0) (b .1), ne-eqb (nodeOf Z j) 1 n, ne-eqb (getD marks j 0) 0 (o .on)) in
+              record { on = λ z. omega (arith, e) };
+          waits = λ {j} o.
+              let l : j < length marks = omega (arith, on-lt (take (length marks) (flagsOf pending)) j o, length-take (length marks) (flagsOf pending)) in
+              let x = is-first low high (getD marks j 0) j (λ z. o .on (take-at (length marks) (flagsOf pending) j l ∙ pe .flags .byte j (omega (arith, many, pe .flags .len)) ∙ z)) in
+              (record { on = x .0 }, x .1);
+          learnt = exit-known Z U marks kn;
+          known = exit-marked Z U marks kn;
+        }
 
-  pub part-shows : {marks′ : List ℕ} (pending′ known′ : List ℕ) {n : ℕ} → worklist marks′ pending′ known′ n ≡ followed enoughIterations p marks pending known
-      → Shows (Derivable p (Marked marks) Any) marks′
-  part-shows pending′ known′ e =
-      subst (Shows (Derivable p (Marked marks) Any)) (sym (ap (λ (t : Worklist). t .marks) e))
-      (awaits-shows p (r .well-formed) low high s (r .closed) starts)
+    -- ---- following comes to its end, with what follows from the marks
 
--- ---- all edges of a program, as the part of the table that is in use
+    pub part-begun : Begun Z p steps index next marks pending known
+    part-begun = record {
+      tables = record { well-formed = r .well-formed; ranged = r .sized .ranged; edges = r .edges; indexed = ix; answers = r .answers };
+      shape = starts .shape;
+    }
 
-pub all-edges : (d : DecodedProgram) → length (d .edges .keys) ≡ maxEdges → {u : ℕ} → u ≡ min (d .edges .count) maxEdges → WellFormed (programOf d)
-    → {next : List ℕ} → Answers (programOf d .automaton) (programOf d .routines) next → {low high : ℕ} {marks : List ℕ} → ClosedBut (programOf d) low high marks
-    → Followable (programOf d) (take u (d .edges .keys)) next low high marks
-all-edges d room e w a c =
-    record { well-formed = w; edges = table-edges d room e; answers = a; closed = c }
+    pub part-shows : {marks′ : List ℕ} (pending′ known′ : List ℕ) {n : ℕ} → worklist Z marks′ pending′ known′ n ≡ followed Z (enoughIterations Z) p marks pending known
+        → Shows Z (Derivable p (Marked Z marks) Any) marks′
+    part-shows pending′ known′ e =
+        subst (Shows Z (Derivable p (Marked Z marks) Any)) (sym (ap (λ (t : Worklist). t .marks) e))
+        (awaits-shows Z U p (r .sized .ranged) low high s (r .closed) starts)
+
+  -- ---- all edges of a program, as the part of the table that is in use
+
+  pub all-edges : (d : DecodedProgram) → length (d .edges .keys) ≡ maxEdges → {u : ℕ} → u ≡ min (d .edges .count) maxEdges → WellFormed (programOf d) → Sized Z (programOf d)
+      → {next : List ℕ} → Answers (programOf d .automaton) (programOf d .routines) next → {low high : ℕ} {marks : List ℕ} → ClosedBut Z (programOf d) low high marks
+      → Followable Z (programOf d) (take u (d .edges .keys)) next low high marks
+  all-edges d room e w z a c =
+      record { well-formed = w; sized = z; edges = table-edges d room e; answers = a; closed = c }

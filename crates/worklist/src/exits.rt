@@ -1,11 +1,13 @@
 // The summaries on a sheet of marks are those of its marked exits.
 use marking::KNOWN_WORDS;
+use program::sizes::Sizes;
 use reach::configuration::exit_at;
-use reach::spans::SUMMARIES_SIZE;
+use reach::spans::summary_count;
 use words::set_at;
 ghost use mathlib.Core.Path.{_≡_};
 ghost use lib.ListN.{length};
-ghost use Rattle.program.specs.Sizes.{marksSize};
+ghost use Rattle.program.specs.Chosen.{numbers, Admitted};
+ghost use Rattle.reach.specs.Configurations.{Usable};
 ghost use Rattle.worklist.specs.Parts.{Learnt};
 
 // A bit for each summary: whether its exit is marked.
@@ -14,14 +16,15 @@ pub struct Summaries {
 }
 
 // The caller has measured the marks (refusal 9): hence the `requires`.
-pub fn summaries_of(marks: &[u8]) -> Summaries
-    requires { ⌜ length (now marks) ≡ marksSize ⌝ }
-    ensures { λ r. ⌜ Learnt (now (marks .entry)) (r .words) ⌝ }
+pub fn summaries_of(z: Sizes, marks: &[u8]) -> Summaries
+    requires { ⌜ Usable z × Admitted z × (length (now marks) ≡ numbers z) ⌝ }
+    ensures { λ r. ⌜ Learnt z (now (marks .entry)) (r .words) ⌝ }
 {
+    let count = summary_count(z);
     let mut words = [0u64; KNOWN_WORDS];
     let mut i: usize = 0;
-    while i < SUMMARIES_SIZE {
-        let exit = exit_at(i);
+    while i < count {
+        let exit = exit_at(z, i);
         if marks[exit] != 0 {
             set_at(&mut words, i);
         }

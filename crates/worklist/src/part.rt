@@ -5,8 +5,9 @@ use base::flags::clear;
 use index::index_of;
 use marking::PENDING_WORDS;
 use program::edges::first_key;
+use program::sizes::Sizes;
 use reach::configuration::parts_of;
-use reach::spans::ENOUGH_ITERATIONS;
+use reach::spans::enough_iterations;
 use tables::first_from;
 use words::set_at;
 ghost use mathlib.Core.Path.{_≡_};
@@ -14,9 +15,10 @@ ghost use mathlib.Core.Bool.{not, _&&_};
 ghost use Prim.Native.Nat.{_≤_, _<_};
 ghost use lib.Dec.{eqb};
 ghost use lib.ListN.{length};
-ghost use Rattle.program.specs.Sizes.{maxEdges, marksSize};
+ghost use Rattle.program.specs.Sizes.{maxEdges};
+ghost use Rattle.program.specs.Chosen.{numbers, Admitted};
 ghost use Rattle.program.specs.Program.{Program};
-ghost use Rattle.reach.specs.Configurations.{nodeOf, none-set};
+ghost use Rattle.reach.specs.Configurations.{Usable, nodeOf, none-set};
 ghost use Rattle.reach.specs.Reachable.{Derivable, Any};
 ghost use Rattle.reach.specs.Marks.{Marked, Shows};
 ghost use Rattle.worklist.specs.Parts.{Awaited, FirstOf, Followable};
@@ -36,24 +38,24 @@ pub struct Pending {
 }
 
 // Whether a number with this mark is to be taken at the start: where it is marked, and no exit.
-fn is_first(mark: u8, i: usize) -> bool
-    requires { ⌜ i < marksSize ⌝ }
-    ensures { λ r. ⌜ r ≡ not (eqb (nodeOf i) 1) && not (eqb mark 0) ⌝ }
+fn is_first(z: Sizes, mark: u8, i: usize) -> bool
+    requires { ⌜ Usable z × (i < numbers z) ⌝ }
+    ensures { λ r. ⌜ r ≡ not (eqb (nodeOf z i) 1) && not (eqb mark 0) ⌝ }
 {
-    let c = parts_of(i);
+    let c = parts_of(z, i);
     !(c.node == 1) & !(mark == 0)
 }
 
 // The marked configurations of the numbers from low up to high are pending, but for the exits: these are known. Nothing
 // else is.
-fn await_between(marks: &[u8], low: usize, high: usize) -> Pending
-    requires { ⌜ (length (now marks) ≡ marksSize) × (high ≤ marksSize) ⌝ }
-    ensures { λ r. ⌜ Awaited low high (now (marks .entry)) (r .words) ⌝ }
+fn await_between(z: Sizes, marks: &[u8], low: usize, high: usize) -> Pending
+    requires { ⌜ Usable z × Admitted z × (length (now marks) ≡ numbers z) × (high ≤ numbers z) ⌝ }
+    ensures { λ r. ⌜ Awaited z low high (now (marks .entry)) (r .words) ⌝ }
 {
     let mut words = [0u64; PENDING_WORDS];
     let mut i = low;
     while i < high {
-        if is_first(marks[i], i) {
+        if is_first(z, marks[i], i) {
             set_at(&mut words, i);
         }
         i = i + 1;
@@ -66,6 +68,7 @@ fn await_between(marks: &[u8], low: usize, high: usize) -> Pending
 // something to follow from the rest, it would be missed: hence the `requires`. The lent working buffer is cleared: what
 // is pending is kept as bits here.
 pub fn follow_part(
+    z: Sizes,
     steps: &[u32],
     next: &[u16],
     marks: &mut [u8],
@@ -73,21 +76,23 @@ pub fn follow_part(
     low: usize,
     high: usize,
 )
-    requires { ⌜ (length (now steps) ≤ maxEdges) × (length (now work) ≡ marksSize) × (high ≤ marksSize) ⌝ }
-    requires { ⌜ ((p : Program) × Followable p (now steps) (now next) low high (now marks)) ⌝ }
+    requires { ⌜ (length (now steps) ≤ maxEdges) × (length (now work) ≡ numbers z) × (high ≤ numbers z) ⌝ }
+    requires { ⌜ ((p : Program) × Followable z p (now steps) (now next) low high (now marks)) ⌝ }
     ensures { λ _. ⌜ ((p : Program)
-        → Followable p (now (steps .entry)) (now (next .entry)) low high (now (marks .entry))
-        → Shows (Derivable p (Marked (now (marks .entry))) Any) (now (marks .exit)))
-        × (now (work .exit) ≡ none-set) ⌝ }
+        → Followable z p (now (steps .entry)) (now (next .entry)) low high (now (marks .entry))
+        → Shows z (Derivable p (Marked z (now (marks .entry))) Any) (now (marks .exit)))
+        × (now (work .exit) ≡ none-set z) ⌝ }
 {
     let edges = index_of(steps);
     let index = edges.places;
-    let exits = summaries_of(marks);
+    let exits = summaries_of(z, marks);
     let mut known = exits.words;
-    let awaited = await_between(marks, low, high);
+    let awaited = await_between(z, marks, low, high);
     let mut pending = awaited.words;
     clear(work);
+    let limit = enough_iterations(z);
     let _iterations = follow_pending(
+        z,
         steps,
         &index,
         next,
@@ -95,6 +100,6 @@ pub fn follow_part(
         &mut pending,
         &mut known,
         low,
-        ENOUGH_ITERATIONS,
+        limit,
     );
 }

@@ -1,5 +1,4 @@
 -- `marking::mark` meets its contract.
-use Rattle.words.proofs.FlagsAsked.{flags-length}
 use Rattle.marking.proofs.StepsMark.{mark-new, mark-old, mark-out, set-lowers}
 use native.Mathlib.Omega.{arith}
 use borrow.Author.Needs.{needs}
@@ -28,7 +27,7 @@ returns-3 c =
     let z = c .before .before .before in
     let m = z .args .marks .now in
     let w = z .args .pending .now in
-    (mark-out m w (z .args .at) (omega arith) (omega (arith, flags-length w)), λ h. h)
+    (mark-out m w (z .args .at) (omega arith), λ h. h)
 
 pub mark-spec : {M : Type 1} → statement M
 mark-spec =

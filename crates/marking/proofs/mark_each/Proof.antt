@@ -1,5 +1,4 @@
 -- `marking::mark_each` meets its contract. The loop's invariant: the states from `s` on are left to mark.
-use Rattle.automaton.specs.Sizes.{maxStates}
 use Rattle.marking.specs.Parts.{markState}
 use Rattle.marking.proofs.StepsMark.{Looping, loop-start, loop-turn, loop-skip, loop-idle}
 use Rattle.marking.proofs.StatesTaken.{Leaving, leaving-all, leaving-next, passed-states, found-state, state-marked, none-marked}
@@ -11,11 +10,11 @@ use Rattle.marking.proofs.mark_each.Statement.{statement}
 use Rattle.marking.proofs.mark_each.Tie as tie
 
 abbrev Inv-loop : tie.InvT-loop
-Inv-loop set marks₀ pending₀ base low lowest₀ left₀ s₀ marks pending lowest left s =
-    Looping (markState set base) maxStates marks₀ pending₀ low s marks pending lowest × Leaving set s left
+Inv-loop states set marks₀ pending₀ base low lowest₀ left₀ s₀ marks pending lowest left s =
+    Looping (markState set base) states marks₀ pending₀ low s marks pending lowest × Leaving set s left
 
 abbrev μ-loop : tie.MeasureT-loop
-μ-loop set marks₀ pending₀ base low lowest₀ left₀ s₀ marks pending lowest left s = maxStates - s
+μ-loop states set marks₀ pending₀ base low lowest₀ left₀ s₀ marks pending lowest left s = states - s
 
 -- the places before
 abbrev start : tie.At-loop Inv-loop μ-loop → tie.Start Inv-loop μ-loop
@@ -25,32 +24,27 @@ abbrev sought : tie.After-slice-known4 Inv-loop μ-loop → tie.After-lowest-sta
 sought c = c .before .before .before .before .before .before .before .before
 
 -- the lowest state of what is left has a bit
-found : (c : tie.After-lowest-state Inv-loop μ-loop) → c .lowest-state .result < 16
+found : (c : tie.After-lowest-state Inv-loop μ-loop) → c .lowest-state .result < 64
 found c = c .lowest-state .ensures .found (c .before .loop-test .taken) .1
 
 loop-holds : tie.Need-loop-holds Inv-loop μ-loop
 loop-holds c =
     let z = c .before .before in
-    (loop-start _ maxStates _ _ _ (z .pre .1 .0) (z .pre .1 .1), leaving-all (z .args .set))
+    (loop-start _ (z .args .states) _ _ _, leaving-all (z .args .set))
 
 add-if1 : tie.Need-add-if1 Inv-loop μ-loop
 add-if1 c = let p = c .before .before in omega (arith, found c, p .loop .inv .0 .within)
 
 same-length : tie.Need-same-length Inv-loop μ-loop
-same-length c = let p = c .before .before .before in p .loop .inv .0 .marks-length ∙ sym (start p .pre .1 .0)
+same-length c = let p = c .before .before .before in p .loop .inv .0 .marks-length
 
 same-length-2 : tie.Need-same-length-2 Inv-loop μ-loop
-same-length-2 c = let p = c .before .before .before in p .loop .inv .0 .pending-length ∙ sym (start p .pre .1 .1)
+same-length-2 c = let p = c .before .before .before in p .loop .inv .0 .pending-length
 
 returns : tie.Need-returns Inv-loop μ-loop
 returns c =
     let p = c .before .before .before in
     loop-idle (p .loop .inv .0) (passed-states (p .loop .inv .1) (c .before .lowest-state .ensures) _ (c .if1 .taken))
-
-mark-requires : tie.Need-mark-requires Inv-loop μ-loop
-mark-requires c κs =
-    let p = c .before .before .before .before .before in
-    (p .loop .inv .0 .marks-length, p .loop .inv .0 .pending-length)
 
 shr-left : tie.Need-shr-left Inv-loop μ-loop
 shr-left c = omega (arith, found (sought c))
@@ -72,22 +66,22 @@ loop-again c =
     )
 
 same-length-3 : tie.Need-same-length-3 Inv-loop μ-loop
-same-length-3 c = c .before .loop .inv .0 .marks-length ∙ sym (start (c .before) .pre .1 .0)
+same-length-3 c = c .before .loop .inv .0 .marks-length
 
 same-length-4 : tie.Need-same-length-4 Inv-loop μ-loop
-same-length-4 c = c .before .loop .inv .0 .pending-length ∙ sym (start (c .before) .pre .1 .1)
+same-length-4 c = c .before .loop .inv .0 .pending-length
 
 returns-2 : tie.Need-returns-2 Inv-loop μ-loop
 returns-2 c = let p = c .before in loop-idle (p .loop .inv .0) (none-marked (p .loop .inv .1) (c .loop-test .left) _ _)
 
 -- the next state is one of the automaton's
-small : (c : tie.After-slice-known4 Inv-loop μ-loop) → sought c .before .before .loop .s + sought c .lowest-state .result < maxStates
+small : (c : tie.After-slice-known4 Inv-loop μ-loop) → sought c .before .before .loop .s + sought c .lowest-state .result < start (sought c .before .before) .args .states
 small c = omega (arith, c .before .before .before .before .before .before .before .if1 .left)
 
 pub mark-each-spec : {M : Type 1} → statement M
 mark-each-spec =
     tie.close
     (tie.spec Inv-loop μ-loop loop-holds (λ c κs. search needs) add-if1 same-length same-length-2 returns
-    (λ c. omega (arith, c .before .before .if1 .left)) (λ c. omega (arith, c .before .before .if1 .left, start (c .before .before .before .before .before) .pre .0))
-    mark-requires (λ c. omega (arith, small c)) shr-left (λ c. omega (arith, small c)) (λ c. omega (arith, small c))
+    (λ c. omega (arith, c .before .before .if1 .left)) (λ c. omega (arith, c .before .before .if1 .left, start (c .before .before .before .before .before) .pre))
+    (λ c κs. search needs) shr-left (λ c. omega (arith, small c)) (λ c. omega (arith, small c))
     loop-less loop-again same-length-3 same-length-4 returns-2)

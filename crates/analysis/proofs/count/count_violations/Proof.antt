@@ -15,10 +15,10 @@ use Rattle.analysis.proofs.count.count_violations.Statement.{statement}
 use Rattle.analysis.proofs.count.count_violations.Tie as tie
 
 abbrev Inv-loop : tie.InvT-loop
-Inv-loop marks rejecting n₀ i₀ n i = (n ≤ i) × ((p : Program) → Rejects (p .automaton) rejecting → Counted (λ l j. length (violationsFrom p l j)) marks n i)
+Inv-loop z marks rejecting n₀ i₀ n i = (n ≤ i) × ((p : Program) → Rejects (p .automaton) rejecting → Counted (λ l j. length (violationsFrom z p l j)) marks n i)
 
 abbrev μ-loop : tie.MeasureT-loop
-μ-loop marks rejecting n₀ i₀ n i = length marks - i
+μ-loop z marks rejecting n₀ i₀ n i = length marks - i
 
 loop-holds : tie.Need-loop-holds Inv-loop μ-loop
 loop-holds c = (omega arith, λ p r. record { total = omega arith })
@@ -28,12 +28,12 @@ loop-again c =
     let p = c .before .before .before in
     let told = c .before .is-violation .ensures in
     ⊎-elim
-    (λ w. rw (w .1) (omega arith, λ q r. counted-one (counts-violations q) (p .loop .inv .1 q r) (omega arith) (sym (told q r) ∙ w .0 .taken)))
-    (λ w. rw (w .1) (omega arith, λ q r. counted-none (counts-violations q) (p .loop .inv .1 q r) (omega arith) (sym (told q r) ∙ w .0 .left)))
+    (λ w. rw (w .1) (omega arith, λ q r. counted-one (counts-violations _ q) (p .loop .inv .1 q r) (omega arith) (sym (told q r) ∙ w .0 .taken)))
+    (λ w. rw (w .1) (omega arith, λ q r. counted-none (counts-violations _ q) (p .loop .inv .1 q r) (omega arith) (sym (told q r) ∙ w .0 .left)))
     (c .if1 .came)
 
 returns : tie.Need-returns Inv-loop μ-loop
-returns c p r = counted-all (counts-violations p) (c .before .loop .inv .1 p r) (c .loop-test .left)
+returns c p r = counted-all (counts-violations _ p) (c .before .loop .inv .1 p r) (c .loop-test .left)
 
 pub count-violations-spec : {M : Type 1} → statement M
 count-violations-spec =

@@ -12,26 +12,26 @@ use Rattle.analysis.proofs.count.first_violation.Statement.{statement}
 use Rattle.analysis.proofs.count.first_violation.Tie as tie
 
 abbrev Inv-loop : tie.InvT-loop
-Inv-loop marks rejecting from i₀ i = (p : Program) → Rejects (p .automaton) rejecting → Sought p marks from i
+Inv-loop z marks rejecting from i₀ i = (p : Program) → Rejects (p .automaton) rejecting → Sought z p marks from i
 
 abbrev μ-loop : tie.MeasureT-loop
-μ-loop marks rejecting from i₀ i = length marks - i
+μ-loop z marks rejecting from i₀ i = length marks - i
 
 loop-holds : tie.Need-loop-holds Inv-loop μ-loop
-loop-holds c p r = sought-none p _ _
+loop-holds c p r = sought-none _ p _ _
 
 returns : tie.Need-returns Inv-loop μ-loop
 returns c p r =
     let told = c .before .is-violation .ensures p r in
-    sought-here (c .before .before .before .loop .inv p r) (omega arith) (omega arith) (sym told ∙ c .if1 .taken)
+    sought-here _ (c .before .before .before .loop .inv p r) (omega arith) (omega arith) (sym told ∙ c .if1 .taken)
 
 loop-again : tie.Need-loop-again Inv-loop μ-loop
 loop-again c p r =
     let told = c .before .is-violation .ensures p r in
-    sought-more (c .before .before .before .loop .inv p r) (omega arith) (sym told ∙ c .if1 .left)
+    sought-more _ (c .before .before .before .loop .inv p r) (omega arith) (sym told ∙ c .if1 .left)
 
 returns-2 : tie.Need-returns-2 Inv-loop μ-loop
-returns-2 c p r = sought-all (c .before .loop .inv p r) (omega arith) (omega arith)
+returns-2 c p r = sought-all _ (c .before .loop .inv p r) (omega arith) (omega arith)
 
 pub first-violation-spec : {M : Type 1} → statement M
 first-violation-spec =

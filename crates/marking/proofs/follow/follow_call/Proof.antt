@@ -1,5 +1,4 @@
 -- `marking::follow::follow_call` meets its contract. The loop's invariant: the roots from `y` on are left to try.
-use Rattle.automaton.specs.Sizes.{maxStates}
 use Rattle.automaton.specs.Automaton.{callOf}
 use Rattle.automaton.specs.NextStates.{setAt}
 use Rattle.marking.specs.Parts.{rootStep}
@@ -15,11 +14,11 @@ use Rattle.marking.proofs.follow.follow_call.Statement.{statement}
 use Rattle.marking.proofs.follow.follow_call.Tie as tie
 
 abbrev Inv-loop : tie.InvT-loop
-Inv-loop next known marks₀ pending₀ base g q low lowest₀ left₀ y₀ marks pending lowest left y =
-    Looping (rootStep next known base g q) maxStates marks₀ pending₀ low y marks pending lowest × Leaving (setAt next q (callOf g)) y left
+Inv-loop z next known marks₀ pending₀ base g q low states lowest₀ left₀ y₀ marks pending lowest left y =
+    Looping (rootStep z next known base g q) (z .states) marks₀ pending₀ low y marks pending lowest × Leaving (setAt next q (callOf g)) y left
 
 abbrev μ-loop : tie.MeasureT-loop
-μ-loop next known marks₀ pending₀ base g q low lowest₀ left₀ y₀ marks pending lowest left y = maxStates - y
+μ-loop z next known marks₀ pending₀ base g q low states lowest₀ left₀ y₀ marks pending lowest left y = z .states - y
 
 -- the place before
 abbrev start : tie.At-loop Inv-loop μ-loop → tie.Start Inv-loop μ-loop
@@ -28,13 +27,13 @@ start p = p .before .before .before .before .before .before
 loop-holds : tie.Need-loop-holds Inv-loop μ-loop
 loop-holds c =
     let z = c .before .before .before .before .before in
-    (loop-start _ maxStates _ _ _ (z .pre .1 .0) (z .pre .1 .1), rw (c .next-after .ensures) (leaving-all _))
+    (loop-start _ (z .args .z .states) _ _ _, rw (c .next-after .ensures) (leaving-all _))
 
 same-length : tie.Need-same-length Inv-loop μ-loop
-same-length c = let p = c .before .before in p .loop .inv .0 .marks-length ∙ sym (start p .pre .1 .0)
+same-length c = let p = c .before .before in p .loop .inv .0 .marks-length
 
 same-length-2 : tie.Need-same-length-2 Inv-loop μ-loop
-same-length-2 c = let p = c .before .before in p .loop .inv .0 .pending-length ∙ sym (start p .pre .1 .1)
+same-length-2 c = let p = c .before .before in p .loop .inv .0 .pending-length
 
 returns : tie.Need-returns Inv-loop μ-loop
 returns c = let p = c .before .before in loop-idle (p .loop .inv .0) (none-followed (p .loop .inv .1) (c .if1 .taken) _ _)
@@ -43,7 +42,7 @@ follow-entry-requires : tie.Need-follow-entry-requires Inv-loop μ-loop
 follow-entry-requires c κs =
     let p = c .before .before .before .before .before in
     let z = start p in
-    ((z .pre .0 .0, z .pre .0 .1, z .pre .0 .2, omega arith), (p .loop .inv .0 .marks-length, p .loop .inv .0 .pending-length))
+    z .pre
 
 loop-again : tie.Need-loop-again Inv-loop μ-loop
 loop-again c =
@@ -54,7 +53,7 @@ loop-again c =
     let k = w .3 in
     rw (w .8, w .9, w .10) (
       loop-turn (p .loop .inv .0) (omega arith) (step-taken _ (leaving-here l (w .0 .taken)) (k .ensures .0))
-          (k .ensures .1) (k .kept .1 .1 .0) (k .kept .1 .1 .1 .0),
+          (k .ensures .1) (k .kept .1 .1 .1 .0) (k .kept .1 .1 .1 .1 .0),
       leaving-half l,
     ))
     (λ w.
@@ -63,10 +62,10 @@ loop-again c =
     (c .if2 .came)
 
 same-length-3 : tie.Need-same-length-3 Inv-loop μ-loop
-same-length-3 c = c .before .loop .inv .0 .marks-length ∙ sym (start (c .before) .pre .1 .0)
+same-length-3 c = c .before .loop .inv .0 .marks-length
 
 same-length-4 : tie.Need-same-length-4 Inv-loop μ-loop
-same-length-4 c = c .before .loop .inv .0 .pending-length ∙ sym (start (c .before) .pre .1 .1)
+same-length-4 c = c .before .loop .inv .0 .pending-length
 
 returns-2 : tie.Need-returns-2 Inv-loop μ-loop
 returns-2 c = loop-end (c .before .loop .inv .0) (omega arith)
@@ -74,5 +73,5 @@ returns-2 c = loop-end (c .before .loop .inv .0) (omega arith)
 pub follow-call-spec : {M : Type 1} → statement M
 follow-call-spec =
     tie.close
-    (tie.spec Inv-loop μ-loop (λ c. search needs) (λ c κs. search needs) loop-holds (λ c. search needs) same-length same-length-2 returns
+    (tie.spec Inv-loop μ-loop (λ c. search needs) (λ c κs. search needs) loop-holds same-length same-length-2 returns
     follow-entry-requires (λ c. search needs) (λ c. search needs) loop-again same-length-3 same-length-4 returns-2)

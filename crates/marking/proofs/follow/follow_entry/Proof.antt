@@ -9,7 +9,7 @@ follow-summaries-requires : tie.Need-follow-summaries-requires
 follow-summaries-requires c κs =
     let first = c .before .before .before .before .before .before in
     let z = first .before .before .before .before .before .before .before .before in
-    (z .pre .0, (first .mark .kept .0 ∙ z .pre .1 .0, first .mark .kept .1 .0 ∙ z .pre .1 .1))
+    z .pre
 
 returns : tie.Need-returns
 returns c =

@@ -14,7 +14,7 @@ returns c =
     let small = followed .before .before .before in
     let called = small .before in
     let e = followed .follow-call .ensures in (
-      label-call _ _ _ _ _ (sym (called .before .before .is-call .ensures) ∙ called .before .if1 .taken)
+      label-call _ _ _ _ _ _ (sym (called .before .before .is-call .ensures) ∙ called .before .if1 .taken)
           (rw (called .called-by .ensures) at (small .if2 .taken)) (rw (called .called-by .ensures) at (e .0)),
       e .1,
     )
@@ -22,7 +22,7 @@ returns c =
 returns-2 : tie.Need-returns-2
 returns-2 c =
     let called = c .before in (
-      label-past _ _ _ _ _ (sym (called .before .before .is-call .ensures) ∙ called .before .if1 .taken)
+      label-past _ _ _ _ _ _ (sym (called .before .before .is-call .ensures) ∙ called .before .if1 .taken)
           (rw (called .called-by .ensures) at (c .if2 .left)),
       λ h. h,
     )
@@ -33,7 +33,7 @@ returns-3 c =
     let placed = marked .before .before .before in
     let action = placed .before in
     let e = marked .mark-each .ensures in (
-      label-action _ _ _ _ _ (sym (action .before .is-call .ensures) ∙ action .if1 .left) (rw (placed .next-after .ensures) at (e .0)),
+      label-action _ _ _ _ _ _ (sym (action .before .is-call .ensures) ∙ action .if1 .left) (rw (placed .next-after .ensures) at (e .0)),
       e .1,
     )
 

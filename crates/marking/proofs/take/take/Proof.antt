@@ -1,6 +1,6 @@
 -- `marking::take::take` meets its contract.
 use Rattle.marking.proofs.TakingOfProcedure.{at-exit, elsewhere, past-lowest}
-use mathlib.Core.Path.{_∙_}
+use native.Mathlib.Omega.{arith}
 use borrow.Author.Needs.{needs}
 use Rattle.marking.proofs.take.take.Statement.{statement}
 use Rattle.marking.proofs.take.take.Tie as tie
@@ -9,7 +9,7 @@ use Rattle.marking.proofs.take.take.Tie as tie
 abbrev cleared : tie.After-struct-known → tie.After-clear-at
 cleared c = c .before .before .before
 
-abbrev parts : tie.After-struct-known → tie.After-parts-of
+abbrev parts : tie.After-struct-known → tie.After-parts-by
 parts c = cleared c .before .before
 
 abbrev start : tie.After-struct-known → tie.Start
@@ -19,7 +19,7 @@ wake-callers-requires : tie.Need-wake-callers-requires
 wake-callers-requires c κs =
     let t = c .before .before .before .before .before .before .before .before in
     let z = start t in
-    ((z .pre .0 .1, parts t .parts-of .ensures .in-range .routine), (z .pre .1 .0, cleared t .clear-at .kept .0 ∙ z .pre .1 .1))
+    (z .pre .3, omega (arith, z .pre .1 .routines, parts t .parts-by .ensures .in-range .routine))
 
 returns : tie.Need-returns
 returns c =
@@ -30,8 +30,8 @@ returns c =
     let f = cleared t .clear-at .ensures in
     let d = c .before .before .before .before .before .before .before .set-at .ensures in
     let e = c .before .before .wake-callers .ensures in (
-      at-exit (a .keys .now) (a .index .now) (a .next .now) (a .marks .now) (a .pending .now) (a .known .now) (a .i) (parts t .parts-of .ensures) f
-          _ (placed .before .if1 .taken) (rw (placed .summary-of .ensures) at d) (e .0),
+      at-exit (a .z) (a .keys .now) (a .index .now) (a .next .now) (a .marks .now) (a .pending .now) (a .known .now) (a .i) (parts t .parts-by .ensures) f
+          _ (placed .before .if1 .taken) (rw (placed .summary-of .ensures .0) at d) (e .0),
       λ h. e .1 (rw f (past-lowest _ (a .i) h)),
     )
 
@@ -39,8 +39,8 @@ follow-edges-requires : tie.Need-follow-edges-requires
 follow-edges-requires c κs =
     let t = c .before .before .before .before in
     let z = start t in
-    let r = parts t .parts-of .ensures .in-range in
-    ((z .pre .0 .1, z .pre .0 .2, r .routine, r .node), (z .pre .1 .0, cleared t .clear-at .kept .0 ∙ z .pre .1 .1))
+    let r = parts t .parts-by .ensures .in-range in
+    (z .pre .3, omega (arith, z .pre .1 .routines, r .routine), omega (arith, z .pre .1 .nodes, r .node), z .pre .1 .states)
 
 returns-2 : tie.Need-returns-2
 returns-2 c =
@@ -51,7 +51,7 @@ returns-2 c =
     let a = z .args in
     let f = cleared t .clear-at .ensures in
     let e = followed .follow-edges .ensures in (
-      elsewhere (a .keys .now) (a .index .now) (a .next .now) (a .marks .now) (a .pending .now) (a .known .now) (a .i) (parts t .parts-of .ensures) f
+      elsewhere (a .z) (a .keys .now) (a .index .now) (a .next .now) (a .marks .now) (a .pending .now) (a .known .now) (a .i) (parts t .parts-by .ensures) f
           (tested .if1 .left) (e .0),
       λ h. e .1 (rw f (past-lowest _ (a .i) h)),
     )

@@ -27,11 +27,11 @@ in-table : (c : tie.After-in-use) → c .in-use .result ≤ length (start c .arg
 in-table c = let r = room (start c) in let u = c .in-use .ensures in omega arith
 
 followable : (c : tie.After-in-use)
-    → Followable (programOf (start c .args .p)) (take (c .in-use .result) (start c .args .p .edges .keys))
+    → Followable (start c .args .z) (programOf (start c .args .p)) (take (c .in-use .result) (start c .args .p .edges .keys))
     (tabled c .next-states .result .sets) (start c .args .low) (start c .args .high) (start c .args .marks .now)
 followable c =
     let z = start c in
-    all-edges (z .args .p) (room z) (c .in-use .ensures) (z .pre .0 .0) (tabled c .next-states .ensures) (z .pre .1)
+    all-edges (z .args .z) (z .pre .0 .1 .usable) (z .args .p) (room z) (c .in-use .ensures) (z .pre .0 .0) (z .pre .0 .1) (tabled c .next-states .ensures) (z .pre .1)
 
 next-states-requires : tie.Need-next-states-requires
 next-states-requires c κs = let z = c .before .before .before .before .before in ranged (programOf (z .args .p)) (z .pre .0 .0)
@@ -50,7 +50,7 @@ follow-part-requires c κs =
     let z = start n in
     let r = room z in
     let l = length-take-le (n .in-use .result) (z .args .p .edges .keys) (in-table n) in
-    ((omega (arith, l, in-table n), z .pre .0 .2, z .pre .0 .1), (_, followable n))
+    ((omega (arith, l, in-table n), z .pre .0 .3, z .pre .0 .2), (_, followable n))
 
 returns : tie.Need-returns
 returns c =

@@ -1,6 +1,6 @@
 -- `worklist::part::follow_part` meets its contract: following starts from these marks, so it ends with what follows from them.
 use Rattle.worklist.proofs.PartAwaited.{none-under, part-begun, part-shows}
-use Rattle.marking.specs.Parts.{pendingWords, knownWords}
+use Rattle.marking.specs.Parts.{pendingWords}
 use Rattle.reach.proofs.MarksCopied.{cleared-is}
 use lib.ListN.{length}
 use mathlib.Core.Path.{_≡_}
@@ -10,7 +10,10 @@ use Rattle.worklist.proofs.part.follow_part.Tie as tie
 
 -- the places before
 abbrev cleared : tie.After-known2 → tie.After-clear
-cleared c = c .before .before .before .before .before .before
+cleared c = c .before .before .before .before .before .before .before
+
+abbrev limited : tie.After-known2 → tie.After-enough-iterations
+limited c = c .before .before .before .before
 
 abbrev awaited : tie.After-known2 → tie.After-await-between
 awaited c = cleared c .before .before .before
@@ -24,16 +27,25 @@ indexed c = learnt c .before .before .before
 abbrev start : tie.After-known2 → tie.Start
 start c = indexed c .before .before .before .before .before
 
+summaries-of-requires : tie.Need-summaries-of-requires
+summaries-of-requires c κs =
+    let r = c .before .before .before .before .before .before .before .pre .1 .1 in
+    (r .sized .usable, r .sized .admitted, r .closed .marks-length)
+
+await-between-requires : tie.Need-await-between-requires
+await-between-requires c κs =
+    let z = c .before .before .before .before .before .before .before .before .before .before in
+    let r = z .pre .1 .1 in
+    (r .sized .usable, r .sized .admitted, r .closed .marks-length, z .pre .0 .2)
+
 follow-pending-requires : tie.Need-follow-pending-requires
 follow-pending-requires c κs =
     let z = start c in
     let o = awaited c .await-between .ok in
-    let k = learnt c .summaries-of .ok in
     let pe = awaited c .await-between .ensures in
-    let a : length (awaited c .await-between .result .words) ≡ pendingWords = search (needs, o) in
-    let b : length (learnt c .summaries-of .result .words) ≡ knownWords = search (needs, k) in (
-      (a, b, none-under (z .args .low) (z .args .high) (z .args .marks .now) pe),
-      (_, part-begun (z .pre .1 .1) (indexed c .index-of .ensures) (learnt c .summaries-of .ensures) pe),
+    let a : length (awaited c .await-between .result .words) ≡ pendingWords = search (needs, o) in (
+      (z .pre .1 .1 .sized .usable, z .pre .1 .1 .sized .admitted, a, none-under (z .args .z) (z .pre .1 .1 .sized .usable) (z .args .low) (z .args .high) (z .args .marks .now) pe),
+      (_, part-begun (z .args .z) (z .pre .1 .1 .sized .usable) (z .pre .1 .1) (indexed c .index-of .ensures) (learnt c .summaries-of .ensures) pe),
     )
 
 returns : tie.Need-returns
@@ -45,10 +57,10 @@ returns c =
     let kn = learnt b .summaries-of .ensures in
     let pe = awaited b .await-between .ensures in
     let e = f .follow-pending .ensures in
-    (λ p r. part-shows r ix kn pe _ _ (e p (part-begun r ix kn pe)), cleared-is (cleared b .clear .ensures) (z .pre .0 .1))
+    (λ p r. part-shows (z .args .z) (r .sized .usable) r ix kn pe _ _ (rw (limited b .enough-iterations .ensures) at (e p (part-begun (z .args .z) (r .sized .usable) r ix kn pe))), cleared-is (z .args .z) (cleared b .clear .ensures) (z .pre .0 .1))
 
 pub follow-part-spec : {M : Type 1} → statement M
 follow-part-spec =
     tie.close
-    (tie.spec (λ c κs. search needs) (λ c κs. search needs) (λ c κs. search needs) (λ c κs. search needs) (λ c. search needs) (λ c. search needs)
+    (tie.spec (λ c κs. search needs) summaries-of-requires await-between-requires (λ c κs. search needs) (λ c κs. search needs) (λ c. search needs) (λ c. search needs)
     (λ c. search needs) follow-pending-requires (λ c. search needs) (λ c. search needs) returns)

@@ -49,7 +49,7 @@ index-of-requires c κs =
 
 begun : (c : tie.After-index-of)
     → let u = used c in let a = start u .args in
-    Begun (programOf (a .p)) (take (u .in-use .result) (a .p .edges .keys)) (c .index-of .result .places) (tabled c .next-states .result .sets)
+    Begun (a .z) (programOf (a .p)) (take (u .in-use .result) (a .p .edges .keys)) (c .index-of .result .places) (tabled c .next-states .result .sets)
     (a .marks .now) (a .pending .now) (a .known .now)
 begun c =
     let u = used c in
@@ -57,6 +57,7 @@ begun c =
     record {
       tables = record {
         well-formed = z .pre .0;
+        ranged = z .pre .1 .ranged;
         edges = table-edges (z .args .p) (room z) (u .in-use .ensures);
         indexed = c .index-of .ensures;
         answers = tabled c .next-states .ensures;
@@ -68,7 +69,7 @@ follow-pending-requires : tie.Need-follow-pending-requires
 follow-pending-requires c κs =
     let i = c .before .before .before .before .before .before in
     let z = start (used i) in
-    ((z .pre .1, z .pre .2, none-yet _), (programOf (z .args .p), begun i))
+    ((z .pre .1 .usable, z .pre .1 .admitted, z .pre .2, none-yet _), (programOf (z .args .p), begun i))
 
 returns : tie.Need-returns
 returns c =

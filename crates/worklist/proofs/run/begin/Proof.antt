@@ -9,7 +9,7 @@ returns c =
     let opened = c .before .before .before .before in
     let first = opened .before .before .before .before .before in
     let z = first .before .before .before .before in
-    rw (cleared-is (first .clear .ensures) (z .pre .0)) at (opened .open-initial .ensures)
+    rw (cleared-is (z .args .z) (first .clear .ensures) (z .pre)) at (opened .open-initial .ensures)
 
 pub begin-spec : {M : Type 1} → statement M
 begin-spec =

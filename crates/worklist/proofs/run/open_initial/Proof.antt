@@ -13,11 +13,11 @@ use Rattle.worklist.proofs.run.open_initial.Statement.{statement}
 use Rattle.worklist.proofs.run.open_initial.Tie as tie
 
 abbrev Inv-loop : tie.InvT-loop
-Inv-loop marks₀ pending₀ list count low₀ i₀ marks pending low i =
-    Looping (λ i. marked (number 0 0 (getD list i 0) (getD list i 0))) count marks₀ pending₀ 0 i marks pending low
+Inv-loop z marks₀ pending₀ list count low₀ i₀ marks pending low i =
+    Looping (λ i. marked (number z 0 0 (getD list i 0) (getD list i 0))) count marks₀ pending₀ 0 i marks pending low
 
 abbrev μ-loop : tie.MeasureT-loop
-μ-loop marks₀ pending₀ list count low₀ i₀ marks pending low i = count - i
+μ-loop z marks₀ pending₀ list count low₀ i₀ marks pending low i = count - i
 
 -- the place before
 abbrev start : tie.At-loop Inv-loop μ-loop → tie.Start Inv-loop μ-loop
@@ -27,16 +27,13 @@ room : (p : tie.At-loop Inv-loop μ-loop) → length (start p .args .initial .li
 room p = search needs
 
 loop-holds : tie.Need-loop-holds Inv-loop μ-loop
-loop-holds c = let z = c .before .before .before .before in loop-start _ _ _ _ _ (z .pre .0) (z .pre .1)
+loop-holds c = let z = c .before .before .before .before in loop-start _ _ _ _ _
 
 array-read-q : tie.Need-array-read-q Inv-loop μ-loop
 array-read-q c =
     let p = c .before in
     let r = room p in
     omega (arith, p .before .in-use .ensures)
-
-mark-requires : tie.Need-mark-requires Inv-loop μ-loop
-mark-requires c κs = let p = c .before .before .before .before in (p .loop .inv .marks-length, p .loop .inv .pending-length)
 
 loop-again : tie.Need-loop-again Inv-loop μ-loop
 loop-again c =
@@ -46,10 +43,10 @@ loop-again c =
     loop-turn (p .loop .inv) (omega arith) (rw (marked .before .entry-of .ensures .0) at (m .ensures .0)) (m .ensures .1) (m .kept .0) (m .kept .1 .0)
 
 same-length : tie.Need-same-length Inv-loop μ-loop
-same-length c = let p = c .before in p .loop .inv .marks-length ∙ sym (start p .pre .0)
+same-length c = let p = c .before in p .loop .inv .marks-length
 
 same-length-2 : tie.Need-same-length-2 Inv-loop μ-loop
-same-length-2 c = let p = c .before in p .loop .inv .pending-length ∙ sym (start p .pre .1)
+same-length-2 c = let p = c .before in p .loop .inv .pending-length
 
 returns : tie.Need-returns Inv-loop μ-loop
 returns c =
@@ -58,10 +55,10 @@ returns c =
     let list = start p .args .initial .list in
     let n = start p .args .initial .count in
     let u = p .before .in-use .ensures in
-    rw (rw r at (take-min n list)) at (all-opened list (min n maxStates) (omega arith) (rw u at (loop-end (p .loop .inv) (omega arith) .0)))
+    rw (rw r at (take-min n list)) at (all-opened (start p .args .z) list (min n maxStates) (omega arith) (rw u at (loop-end (p .loop .inv) (omega arith) .0)))
 
 pub open-initial-spec : {M : Type 1} → statement M
 open-initial-spec =
     tie.close
-    (tie.spec Inv-loop μ-loop (λ c κs. search needs) loop-holds array-read-q (λ c κs. search needs) mark-requires
+    (tie.spec Inv-loop μ-loop (λ c κs. search needs) loop-holds array-read-q (λ c κs. search needs) (λ c κs. search needs)
     (λ c. search needs) (λ c. search needs) loop-again same-length same-length-2 returns)
