@@ -16,7 +16,7 @@ use Rattle.program.specs.Program.{Program}
 use Rattle.program.specs.WellFormed.{WellFormed}
 use Rattle.base.proofs.Bools.{both}
 use Rattle.base.proofs.SetFlags.{dec-on}
-use Rattle.reach.proofs.ProgramInSizes.{sizes}
+use Rattle.reach.proofs.WithinMost.{sizes}
 use Rattle.base.specs.Filled.{Filled}
 use Rattle.callgraph.specs.Components.{CallEdge, Leads, directly, through, Together}
 use Rattle.callgraph.specs.Parts.{leadPlace, LeadFlags, togetherFlag, rankFlag, rankBelow, rankOf}

@@ -9,7 +9,7 @@ use lib.ListN.{set}
 use Rattle.program.specs.Sizes.{maxRoutines}
 use Rattle.program.specs.Program.{Edge, Program, isCall, calledBy}
 use Rattle.base.specs.Flags.{On}
-use Rattle.reach.proofs.ProgramInSizes.{sizes}
+use Rattle.reach.proofs.WithinMost.{sizes}
 use Rattle.callgraph.specs.Components.{CallEdge, Leads, directly, through}
 use Rattle.callgraph.specs.Parts.{inTurn, leadsSize, leadPlace, LeadFlags, copyLead, leadsByCall, leadsByEdge, leadsByEdges}
 use Rattle.callgraph.proofs.FlagsClosed.{Obeys, Copy, One, obeys-set, obeys-copy, obeys-then, obeys-when, obeys-turns, Growing}

@@ -6,11 +6,13 @@ use mathlib.Core.List.{List, [], _∷_, map, List·Memᴰ, List·Memᴰ·head, L
 use native.Mathlib.Omega.{arith}
 use lib.ListN.{length}
 use Rattle.automaton.specs.declared.Event.{Event}
+use Rattle.program.specs.declared.sizes.Sizes.{Sizes}
 use Rattle.program.specs.Program.{Edge, Program, edgeFits}
 use Rattle.program.specs.Frames.{edgeKey}
 use Rattle.program.specs.WellFormed.{All, WellFormed}
 use Rattle.tables.specs.Keys.{Ascending}
 use Rattle.reach.specs.Runs.{Step, stepOf, HasStep}
+use Rattle.reach.specs.Ranged.{Ranged, Sized}
 use Rattle.reach.proofs.LeastSetLaws.{Within}
 use Rattle.components.specs.Passes.{edgesOf, onlyOf}
 
@@ -64,6 +66,7 @@ only-well-formed c p w =
       initial-ascend = w .initial-ascend;
       rejecting-fit = w .rejecting-fit;
       rejecting-ascend = w .rejecting-ascend;
+      sized = w .sized;
     }
 
 -- ---- the steps
@@ -111,3 +114,22 @@ module _ (c : ℕ → Bool) (p : Program) where
             of-steps c′ (record { routine = f; source = n; label = e; target = m }) (p .edges) (only-step h) (i f (only-routine h));
         moves = λ q e s v. v;
       }
+
+-- and within the sizes
+pub only-ranged : {Z : Sizes} (c : ℕ → Bool) (p : Program) → Ranged Z p → Ranged Z (onlyOf c p)
+only-ranged c p r =
+    record {
+      main = r .main;
+      routines = r .routines;
+      routine = λ s. r .routine (only-step c p s);
+      source = λ s. r .source (only-step c p s);
+      target = λ s. r .target (only-step c p s);
+      called = λ s. r .called (only-step c p s);
+      no-exit = λ s. r .no-exit (only-step c p s);
+      states = r .states;
+      after = r .after;
+      begun = r .begun;
+    }
+
+pub only-sized : {Z : Sizes} (c : ℕ → Bool) (p : Program) → Sized Z p → Sized Z (onlyOf c p)
+only-sized c p s = record { usable = s .usable; admitted = s .admitted; ranged = only-ranged c p (s .ranged) }

@@ -11,12 +11,12 @@ use lib.Dec.{eqb}
 use lib.ListN.{getD}
 use borrow.Author.Tests.{eqb-true, eq-eqb}
 use Rattle.base.specs.Flags.{isSet}
-use Rattle.program.specs.Sizes.{marksSize}
 use Rattle.program.specs.Program.{Program}
 use Rattle.program.specs.WellFormed.{WellFormed}
 use Rattle.base.proofs.Bools.{both}
 use Rattle.reach.specs.Configurations.{InRange, number, routineOf, nodeOf, rootOf, stateOf, rootPlace}
 use Rattle.reach.specs.Reachable.{seeded, by-action, by-call, by-return}
+use Rattle.reach.specs.Ranged.{Sized}
 use Rattle.reach.specs.Marks.{Marked, Shows}
 use Rattle.reach.proofs.LeastSetLaws.{grows}
 use Rattle.reach.proofs.Numbers.{routine-of, node-of, root-of, state-of, number-fits}
@@ -30,6 +30,8 @@ use Rattle.components.specs.Passes.{PassSeeds, entry, summary, ExitOf, P
 use Rattle.components.specs.PassParts.{Passable, rootMark, firstOf, firstMarks, Ready, ByMembers}
 use Rattle.components.proofs.EdgesOfRoutines.{only-step, only-routine, only-within}
 use Rattle.components.proofs.RoundsClose.{shown-marked, marked-shown}
+use Rattle.program.specs.declared.sizes.Sizes.{Sizes}
+use Rattle.program.specs.Chosen.{numbers}
 
 -- ---- the first marks
 
@@ -52,99 +54,110 @@ root-mark roots f n r q h = go (eqb n 0 && eqb r q && isSet roots (rootPlace f q
 mark-root : (roots : List ℕ) (f q : ℕ) → getD roots (rootPlace f q) 0 ≢ 0 → rootMark roots f 0 q q ≡ 1
 mark-root roots f q h = rw (eq-eqb q q refl, member-true roots (rootPlace f q) h)
 
-module _ {p : Program} {members roots marks first : List ℕ} (w : WellFormed p) (a : Passable p members roots marks)
-    (x : Filled (firstMarks members roots marks) marksSize first) where
-  byte : {f n r q : ℕ} → InRange f n r q → getD first (number f n r q) 0 ≡ firstOf members roots (getD marks (number f n r q) 0) f n r q
-  byte {f} {n} {r} {q} h = x .byte (number f n r q) (number-fits h) ∙ rw (routine-of h, node-of h, root-of h, state-of h)
+module _ {Z : Sizes} where
+  module _ {p : Program} {members roots marks first : List ℕ} (w : WellFormed p) (s : Sized Z p) (a : Passable Z p members roots marks)
+      (x : Filled (firstMarks Z members roots marks) (numbers Z) first) where
+    byte : {f n r q : ℕ} → InRange Z f n r q → getD first (number Z f n r q) 0 ≡ firstOf members roots (getD marks (number Z f n r q) 0) f n r q
+    byte {f} {n} {r} {q} h = x .byte (number Z f n r q) (number-fits h) ∙ rw (routine-of h, node-of h, root-of h, state-of h)
 
-  byte-in : {f n r q : ℕ} → Member members f → InRange f n r q → getD first (number f n r q) 0 ≡ rootMark roots f n r q
-  byte-in {f} m h = byte h ∙ rw (member-true members f m)
+    byte-in : {f n r q : ℕ} → Member members f → InRange Z f n r q → getD first (number Z f n r q) 0 ≡ rootMark roots f n r q
+    byte-in {f} m h = byte h ∙ rw (member-true members f m)
 
-  byte-out : {f n r q : ℕ} → ¬ (Member members f) → InRange f n r q → getD first (number f n r q) 0 ≡ getD marks (number f n r q) 0
-  byte-out {f} m h =
-      elim (ℕ-discrete (getD members f 0) 0) [
-        | yes e ↦ byte h ∙ rw (eq-eqb (getD members f 0) 0 e)
-        | no e ↦ absurd (m e)
-      ]
+    byte-out : {f n r q : ℕ} → ¬ (Member members f) → InRange Z f n r q → getD first (number Z f n r q) 0 ≡ getD marks (number Z f n r q) 0
+    byte-out {f} m h =
+        elim (ℕ-discrete (getD members f 0) 0) [
+          | yes e ↦ byte h ∙ rw (eq-eqb (getD members f 0) 0 e)
+          | no e ↦ absurd (m e)
+        ]
 
-  in-root : {f n r q : ℕ} → Member members f → Marked first f n r q → AtRoot roots f n r q
-  in-root {f} {n} {r} {q} m y = root-mark roots f n r q (λ e. y .1 (byte-in m (y .0) ∙ e))
+    in-root : {f n r q : ℕ} → Member members f → Marked Z first f n r q → AtRoot roots f n r q
+    in-root {f} {n} {r} {q} m y = root-mark roots f n r q (λ e. y .1 (byte-in m (y .0) ∙ e))
 
-  out-marked : {f n r q : ℕ} → ¬ (Member members f) → Marked first f n r q → Marked marks f n r q
-  out-marked m y = (y .0, λ e. y .1 (byte-out m (y .0) ∙ e))
+    out-marked : {f n r q : ℕ} → ¬ (Member members f) → Marked Z first f n r q → Marked Z marks f n r q
+    out-marked m y = (y .0, λ e. y .1 (byte-out m (y .0) ∙ e))
 
-  marked-out : {f n r q : ℕ} → ¬ (Member members f) → Marked marks f n r q → Marked first f n r q
-  marked-out m y = (y .0, λ e. y .1 (sym (byte-out m (y .0)) ∙ e))
+    marked-out : {f n r q : ℕ} → ¬ (Member members f) → Marked Z marks f n r q → Marked Z first f n r q
+    marked-out m y = (y .0, λ e. y .1 (sym (byte-out m (y .0)) ∙ e))
 
-  root-first : {f r : ℕ} → Member members f → RootOf roots f r → Marked first f 0 r r
-  root-first {f} {r} m y =
-      let h : InRange f 0 r r = record { routine = y .0; node = omega arith; root = y .1; state = y .1 } in
-      (h, λ e. omega (arith, mark-root roots f r (y .2), byte-in m h))
+    root-first : {f r : ℕ} → Member members f → RootOf roots f r → Marked Z first f 0 r r
+    root-first {f} {r} m y =
+        let h : InRange Z f 0 r r =
+        record {
+          routine = a .root-routines y;
+          node = omega (arith, s .usable .nodes);
+          root = omega (arith, a .root-states y, s .ranged .states);
+          state = omega (arith, a .root-states y, s .ranged .states);
+        } in
+        (h, λ e. omega (arith, mark-root roots f r (y .2), byte-in m h))
 
-  old-or-root : (t : Bool) {old b : ℕ} → old ≤ 1 → b ≤ 1 → cond t b old ≤ 1
-  old-or-root true h k = k
-  old-or-root false h k = h
+    root-of-roots : {f n r q : ℕ} → InRange Z f n r q → getD roots (rootPlace f q) 0 ≢ 0 → RootOf roots f q
+    root-of-roots h e = (omega (arith, h .routine, s .admitted .routines), omega (arith, h .state, s .admitted .states), e)
 
-  pub first-ready : Ready p first
-  first-ready =
-      record {
-        well-formed = w;
-        marks-length = x .len;
-        marks-bits = filled-bits x (λ i.
-            old-or-root (memberOf members (routineOf i)) (a .marks-bits i)
-            (bit-small (eqb (nodeOf i) 0 && eqb (rootOf i) (stateOf i) && isSet roots (rootPlace (routineOf i) (stateOf i)))));
-        states = λ {f} {n} {r} {q} y.
-            elim (member-dec members f) [
-              | yes m ↦
-                  let e = in-root m y in
-                  a .root-states {f = f} {r = q} (y .0 .routine, y .0 .state, e .root)
-              | no m ↦ a .states (out-marked m y)
-            ];
-      }
+    old-or-root : (t : Bool) {old b : ℕ} → old ≤ 1 → b ≤ 1 → cond t b old ≤ 1
+    old-or-root true h k = k
+    old-or-root false h k = h
 
-  -- ---- what follows by the edges of the routines, and what the pass derives
+    pub first-ready : Ready Z p first
+    first-ready =
+        record {
+          well-formed = w;
+          sized = s;
+          marks-length = x .len;
+          marks-bits = filled-bits x (λ i.
+              old-or-root (memberOf members (routineOf Z i)) (a .marks-bits i)
+              (bit-small (eqb (nodeOf Z i) 0 && eqb (rootOf Z i) (stateOf Z i) && isSet roots (rootPlace (routineOf Z i) (stateOf Z i)))));
+          states = λ {f} {n} {r} {q} y.
+              elim (member-dec members f) [
+                | yes m ↦
+                    let e = in-root m y in
+                    a .root-states {f = f} {r = q} (root-of-roots (y .0) (e .root))
+                | no m ↦ a .states (out-marked m y)
+              ];
+        }
 
-  exit-given : {g n s z : ℕ} → ¬ (Member members g) → n ≡ 1 → ByMembers p members first g n s z → Marked marks g n s z
-  exit-given m e (seeded y u) = out-marked m y
-  exit-given {g} m e (by-action d s v u) = absurd (m (true-member members g (only-routine (memberOf members) p s)))
-  exit-given m e (by-call d s v u) = absurd (let z : _≡_ {A = ℕ} 0 1 = e in omega arith)
-  exit-given {g} m e (by-return d s v d′ v′ u) = absurd (m (true-member members g (only-routine (memberOf members) p s)))
+    -- ---- what follows by the edges of the routines, and what the pass derives
 
-  to-pass : {f n r q : ℕ} → Member members f → ByMembers p members first f n r q → PassOf p members roots marks f n r q
-  to-pass {f} {n} {r} {q} m (seeded y u) =
-      let e = in-root m y in
-      let s : PassSeeds (Member members) (RootOf roots) (ExitOf marks) f 0 q q = entry m (y .0 .routine, y .0 .state, e .root) in
-      rw (e .entry, e .same) (seeded s tt)
-  to-pass m (by-action d s v u) = by-action (to-pass m d) s v tt
-  to-pass m (by-call {f = f} d s v u) = by-call (to-pass (true-member members f (only-routine (memberOf members) p s)) d) s v tt
-  to-pass m (by-return {g = g} {s = s} {x = z} d e v d′ v′ u) =
-      by-return {x = z} (to-pass m d) e v
-      (elim (member-dec members g) [ yes k ↦ to-pass k d′ | no k ↦ seeded (summary k (exit-given k refl d′)) tt ])
-      v′ tt
+    exit-given : {g n s z : ℕ} → ¬ (Member members g) → n ≡ 1 → ByMembers Z p members first g n s z → Marked Z marks g n s z
+    exit-given m e (seeded y u) = out-marked m y
+    exit-given {g} m e (by-action d s v u) = absurd (m (true-member members g (only-routine (memberOf members) p s)))
+    exit-given m e (by-call d s v u) = absurd (let z : _≡_ {A = ℕ} 0 1 = e in omega arith)
+    exit-given {g} m e (by-return d s v d′ v′ u) = absurd (m (true-member members g (only-routine (memberOf members) p s)))
 
-  first-seeds : {f n r q : ℕ} → PassSeeds (Member members) (RootOf roots) (ExitOf marks) f n r q → Marked first f n r q
-  first-seeds (entry m y) = root-first m y
-  first-seeds (summary m y) = marked-out m y
+    to-pass : {f n r q : ℕ} → Member members f → ByMembers Z p members first f n r q → PassOf Z p members roots marks f n r q
+    to-pass {f} {n} {r} {q} m (seeded y u) =
+        let e = in-root m y in
+        let s : PassSeeds (Member members) (RootOf roots) (ExitOf Z marks) f 0 q q = entry m (root-of-roots (y .0) (e .root)) in
+        rw (e .entry, e .same) (seeded s tt)
+    to-pass m (by-action d s v u) = by-action (to-pass m d) s v tt
+    to-pass m (by-call {f = f} d s v u) = by-call (to-pass (true-member members f (only-routine (memberOf members) p s)) d) s v tt
+    to-pass m (by-return {g = g} {s = s} {x = z} d e v d′ v′ u) =
+        by-return {x = z} (to-pass m d) e v
+        (elim (member-dec members g) [ yes k ↦ to-pass k d′ | no k ↦ seeded (summary k (exit-given k refl d′)) tt ])
+        v′ tt
 
-  from-pass : {f n r q : ℕ} → PassOf p members roots marks f n r q → ByMembers p members first f n r q
-  from-pass d = grows (only-within (memberOf members) p (memberOf members) (λ k e. e)) (record { at = first-seeds }) (record { at = λ y. y }) d
+    first-seeds : {f n r q : ℕ} → PassSeeds (Member members) (RootOf roots) (ExitOf Z marks) f n r q → Marked Z first f n r q
+    first-seeds (entry m y) = root-first m y
+    first-seeds (summary m y) = marked-out m y
 
-  -- outside only entries that are called could be marked, and these are marked
-  stays : {f n r q : ℕ} → ¬ (Member members f) → ByMembers p members first f n r q → Marked marks f n r q
-  stays m (seeded y u) = out-marked m y
-  stays {f} m (by-action d s v u) = absurd (m (true-member members f (only-routine (memberOf members) p s)))
-  stays m (by-call {f = f} d e v u) =
-      let k = true-member members f (only-routine (memberOf members) p e) in
-      a .covered k (to-pass k d) (only-step (memberOf members) p e) v m
-  stays {f} m (by-return d s v d′ v′ u) = absurd (m (true-member members f (only-routine (memberOf members) p s)))
+    from-pass : {f n r q : ℕ} → PassOf Z p members roots marks f n r q → ByMembers Z p members first f n r q
+    from-pass d = grows (only-within (memberOf members) p (memberOf members) (λ k e. e)) (record { at = first-seeds }) (record { at = λ y. y }) d
 
-  pub passed : {marks′ : List ℕ} → Shows (ByMembers p members first) marks′ → Passed p members roots marks marks′
-  passed s =
-      let to = marked-shown first-ready (memberOf members) s in
-      let back = shown-marked s in
-      record {
-        marks-length = s .len;
-        marks-bits = s .bit;
-        inside = λ f n r q m. (λ y. to-pass m (back .at y), λ d. to .at (from-pass d));
-        outside = λ f n r q m. (λ y. stays m (back .at y), λ y. to .at (seeded (marked-out m y) tt));
-      }
+    -- outside only entries that are called could be marked, and these are marked
+    stays : {f n r q : ℕ} → ¬ (Member members f) → ByMembers Z p members first f n r q → Marked Z marks f n r q
+    stays m (seeded y u) = out-marked m y
+    stays {f} m (by-action d s v u) = absurd (m (true-member members f (only-routine (memberOf members) p s)))
+    stays m (by-call {f = f} d e v u) =
+        let k = true-member members f (only-routine (memberOf members) p e) in
+        a .covered k (to-pass k d) (only-step (memberOf members) p e) v m
+    stays {f} m (by-return d s v d′ v′ u) = absurd (m (true-member members f (only-routine (memberOf members) p s)))
+
+    pub passed : {marks′ : List ℕ} → Shows Z (ByMembers Z p members first) marks′ → Passed Z p members roots marks marks′
+    passed s =
+        let to = marked-shown first-ready (memberOf members) s in
+        let back = shown-marked s in
+        record {
+          marks-length = s .len;
+          marks-bits = s .bit;
+          inside = λ f n r q m. (λ y. to-pass m (back .at y), λ d. to .at (from-pass d));
+          outside = λ f n r q m. (λ y. stays m (back .at y), λ y. to .at (seeded (marked-out m y) tt));
+        }

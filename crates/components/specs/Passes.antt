@@ -5,7 +5,8 @@ use mathlib.Core.Logic.{_↔_}
 use mathlib.Core.List.{List, [], _∷_}
 use mathlib.Core.Bool.{Bool, cond}
 use lib.ListN.{length, getD}
-use Rattle.program.specs.Sizes.{marksSize}
+use Rattle.program.specs.declared.sizes.Sizes.{Sizes}
+use Rattle.program.specs.Chosen.{numbers}
 use Rattle.program.specs.Program.{Edge, Program}
 use Rattle.reach.specs.Configurations.{Set}
 use Rattle.reach.specs.Reachable.{Derivable, Any}
@@ -28,17 +29,17 @@ pub data PassSeeds (C : ℕ → Type 0) (R : ℕ → ℕ → Type 0) (K : ℕ �
   summary : {g r q : ℕ} → ¬ (C g) → K g r q → PassSeeds C R K g 1 r q
 
 -- the summaries on a sheet
-abbrev pub ExitOf : List ℕ → ℕ → ℕ → ℕ → Type 0
-ExitOf marks g r q = Marked marks g 1 r q
+abbrev pub ExitOf : Sizes → List ℕ → ℕ → ℕ → ℕ → Type 0
+ExitOf Z marks g r q = Marked Z marks g 1 r q
 
 -- what a pass over these routines derives: by their own edges, from their roots and the summaries of the others
-abbrev pub PassOf : Program → List ℕ → List ℕ → List ℕ → Set
-PassOf p members roots marks =
-    Derivable (onlyOf (memberOf members) p) (PassSeeds (Member members) (RootOf roots) (ExitOf marks)) Any
+abbrev pub PassOf : Sizes → Program → List ℕ → List ℕ → List ℕ → Set
+PassOf Z p members roots marks =
+    Derivable (onlyOf (memberOf members) p) (PassSeeds (Member members) (RootOf roots) (ExitOf Z marks)) Any
 
 -- a pass is done: its routines have what it derives, and the others have what they had
-pub record Passed (p : Program) (members roots marks marks′ : List ℕ) : Type 0 where
-  pub marks-length : length marks′ ≡ marksSize
+pub record Passed (Z : Sizes) (p : Program) (members roots marks marks′ : List ℕ) : Type 0 where
+  pub marks-length : length marks′ ≡ numbers Z
   pub marks-bits : (i : ℕ) → getD marks′ i 0 ≤ 1
-  pub inside : (f n r q : ℕ) → Member members f → Marked marks′ f n r q ↔ PassOf p members roots marks f n r q
-  pub outside : (f n r q : ℕ) → ¬ (Member members f) → Marked marks′ f n r q ↔ Marked marks f n r q
+  pub inside : (f n r q : ℕ) → Member members f → Marked Z marks′ f n r q ↔ PassOf Z p members roots marks f n r q
+  pub outside : (f n r q : ℕ) → ¬ (Member members f) → Marked Z marks′ f n r q ↔ Marked Z marks f n r q

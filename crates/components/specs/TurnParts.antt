@@ -5,15 +5,18 @@ use mathlib.Core.Logic.{_⊎_, _↔_, _≢_}
 use mathlib.Core.Bool.{Bool, true, false}
 use mathlib.Core.List.{List}
 use lib.ListN.{length, getD}
-use Rattle.automaton.specs.Sizes.{maxStates}
 use Rattle.automaton.specs.declared.Event.{Event}
-use Rattle.program.specs.Sizes.{maxRoutines, marksSize}
+use Rattle.program.specs.Sizes.{maxRoutines}
+use Rattle.program.specs.declared.sizes.Sizes.{Sizes}
+use Rattle.program.specs.Chosen.{numbers}
 use Rattle.program.specs.Program.{Edge, Program, isCall, calledBy}
 use Rattle.program.specs.WellFormed.{WellFormed}
 use Rattle.program.specs.Decoded.{edgeOf}
-use Rattle.reach.specs.Sizes.{summariesSize}
+use Rattle.base.specs.Flags.{isSet}
+use Rattle.reach.specs.Configurations.{number}
 use Rattle.reach.specs.Runs.{HasStep}
 use Rattle.reach.specs.Reachable.{Reachable}
+use Rattle.reach.specs.Ranged.{Ranged, Sized}
 use Rattle.reach.specs.Marks.{Marked}
 use Rattle.reach.specs.Worklist.{summary}
 use Rattle.callgraph.specs.Components.{CallEdge, Leads, Together, OldRoot, Anew, Reanalyzed, Member}
@@ -21,10 +24,11 @@ use Rattle.callgraph.specs.Parts.{LeadFlags, rankOf}
 use Rattle.roots.specs.Parts.{RootFlags}
 use Rattle.components.specs.declared.drop.Progress.{Progress}
 
--- a drop of a step of one routine made p′ of p
-pub record DropOf (p p′ : Program) (edited : ℕ) : Type 0 where
-  pub old-well-formed : WellFormed p
+-- a drop of steps of one routine made p′ of p, both within these sizes
+pub record DropOf (Z : Sizes) (p p′ : Program) (edited : ℕ) : Type 0 where
   pub well-formed : WellFormed p′
+  pub old-ranged : Ranged Z p
+  pub sized : Sized Z p′
   pub automaton : p′ .automaton ≡ p .automaton
   pub steps : {f n m : ℕ} {e : Event} → HasStep p′ f n e m → HasStep p f n e m
   pub others : {f n m : ℕ} {e : Event} → f ≢ edited → HasStep p f n e m → HasStep p′ f n e m
@@ -38,10 +42,9 @@ pub record Ranks (p : Program) (rank : ℕ → ℕ) : Type 0 where
   pub decides : (f g : ℕ) → f < maxRoutines → g < maxRoutines → Dec (Together p f g)
 
 -- the summaries on the sheet before
-pub record Before (p : Program) (before : List ℕ) : Type 0 where
-  pub len : length before ≡ summariesSize
-  pub flagged : (f r q : ℕ) → f < maxRoutines → r < maxStates → q < maxStates
-      → (getD before (summary f r q) 0 ≢ 0) ↔ Reachable p f 1 r q
+pub record Before (Z : Sizes) (p : Program) (before : List ℕ) : Type 0 where
+  pub flagged : (f r q : ℕ) → f < Z .routines → r < Z .states → q < Z .states
+      → (getD before (summary Z f r q) 0 ≢ 0) ↔ Reachable p f 1 r q
 
 -- the turn of routine f of this rank; the ranks are from 1 to the count of routines
 abbrev pub turnOf : (ℕ → ℕ) → ℕ → ℕ
@@ -55,56 +58,66 @@ endTurn = maxRoutines * maxRoutines + maxRoutines
 
 -- turn i comes next: whatever has an earlier turn is done, component by component; what is done has its configurations
 -- worked anew, and the rest its old ones
-pub record Working (p p′ : Program) (edited : ℕ) (rank : ℕ → ℕ) (i : ℕ) (marks done reanalyzed : List ℕ) : Type 0 where
-  pub marks-length : length marks ≡ marksSize
+pub record Working (Z : Sizes) (p p′ : Program) (edited : ℕ) (rank : ℕ → ℕ) (i : ℕ) (marks done reanalyzed : List ℕ) : Type 0 where
+  pub marks-length : length marks ≡ numbers Z
   pub marks-bits : (j : ℕ) → getD marks j 0 ≤ 1
   pub done-length : length done ≡ maxRoutines
   pub reanalyzed-length : length reanalyzed ≡ maxRoutines
   pub earlier : (f : ℕ) → f < maxRoutines → turnOf rank f < i → Member done f
   pub whole : (f g : ℕ) → f < maxRoutines → g < maxRoutines → Member done f → Together p′ f g → Member done g
-  pub worked : (f n r q : ℕ) → Member done f → Marked marks f n r q ↔ Anew p p′ f n r q
-  pub old : (f n r q : ℕ) → ¬ (Member done f) → Marked marks f n r q ↔ Reachable p f n r q
+  pub worked : (f n r q : ℕ) → Member done f → Marked Z marks f n r q ↔ Anew p p′ f n r q
+  pub old : (f n r q : ℕ) → ¬ (Member done f) → Marked Z marks f n r q ↔ Reachable p f n r q
   pub right : (f : ℕ) → f < maxRoutines → Member done f → Member reanalyzed f ↔ Reanalyzed p p′ edited f
   pub none-yet : (f : ℕ) → ¬ (Member done f) → ¬ (Member reanalyzed f)
 
 -- the same, with what stays over all turns: the drop, the flags of the call graph, and the roots and the summaries
 -- before
-pub record Turning (p p′ : Program) (edited : ℕ) (leads roots before : List ℕ) (i : ℕ) (marks done reanalyzed : List ℕ)
+pub record Turning (Z : Sizes) (p p′ : Program) (edited : ℕ) (leads roots before : List ℕ) (i : ℕ) (marks done reanalyzed : List ℕ)
     : Type 0 where
-  pub drop : DropOf p p′ edited
+  pub drop : DropOf Z p p′ edited
   pub graph : LeadFlags (Leads p′) leads
   pub old-roots : RootFlags (OldRoot p) roots
-  pub old-summaries : Before p before
-  pub working : Working p p′ edited (rankOf leads) i marks done reanalyzed
+  pub old-summaries : Before Z p before
+  pub working : Working Z p p′ edited (rankOf leads) i marks done reanalyzed
 
 -- for some program before, turn i comes next
-abbrev pub Comes : Program → ℕ → List ℕ → List ℕ → List ℕ → ℕ → List ℕ → Progress → Type 0
-Comes p′ edited leads roots before i marks g =
-    (p : Program) × Turning p p′ edited leads roots before i marks (g .done .flags) (g .reanalyzed .flags)
+abbrev pub Comes : Sizes → Program → ℕ → List ℕ → List ℕ → List ℕ → ℕ → List ℕ → Progress → Type 0
+Comes Z p′ edited leads roots before i marks g =
+    (p : Program) × Turning Z p p′ edited leads roots before i marks (g .done .flags) (g .reanalyzed .flags)
 
 -- for every program before, if turn i came next, then turn j comes next
-abbrev pub Advances : Program → ℕ → List ℕ → List ℕ → List ℕ → ℕ → List ℕ → Progress → ℕ → List ℕ → Progress → Type 0
-Advances p′ edited leads roots before i marks g j marks′ g′ =
-    (p : Program) → Turning p p′ edited leads roots before i marks (g .done .flags) (g .reanalyzed .flags)
-    → Turning p p′ edited leads roots before j marks′ (g′ .done .flags) (g′ .reanalyzed .flags)
+abbrev pub Advances : Sizes → Program → ℕ → List ℕ → List ℕ → List ℕ → ℕ → List ℕ → Progress → ℕ → List ℕ → Progress → Type 0
+Advances Z p′ edited leads roots before i marks g j marks′ g′ =
+    (p : Program) → Turning Z p p′ edited leads roots before i marks (g .done .flags) (g .reanalyzed .flags)
+    → Turning Z p p′ edited leads roots before j marks′ (g′ .done .flags) (g′ .reanalyzed .flags)
 
 -- the summaries of g on the sheet are others than before
-pub record Differs (before marks : List ℕ) (g : ℕ) : Type 0 where
+pub record Differs (Z : Sizes) (before marks : List ℕ) (g : ℕ) : Type 0 where
   pub root : ℕ
   pub state : ℕ
-  pub root-small : root < maxStates
-  pub state-small : state < maxStates
-  pub differs : ((getD before (summary g root state) 0 ≢ 0) × (¬ (Marked marks g 1 root state)))
-      ⊎ ((getD before (summary g root state) 0 ≡ 0) × Marked marks g 1 root state)
+  pub root-small : root < Z .states
+  pub state-small : state < Z .states
+  pub differs : ((getD before (summary Z g root state) 0 ≢ 0) × (¬ (Marked Z marks g 1 root state)))
+      ⊎ ((getD before (summary Z g root state) 0 ≡ 0) × Marked Z marks g 1 root state)
+
+-- the one of a root and a state is
+abbrev pub DiffersAt : Sizes → List ℕ → List ℕ → ℕ → ℕ → ℕ → Type 0
+DiffersAt Z before marks g r q = isSet before (summary Z g r q) ≢ isSet marks (number Z g 1 r q)
+
+-- one of a root is
+pub record DiffersWith (Z : Sizes) (before marks : List ℕ) (g root : ℕ) : Type 0 where
+  pub state : ℕ
+  pub small : state < Z .states
+  pub differs : DiffersAt Z before marks g root state
 
 -- a member calls a routine that is none, and whose summaries are others than before
-pub record CallsDiffering (p : Program) (members before marks : List ℕ) : Type 0 where
+pub record CallsDiffering (Z : Sizes) (p : Program) (members before marks : List ℕ) : Type 0 where
   pub member : ℕ
   pub called : ℕ
   pub is-member : Member members member
   pub calls : CallEdge p member called
   pub outside : ¬ (Member members called)
-  pub differing : Differs before marks called
+  pub differing : Differs Z before marks called
 
 -- a test's answer: yes exactly if
 pub record Says (yes : Bool) (X : Type 0) : Type 0 where
@@ -112,15 +125,15 @@ pub record Says (yes : Bool) (X : Type 0) : Type 0 where
   pub if-no : yes ≡ false → ¬ X
 
 -- an edge of a member calls a routine that is none, and whose summaries are others than before
-pub record DifferingEdge (members before marks : List ℕ) (e : Edge) : Type 0 where
+pub record DifferingEdge (Z : Sizes) (members before marks : List ℕ) (e : Edge) : Type 0 where
   pub is-member : Member members (e .routine)
   pub is-call : isCall (e .label) ≡ true
-  pub small : calledBy (e .label) < maxRoutines
+  pub small : calledBy (e .label) < Z .routines
   pub outside : ¬ (Member members (calledBy (e .label)))
-  pub differing : Differs before marks (calledBy (e .label))
+  pub differing : Differs Z before marks (calledBy (e .label))
 
 -- one of the first edges is such
-pub record SomeDiffering (members before marks keys : List ℕ) (count : ℕ) : Type 0 where
+pub record SomeDiffering (Z : Sizes) (members before marks keys : List ℕ) (count : ℕ) : Type 0 where
   pub at : ℕ
   pub below : at < count
-  pub differing : DifferingEdge members before marks (edgeOf (getD keys at 0))
+  pub differing : DifferingEdge Z members before marks (edgeOf (getD keys at 0))

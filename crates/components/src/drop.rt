@@ -9,6 +9,7 @@ use callgraph::routines::Routines;
 use callgraph::routines::join;
 use program::DecodedProgram;
 use program::sizes::MAX_ROUTINES;
+use program::sizes::Sizes;
 use roots::cut::cut_to_live;
 use roots::old_roots;
 use worklist::exits::summaries_of;
@@ -16,11 +17,12 @@ ghost use mathlib.Core.Path.{_≡_};
 ghost use mathlib.Core.Logic.{_↔_};
 ghost use Prim.Native.Nat.{ℕ, _<_, _+_};
 ghost use lib.ListN.{length, getD};
-ghost use Rattle.program.specs.Sizes.{maxRoutines, marksSize};
+ghost use Rattle.program.specs.Sizes.{maxRoutines};
+ghost use Rattle.program.specs.Chosen.{numbers};
 ghost use Rattle.program.specs.Program.{Program};
 ghost use Rattle.program.specs.Decoded.{programOf};
 ghost use Rattle.reach.specs.Configurations.{none-set};
-ghost use Rattle.reach.specs.Marks.{freshMarks};
+ghost use Rattle.reach.specs.Marks.{freshAt};
 ghost use Rattle.words.specs.Words.{flagsOf};
 ghost use Rattle.callgraph.specs.Components.{Reanalyzed, Member};
 ghost use Rattle.callgraph.specs.Parts.{rankOf};
@@ -39,6 +41,7 @@ pub struct Progress {
 
 // The turn of routine f: its component is worked anew if it is to be, and then it is done.
 fn work_component(
+    z: Sizes,
     p: DecodedProgram,
     leads: &[u8],
     roots: &[u8],
@@ -49,18 +52,18 @@ fn work_component(
     marks: &mut [u8],
     work: &mut [u8],
 ) -> Progress
-    requires { ⌜ (f < maxRoutines) × (length (now work) ≡ marksSize) × (getD (progress .done .flags) f 0 ≡ 0) ⌝ }
-    requires { ⌜ Comes (programOf p) edited (now leads) (now roots) (flagsOf (now before))
+    requires { ⌜ (f < maxRoutines) × (length (now work) ≡ numbers z) × (getD (progress .done .flags) f 0 ≡ 0) ⌝ }
+    requires { ⌜ Comes z (programOf p) edited (now leads) (now roots) (flagsOf (now before))
         (turnOf (rankOf (now leads)) f) (now marks) progress ⌝ }
-    ensures { λ r. ⌜ Advances (programOf p) edited (now (leads .entry)) (now (roots .entry))
+    ensures { λ r. ⌜ Advances z (programOf p) edited (now (leads .entry)) (now (roots .entry))
         (flagsOf (now (before .entry))) (turnOf (rankOf (now (leads .entry))) f) (now (marks .entry)) progress
         (turnOf (rankOf (now (leads .entry))) f + 1) (now (marks .exit)) r ⌝ }
 {
     let c = component(leads, f);
     let members = c.flags;
     let done = join(progress.done, c);
-    if is_reanalyzed(p, &members, before, marks, edited) {
-        component_pass(p, &members, roots, marks, work);
+    if is_reanalyzed(z, p, &members, before, marks, edited) {
+        component_pass(z, p, &members, roots, marks, work);
         let reanalyzed = join(progress.reanalyzed, c);
         return Progress { done, reanalyzed };
     }
@@ -70,6 +73,7 @@ fn work_component(
 
 // Turn i: that of the routine that it is the turn of by its rank, if it is not done yet.
 fn visit(
+    z: Sizes,
     p: DecodedProgram,
     leads: &[u8],
     roots: &[u8],
@@ -80,9 +84,9 @@ fn visit(
     marks: &mut [u8],
     work: &mut [u8],
 ) -> Progress
-    requires { ⌜ length (now work) ≡ marksSize ⌝ }
-    requires { ⌜ Comes (programOf p) edited (now leads) (now roots) (flagsOf (now before)) i (now marks) progress ⌝ }
-    ensures { λ r. ⌜ Advances (programOf p) edited (now (leads .entry)) (now (roots .entry))
+    requires { ⌜ length (now work) ≡ numbers z ⌝ }
+    requires { ⌜ Comes z (programOf p) edited (now leads) (now roots) (flagsOf (now before)) i (now marks) progress ⌝ }
+    ensures { λ r. ⌜ Advances z (programOf p) edited (now (leads .entry)) (now (roots .entry))
         (flagsOf (now (before .entry))) i (now (marks .entry)) progress (i + 1) (now (marks .exit)) r ⌝ }
 {
     let f = i % MAX_ROUTINES;
@@ -95,6 +99,7 @@ fn visit(
         return progress;
     }
     work_component(
+        z,
         p,
         leads,
         roots,
@@ -108,6 +113,7 @@ fn visit(
 }
 
 fn visit_all(
+    z: Sizes,
     p: DecodedProgram,
     leads: &[u8],
     roots: &[u8],
@@ -117,16 +123,16 @@ fn visit_all(
     marks: &mut [u8],
     work: &mut [u8],
 ) -> Progress
-    requires { ⌜ length (now work) ≡ marksSize ⌝ }
-    requires { ⌜ Comes (programOf p) edited (now leads) (now roots) (flagsOf (now before)) firstTurn
+    requires { ⌜ length (now work) ≡ numbers z ⌝ }
+    requires { ⌜ Comes z (programOf p) edited (now leads) (now roots) (flagsOf (now before)) firstTurn
         (now marks) start ⌝ }
-    ensures { λ r. ⌜ Advances (programOf p) edited (now (leads .entry)) (now (roots .entry))
+    ensures { λ r. ⌜ Advances z (programOf p) edited (now (leads .entry)) (now (roots .entry))
         (flagsOf (now (before .entry))) firstTurn (now (marks .entry)) start endTurn (now (marks .exit)) r ⌝ }
 {
     let mut progress = start;
     let mut i: usize = FIRST_TURN;
     while i < END_TURN {
-        progress = visit(p, leads, roots, before, edited, i, progress, marks, work);
+        progress = visit(z, p, leads, roots, before, edited, i, progress, marks, work);
         i = i + 1;
     }
     progress
@@ -135,18 +141,24 @@ fn visit_all(
 // The fresh marks of the program before a drop become those of the program after it, and the routines that were
 // reanalyzed are told. The caller has the marks of the program before, and has measured the buffers (refusal 9): hence
 // the `requires`.
-pub fn drop_inside_out(p: DecodedProgram, edited: u8, marks: &mut [u8], work: &mut [u8]) -> Routines
-    requires { ⌜ length (now work) ≡ marksSize ⌝ }
-    requires { ⌜ ((old : Program) × DropOf old (programOf p) edited × (now marks ≡ freshMarks old)) ⌝ }
-    ensures { λ r. ⌜ ((old : Program) → DropOf old (programOf p) edited → now (marks .entry) ≡ freshMarks old
-        → (now (marks .exit) ≡ freshMarks (programOf p)) × (now (work .exit) ≡ none-set)
+pub fn drop_inside_out(
+    z: Sizes,
+    p: DecodedProgram,
+    edited: u8,
+    marks: &mut [u8],
+    work: &mut [u8],
+) -> Routines
+    requires { ⌜ length (now work) ≡ numbers z ⌝ }
+    requires { ⌜ ((old : Program) × DropOf z old (programOf p) edited × (now marks ≡ freshAt z old)) ⌝ }
+    ensures { λ r. ⌜ ((old : Program) → DropOf z old (programOf p) edited → now (marks .entry) ≡ freshAt z old
+        → (now (marks .exit) ≡ freshAt z (programOf p)) × (now (work .exit) ≡ none-set z)
         × ((f : ℕ) → f < maxRoutines → Member (r .flags) f ↔ Reanalyzed old (programOf p) edited f)) ⌝ }
 {
     let graph = call_graph(p);
     let leads = graph.leads;
-    let entries = old_roots(marks);
+    let entries = old_roots(z, marks);
     let roots = entries.flags;
-    let exits = summaries_of(marks);
+    let exits = summaries_of(z, marks);
     let before = exits.words;
     let none = Routines {
         flags: [0u8; MAX_ROUTINES],
@@ -155,8 +167,8 @@ pub fn drop_inside_out(p: DecodedProgram, edited: u8, marks: &mut [u8], work: &m
         done: none,
         reanalyzed: none,
     };
-    let end = visit_all(p, &leads, &roots, &before, edited, start, marks, work);
-    cut_to_live(p, marks);
+    let end = visit_all(z, p, &leads, &roots, &before, edited, start, marks, work);
+    cut_to_live(z, p, marks);
     clear(work);
     end.reanalyzed
 }

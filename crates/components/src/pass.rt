@@ -6,13 +6,12 @@ use base::flags::clear;
 use base::flags::count_set;
 use base::flags::is_set;
 use program::DecodedProgram;
-use program::sizes::MARKS_SIZE;
 use program::sizes::MAX_EDGES;
-use program::sizes::MAX_ROUTINES;
+use program::sizes::Sizes;
 use reach::configuration::number_of;
 use reach::configuration::parts_of;
 use reach::configuration::root_place;
-use reach::spans::ROUTINE_SPAN;
+use reach::spans::routine_span;
 use tables::in_use;
 use worklist::part::first_of;
 use worklist::part::follow_part;
@@ -20,21 +19,22 @@ ghost use mathlib.Core.Path.{_≡_};
 ghost use Prim.Native.Nat.{_<_};
 ghost use lib.ListN.{length};
 ghost use Rattle.automaton.specs.NextStates.{Answers};
-ghost use Rattle.program.specs.Sizes.{maxRoutines, marksSize};
+ghost use Rattle.program.specs.Chosen.{numbers};
 ghost use Rattle.program.specs.WellFormed.{WellFormed};
 ghost use Rattle.program.specs.Decoded.{programOf};
-ghost use Rattle.reach.specs.Configurations.{none-set};
+ghost use Rattle.reach.specs.Configurations.{Usable, none-set};
+ghost use Rattle.reach.specs.Ranged.{Sized};
 ghost use Rattle.reach.specs.Marks.{Shows};
 ghost use Rattle.base.specs.Filled.{Filled};
 ghost use Rattle.components.specs.Passes.{Passed};
 ghost use Rattle.components.specs.PassParts.{Passable, firstMark, firstMarks, Ready, ByMembers, Round, Turn};
 
 // The mark of number i at the start: of the component's routines only the entries in their roots are marked.
-fn first_mark(members: &[u8], roots: &[u8], old: u8, i: usize) -> u8
-    requires { ⌜ i < marksSize ⌝ }
-    ensures { λ r. ⌜ r ≡ firstMark (now (members .entry)) (now (roots .entry)) old i ⌝ }
+fn first_mark(z: Sizes, members: &[u8], roots: &[u8], old: u8, i: usize) -> u8
+    requires { ⌜ Usable z × (i < numbers z) ⌝ }
+    ensures { λ r. ⌜ r ≡ firstMark z (now (members .entry)) (now (roots .entry)) old i ⌝ }
 {
-    let c = parts_of(i);
+    let c = parts_of(z, i);
     let member = is_set(members, c.routine as usize);
     if !member {
         return old;
@@ -46,14 +46,15 @@ fn first_mark(members: &[u8], roots: &[u8], old: u8, i: usize) -> u8
     0
 }
 
-fn reset(members: &[u8], roots: &[u8], marks: &mut [u8])
-    requires { ⌜ length (now marks) ≡ marksSize ⌝ }
-    ensures { λ _. ⌜ Filled (firstMarks (now (members .entry)) (now (roots .entry)) (now (marks .entry))) marksSize
-        (now (marks .exit)) ⌝ }
+fn reset(z: Sizes, members: &[u8], roots: &[u8], marks: &mut [u8])
+    requires { ⌜ Usable z × (length (now marks) ≡ numbers z) ⌝ }
+    ensures { λ _. ⌜ Filled (firstMarks z (now (members .entry)) (now (roots .entry)) (now (marks .entry)))
+        (numbers z) (now (marks .exit)) ⌝ }
 {
+    let size = marks.len();
     let mut i: usize = 0;
-    while i < MARKS_SIZE {
-        let b = first_mark(members, roots, marks[i], i);
+    while i < size {
+        let b = first_mark(z, members, roots, marks[i], i);
         marks[i] = b;
         i = i + 1;
     }
@@ -62,6 +63,7 @@ fn reset(members: &[u8], roots: &[u8], marks: &mut [u8])
 // The turn of routine f in a round, if it is one of the component: what follows by its edges, which are a part of the
 // table, is marked. Only its own configurations, whose numbers follow one another, can lead on by them.
 fn turn(
+    z: Sizes,
     p: DecodedProgram,
     members: &[u8],
     f: u8,
@@ -69,58 +71,62 @@ fn turn(
     marks: &mut [u8],
     work: &mut [u8],
 )
-    requires { ⌜ (f < maxRoutines) × (length (now work) ≡ marksSize) ⌝ }
-    requires { ⌜ Ready (programOf p) (now marks)
+    requires { ⌜ (f < z .routines) × (length (now work) ≡ numbers z) ⌝ }
+    requires { ⌜ Ready z (programOf p) (now marks)
         × Answers (programOf p .automaton) (programOf p .routines) (now next) ⌝ }
-    ensures { λ _. ⌜ Turn (programOf p) (now (members .entry)) f (now (marks .entry)) (now (marks .exit)) ⌝ }
+    ensures { λ _. ⌜ Turn z (programOf p) (now (members .entry)) f (now (marks .entry)) (now (marks .exit)) ⌝ }
 {
     if !is_set(members, f as usize) {
         return;
     }
+    let low = number_of(z, f, 0, 0, 0);
+    let span = routine_span(z);
     let edges = p.edges;
     let keys = edges.keys;
     let count = in_use(edges.count, MAX_EDGES);
     let from = first_of(&keys, count, f as u32);
     let to = first_of(&keys, count, f as u32 + 1);
-    let low = number_of(f, 0, 0, 0);
-    follow_part(&keys[from..to], next, marks, work, low, low + ROUTINE_SPAN);
+    follow_part(z, &keys[from..to], next, marks, work, low, low + span);
 }
 
 fn round(
+    z: Sizes,
     p: DecodedProgram,
     members: &[u8],
     next: &[u16; NEXT_STATES_SIZE],
     marks: &mut [u8],
     work: &mut [u8],
 )
-    requires { ⌜ length (now work) ≡ marksSize ⌝ }
-    requires { ⌜ Ready (programOf p) (now marks)
+    requires { ⌜ length (now work) ≡ numbers z ⌝ }
+    requires { ⌜ Ready z (programOf p) (now marks)
         × Answers (programOf p .automaton) (programOf p .routines) (now next) ⌝ }
-    ensures { λ _. ⌜ Round (programOf p) (now (members .entry)) maxRoutines (now (marks .entry)) (now (marks .exit)) ⌝ }
+    ensures { λ _. ⌜ Round z (programOf p) (now (members .entry)) (z .routines) (now (marks .entry)) (now (marks .exit)) ⌝ }
 {
+    let routines = z.routines;
     let mut f: u8 = 0;
-    while f < MAX_ROUTINES as u8 {
-        turn(p, members, f, next, marks, work);
+    while f < routines {
+        turn(z, p, members, f, next, marks, work);
         f = f + 1;
     }
 }
 
 // Rounds until one marks nothing.
 fn rounds(
+    z: Sizes,
     p: DecodedProgram,
     members: &[u8],
     next: &[u16; NEXT_STATES_SIZE],
     marks: &mut [u8],
     work: &mut [u8],
 )
-    requires { ⌜ length (now work) ≡ marksSize ⌝ }
-    requires { ⌜ Ready (programOf p) (now marks)
+    requires { ⌜ length (now work) ≡ numbers z ⌝ }
+    requires { ⌜ Ready z (programOf p) (now marks)
         × Answers (programOf p .automaton) (programOf p .routines) (now next) ⌝ }
-    ensures { λ _. ⌜ Shows (ByMembers (programOf p) (now (members .entry)) (now (marks .entry))) (now (marks .exit)) ⌝ }
+    ensures { λ _. ⌜ Shows z (ByMembers z (programOf p) (now (members .entry)) (now (marks .entry))) (now (marks .exit)) ⌝ }
 {
     loop {
         let before = count_set(marks);
-        round(p, members, next, marks, work);
+        round(z, p, members, next, marks, work);
         let after = count_set(marks);
         if after == before {
             return;
@@ -132,21 +138,22 @@ fn rounds(
 // that they call outside. Each turn clears the lent working buffer, but where there is none it is as it came: so it is
 // cleared. The caller has the roots and the marks of the others: hence the `requires`.
 pub fn component_pass(
+    z: Sizes,
     p: DecodedProgram,
     members: &[u8],
     roots: &[u8],
     marks: &mut [u8],
     work: &mut [u8],
 )
-    requires { ⌜ WellFormed (programOf p) × (length (now work) ≡ marksSize) ⌝ }
-    requires { ⌜ Passable (programOf p) (now members) (now roots) (now marks) ⌝ }
-    ensures { λ _. ⌜ (now (work .exit) ≡ none-set)
-        × Passed (programOf p) (now (members .entry)) (now (roots .entry)) (now (marks .entry)) (now (marks .exit)) ⌝ }
+    requires { ⌜ WellFormed (programOf p) × Sized z (programOf p) × (length (now work) ≡ numbers z) ⌝ }
+    requires { ⌜ Passable z (programOf p) (now members) (now roots) (now marks) ⌝ }
+    ensures { λ _. ⌜ (now (work .exit) ≡ none-set z)
+        × Passed z (programOf p) (now (members .entry)) (now (roots .entry)) (now (marks .entry)) (now (marks .exit)) ⌝ }
 {
     let automaton = p.automaton;
     let table = next_states(automaton, p.routines);
     let next = table.sets;
-    reset(members, roots, marks);
-    rounds(p, members, &next, marks, work);
+    reset(z, members, roots, marks);
+    rounds(z, p, members, &next, marks, work);
     clear(work);
 }

@@ -20,7 +20,7 @@ use Rattle.program.specs.WellFormed.{All}
 use Rattle.program.proofs.LinesJudged.{Padded, padded}
 use Rattle.exchange.specs.Changes.{Exchange, Change, whole, Read}
 use Rattle.exchange.specs.Changing.{others, withNodes}
-use Rattle.exchange.specs.ExchangeText.{lineIn, textLines, ofRoutine, ofEdge, any, badFrame, badText, boundedBy, outside, outOfRange, frameKey, astray, anyAstray, disordered, exchangeIn, tooMany, exchangeUnless, exchangeFrom, wantedExchange}
+use Rattle.exchange.specs.ExchangeText.{lineIn, textLines, ofRoutine, ofEdge, any, badFrame, badText, boundedBy, outside, outOfRange, frameKey, astray, anyAstray, disordered, exchangeIn, tooMany, tooLarge, exchangeUnless, exchangeFrom, wantedExchange}
 use Rattle.exchange.specs.Wanted.{Fits, ChangeApplies}
 
 -- ---- one line
@@ -28,8 +28,8 @@ use Rattle.exchange.specs.Wanted.{Fits, ChangeApplies}
 -- a frame 53 of five numbers has its edge's key
 edge-frame : (l : Line) → Padded l → badFrame l ≡ false → kind l ≡ 3 → frameKey l ≡ edgeKey (edgeIn l)
 edge-frame l pad h k =
-    let w = neither (eqb (l .count) 0 || not (ofRoutine l || ofEdge l)) (not (eqb (l .count) (size (kind l)))) h in
-    let c : l .count ≡ 5 = eqb-true (l .count) (size (kind l)) (not-false _ (w .1)) ∙ rw k in
+    let w = neither (eqb (l .count) 0 || not (ofRoutine l || ofEdge l)) (not (eqb (l .count) (size 0 (kind l)))) h in
+    let c : l .count ≡ 5 = eqb-true (l .count) (size 0 (kind l)) (not-false _ (w .1)) ∙ rw k in
     rw (k, pad 5 (omega arith), pad 6 (omega arith), pad 7 (omega arith))
 
 module _ (b : Program) (f : ℕ) where
@@ -80,24 +80,25 @@ module _ (b : Program) (f : ℕ) where
 -- ---- the text
 
 -- nothing is met, and the exchange is this one
-not-refused : (a b c d : Bool) (x : Exchange) (e : Change) → exchangeUnless (firstMet (row 12 a ∷ row 13 b ∷ row 21 c ∷ row 16 d ∷ [])) x ≡ Read e
-    → (a ≡ false) × (b ≡ false) × (c ≡ false) × (d ≡ false) × (whole x ≡ e)
+not-refused : (a b c d g : Bool) (x : Exchange) (e : Change) → exchangeUnless (firstMet (row 12 a ∷ row 13 b ∷ row 21 c ∷ row 16 d ∷ row 23 g ∷ [])) x ≡ Read e
+    → (a ≡ false) × (b ≡ false) × (c ≡ false) × (d ≡ false) × (g ≡ false) × (whole x ≡ e)
 unfolding firstMet
-not-refused true b c d x e h = absurd (let z : _≡_ {A = ℕ} 0 1 = cc in omega arith)
-not-refused false true c d x e h = absurd (let z : _≡_ {A = ℕ} 0 1 = cc in omega arith)
-not-refused false false true d x e h = absurd (let z : _≡_ {A = ℕ} 0 1 = cc in omega arith)
-not-refused false false false true x e h = absurd (let z : _≡_ {A = ℕ} 0 1 = cc in omega arith)
-not-refused false false false false x e h = (refl, refl, refl, refl, cc)
+not-refused true b c d g x e h = absurd (let z : _≡_ {A = ℕ} 0 1 = cc in omega arith)
+not-refused false true c d g x e h = absurd (let z : _≡_ {A = ℕ} 0 1 = cc in omega arith)
+not-refused false false true d g x e h = absurd (let z : _≡_ {A = ℕ} 0 1 = cc in omega arith)
+not-refused false false false true g x e h = absurd (let z : _≡_ {A = ℕ} 0 1 = cc in omega arith)
+not-refused false false false false true x e h = absurd (let z : _≡_ {A = ℕ} 0 1 = cc in omega arith)
+not-refused false false false false false x e h = (refl, refl, refl, refl, refl, cc)
 
 -- a leading frame 52 bounds the others
 bounds : (p : Program) (l : Line) (ls : List Line) → ofRoutine l ≡ true → boundedBy (l ∷ ls) p ≡ withNodes p (num l 1) (num l 2)
 bounds p l ls h = rw h
 
 lines-fit : (p : Program) (qs : List (List ℕ)) → badText (map lineIn qs) ≡ false → outOfRange p (map lineIn qs) ≡ false → disordered (map lineIn qs) ≡ false
-    → tooMany p (exchangeIn (map lineIn qs)) ≡ false → Fits (exchangeIn (map lineIn qs)) p
+    → tooMany p (exchangeIn (map lineIn qs)) ≡ false → tooLarge p (exchangeIn (map lineIn qs)) ≡ false → Fits (exchangeIn (map lineIn qs)) p
 unfolding any
-lines-fit p [] h o d t = never refl h
-lines-fit p (q ∷ qs) h o d t =
+lines-fit p [] h o d t g = never refl h
+lines-fit p (q ∷ qs) h o d t g =
     let l = lineIn q in
     let f = num l 1 in
     let n = num l 2 in
@@ -117,6 +118,7 @@ lines-fit p (q ∷ qs) h o d t =
       edges-own = e .all-own;
       edges-ascend = e .ascend;
       edges-limited = ltb-false maxEdges (length (others f (p .edges)) + length (map edgeIn ls)) t;
+      sized = not-false _ g;
     }
 
 -- whatever is read is an exchange that fits
@@ -124,8 +126,8 @@ pub exchange-applies : (p : Program) (s : List ℕ) (c : Change) → wantedExcha
 unfolding wantedExchange exchangeFrom
 exchange-applies p s c h =
     let ls = textLines s in
-    let w = not-refused (badText ls) (outOfRange p ls) (disordered ls) (tooMany p (exchangeIn ls)) (exchangeIn ls) c h in
-    subst (λ (d : Change). ChangeApplies d p) (w .4) (lines-fit p (lines s) (w .0) (w .1) (w .2) (w .3))
+    let w = not-refused (badText ls) (outOfRange p ls) (disordered ls) (tooMany p (exchangeIn ls)) (tooLarge p (exchangeIn ls)) (exchangeIn ls) c h in
+    subst (λ (d : Change). ChangeApplies d p) (w .5) (lines-fit p (lines s) (w .0) (w .1) (w .2) (w .3) (w .4))
 
 pub wanted-fits : (p : Program) (s : List ℕ) (x : Exchange) → wantedExchange p s ≡ Read (whole x) → Fits x p
 wanted-fits p s x h = exchange-applies p s (whole x) h

@@ -12,6 +12,7 @@ use Rattle.base.proofs.Bools.{neither}
 use Rattle.tables.specs.Keys.{Ascending}
 use Rattle.program.specs.Sizes.{maxEdges}
 use Rattle.program.specs.Program.{Edge, Program, nodesFit, edgeFits}
+use Rattle.program.specs.Chosen.{sizesFit}
 use Rattle.program.specs.Frames.{edgeKey}
 use Rattle.program.specs.WellFormed.{All, WellFormed}
 use Rattle.edit.specs.Editing.{sameEdge, hasEdge, withEdges}
@@ -56,9 +57,9 @@ others-fit p f n (e ∷ es) a = go (eqb (e .routine) f) refl (others-fit p f n e
 abbrev resized : ℕ → ℕ → Program → Program
 resized f n p = withNodes (emptied f p) f n
 
-resized-well-formed : (f n : ℕ) (p : Program) → WellFormed p → nodesFit n ≡ true → WellFormed (resized f n p)
+resized-well-formed : (f n : ℕ) (p : Program) → WellFormed p → nodesFit n ≡ true → sizesFit (withNodes p f n) ≡ true → WellFormed (resized f n p)
 unfolding emptied
-resized-well-formed f n p w h =
+resized-well-formed f n p w h z =
     let v = emptied-well-formed f p w in
     record {
       counts-fit = v .counts-fit;
@@ -74,6 +75,7 @@ resized-well-formed f n p w h =
       initial-ascend = v .initial-ascend;
       rejecting-fit = v .rejecting-fit;
       rejecting-ascend = v .rejecting-ascend;
+      sized = z;
     }
 
 -- ---- the new edges added
@@ -126,5 +128,5 @@ module _ (q : Program) (w : WellFormed q) (f : ℕ) (none : All (λ e. not (own 
 pub exchanged-well-formed : (x : Exchange) (p : Program) → WellFormed p → Fits x p → WellFormed (exchangedProgram x p)
 unfolding emptied exchangedProgram
 exchanged-well-formed x p w g =
-    filled (resized (x .routine) (x .nodes) p) (resized-well-formed (x .routine) (x .nodes) p w (g .nodes-fit)) (x .routine)
+    filled (resized (x .routine) (x .nodes) p) (resized-well-formed (x .routine) (x .nodes) p w (g .nodes-fit) (g .sized)) (x .routine)
     (none-own (x .routine) (p .edges)) 0 (x .edges) (g .edges-fit) (g .edges-own) (g .edges-ascend) (g .edges-limited)

@@ -7,6 +7,7 @@ use mathlib.Core.List.{List, [], _∷_}
 use lib.ListN.{replicate}
 use Rattle.text.specs.Hex.{hex}
 use Rattle.text.specs.Lines.{lines, numbers}
+use Rattle.program.specs.Chosen.{largest, numbers as marksLength}
 use Rattle.program.specs.Program.{Edge, Program}
 use Rattle.program.specs.Frames.{nodesFrame}
 use Rattle.program.specs.Checks.{firstMet}
@@ -30,7 +31,7 @@ edge f n a m = record { routine = f; source = n; label = a; target = m }
 
 -- to unfold this is to unfold all that reading computes with
 reading : Unit {0}
-unfolding lines numbers firstMet any anyAstray others exchangeFrom wantedExchange
+unfolding lines numbers firstMet any anyAstray others largest marksLength exchangeFrom wantedExchange
 reading = tt
 
 -- ---- texts that are read
@@ -91,9 +92,9 @@ bad-at-last = refl
 
 -- ---- 13
 
-seventeen-nodes : says ("520111" ∷ []) ≡ Refused 13
+too-many-nodes : says ("520141" ∷ []) ≡ Refused 13
 unfolding reading
-seventeen-nodes = refl
+too-many-nodes = refl
 
 one-node : says ("520101" ∷ []) ≡ Refused 13
 unfolding reading
@@ -168,3 +169,31 @@ one-too-many = refl
 just-enough : wantedExchange filled (bytes ("520102" ∷ [])) ≡ routine1 2 []
 unfolding reading
 just-enough = refl
+
+-- ---- 23: with 2 routines and 16 states, 32 nodes are the most
+
+abbrev wide : Program
+wide =
+    record {
+      routines = 2;
+      nodes = 3 ∷ 2 ∷ [];
+      edges = [];
+      automaton = record { states = 16; actions = 2; transitions = []; initial = []; rejecting = [] };
+    }
+
+product-above : wantedExchange wide (bytes ("520121" ∷ [])) ≡ Refused 23
+unfolding reading
+product-above = refl
+
+most-nodes : wantedExchange wide (bytes ("520120" ∷ [])) ≡ routine1 32 []
+unfolding reading
+most-nodes = refl
+
+-- 21 and 16 are met before it
+order-before-sizes : wantedExchange wide (bytes ("520121" ∷ "520121" ∷ [])) ≡ Refused 21
+unfolding reading
+order-before-sizes = refl
+
+edges-before-sizes : wantedExchange (withEdges wide (replicate 256 (edge 0 0 0 1))) (bytes ("520121" ∷ "5301000001" ∷ [])) ≡ Refused 16
+unfolding reading
+edges-before-sizes = refl

@@ -16,7 +16,7 @@ use Rattle.program.specs.Checks.{row, firstMet}
 use Rattle.base.proofs.Bools.{never}
 use Rattle.exchange.specs.Changes.{Exchange, Refused}
 use Rattle.exchange.specs.Changing.{others}
-use Rattle.exchange.specs.ExchangeText.{any, badFrame, badText, boundedBy, outside, outOfRange, frameKey, anyAstray, disordered, exchangeIn, tooMany, exchangeUnless, exchangeFrom}
+use Rattle.exchange.specs.ExchangeText.{any, badFrame, badText, boundedBy, outside, outOfRange, frameKey, anyAstray, disordered, exchangeIn, tooMany, tooLarge, exchangeUnless, exchangeFrom}
 use Rattle.exchange.specs.Parts.{Found, begun, foundAfter, tooManyIn, decidedBy, concluded, restFrom}
 
 -- what is known after these lines
@@ -73,22 +73,22 @@ module _ (b : Program) (f : ℕ) where
 -- ---- the whole text
 
 -- what the exchange would be does not matter where 16 is met
-decided-same : (a b : Bool) {c d : Bool} {x y : Exchange} → c ≡ d → (d ≡ false → x ≡ y) → decidedBy a b c x ≡ decidedBy a b d y
+decided-same : (a b : Bool) {c d : Bool} (g : Bool) {x y : Exchange} → c ≡ d → (d ≡ false → x ≡ y) → decidedBy a b c g x ≡ decidedBy a b d g y
 unfolding firstMet
-decided-same a b {c} {d} {x} {y} e h = rw e (go a b d h)
+decided-same a b {c} {d} g {x} {y} e h = rw e (go a b d h)
   where
-    go : (a b d : Bool) → (d ≡ false → x ≡ y) → decidedBy a b d x ≡ decidedBy a b d y
+    go : (a b d : Bool) → (d ≡ false → x ≡ y) → decidedBy a b d g x ≡ decidedBy a b d g y
     go true b d h = refl
     go false true d h = refl
     go false false true h = refl
     go false false false h = rw (h refl)
 
 -- 12, and then the others
-after-bad : (t a b c : Bool) (x : Exchange)
-    → cond t (Refused 12) (decidedBy a b c x) ≡ exchangeUnless (firstMet (row 12 t ∷ row 13 a ∷ row 21 b ∷ row 16 c ∷ [])) x
+after-bad : (t a b c g : Bool) (x : Exchange)
+    → cond t (Refused 12) (decidedBy a b c g x) ≡ exchangeUnless (firstMet (row 12 t ∷ row 13 a ∷ row 21 b ∷ row 16 c ∷ row 23 g ∷ [])) x
 unfolding firstMet
-after-bad true a b c x = refl
-after-bad false a b c x = refl
+after-bad true a b c g x = refl
+after-bad false a b c g x = refl
 
 module _ (p b : Program) (first : Line) (same : (l : Line) → outside b l ≡ outside (boundedBy (first ∷ []) p) l) where
   abbrev f : ℕ
@@ -128,20 +128,20 @@ module _ (p b : Program) (first : Line) (same : (l : Line) → outside b l ≡ o
 
   concluded-all : (ls : List Line)
       → concluded p first (scanned b f (begun b first) ls)
-      ≡ decidedBy (outOfRange p (first ∷ ls)) (disordered (first ∷ ls)) (tooMany p (exchangeIn (first ∷ ls))) (exchangeIn (first ∷ ls))
+      ≡ decidedBy (outOfRange p (first ∷ ls)) (disordered (first ∷ ls)) (tooMany p (exchangeIn (first ∷ ls))) (tooLarge p (exchangeIn (first ∷ ls))) (exchangeIn (first ∷ ls))
   unfolding any
   concluded-all ls =
       let e = edges-scanned ls in
       let o : scanned b f (begun b first) ls .outside ≡ outOfRange p (first ∷ ls) = outside-found b f (begun b first) ls ∙ rw (same first, any-outside ls) in
       rw (o, astray-found b f (begun b first) ls)
-      (decided-same (outOfRange p (first ∷ ls)) (disordered (first ∷ ls)) (e .0) (λ h. rw (e .1 h)))
+      (decided-same (outOfRange p (first ∷ ls)) (disordered (first ∷ ls)) (tooLarge p (exchangeIn (first ∷ ls))) (e .0) (λ h. rw (e .1 h)))
 
   -- a first line that is not bad, and then the others: they decide as the definition says
   pub rest-all : (ls : List Line) → badFrame first ≡ false → restFrom b p first (begun b first) ls ≡ exchangeFrom p (first ∷ ls)
   unfolding exchangeFrom any
   rest-all ls h =
       rest-scanned (begun b first) ls
-      ∙ rw (h, concluded-all ls) (after-bad (any badFrame ls) (outOfRange p (first ∷ ls)) (disordered (first ∷ ls)) (tooMany p (exchangeIn (first ∷ ls))) (exchangeIn (first ∷ ls)))
+      ∙ rw (h, concluded-all ls) (after-bad (any badFrame ls) (outOfRange p (first ∷ ls)) (disordered (first ∷ ls)) (tooMany p (exchangeIn (first ∷ ls))) (tooLarge p (exchangeIn (first ∷ ls))) (exchangeIn (first ∷ ls)))
 
 -- a bad line goes before all else
 pub bad-first : (p : Program) (ls : List Line) → badText ls ≡ true → exchangeFrom p ls ≡ Refused 12

@@ -19,3 +19,8 @@ pub data Change : Type 0 where
 pub data ChangeRead : Type 0 where
   Read : Change → ChangeRead
   Refused : ℕ → ChangeRead
+
+-- what a call is handed: an edit line, or the text of an exchange
+pub data Form : Type 0 where
+  EditLine : Form
+  ExchangeText : Form

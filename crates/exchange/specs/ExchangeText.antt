@@ -9,6 +9,7 @@ use Rattle.text.specs.Lines.{lines, numbers, lineFrom}
 use Rattle.text.specs.declared.Line.{Line}
 use Rattle.program.specs.Sizes.{maxEdges}
 use Rattle.program.specs.Program.{Program}
+use Rattle.program.specs.Chosen.{sizesFit}
 use Rattle.program.specs.Frames.{size, num, kind, word, rest, keyOf}
 use Rattle.program.specs.Reading.{edgeIn, ranged}
 use Rattle.program.specs.Checks.{Row, row, firstMet}
@@ -35,8 +36,9 @@ any t (l ∷ ls) = t l || any t ls
 
 -- ---- 12: no line at all, or a line with faults as in 1 to 3; the known kinds are 52 and 53
 
+-- the states do not matter for the size of these kinds
 abbrev pub badFrame : Line → Bool
-badFrame l = eqb (l .count) 0 || not (ofRoutine l || ofEdge l) || not (eqb (l .count) (size (kind l)))
+badFrame l = eqb (l .count) 0 || not (ofRoutine l || ofEdge l) || not (eqb (l .count) (size 0 (kind l)))
 
 abbrev pub badText : List Line → Bool
 badText [] = true
@@ -82,6 +84,11 @@ exchangeIn (l ∷ ls) = record { routine = num l 1; nodes = num l 2; edges = map
 abbrev pub tooMany : Program → Exchange → Bool
 tooMany p x = ltb maxEdges (length (others (x .routine) (p .edges)) + length (x .edges))
 
+-- ---- 23: the product of the new program's sizes is above 16,384
+
+abbrev pub tooLarge : Program → Exchange → Bool
+tooLarge p x = not (sizesFit (withNodes p (x .routine) (x .nodes)))
+
 -- ---- the refusals, each over the whole text before the next, and else the exchange
 
 abbrev pub exchangeRows : Program → List Line → List Row
@@ -94,6 +101,8 @@ exchangeRows p ls =
     ∷ row 21 (disordered ls)
     -- the new program would have more than 256 edges
     ∷ row 16 (tooMany p (exchangeIn ls))
+    -- the product of its sizes is above 16,384
+    ∷ row 23 (tooLarge p (exchangeIn ls))
     ∷ []
 
 abbrev pub exchangeUnless : ℕ → Exchange → ChangeRead
@@ -102,6 +111,6 @@ exchangeUnless n x = cond (eqb n 0) (Read (whole x)) (Refused n)
 unfoldable pub exchangeFrom : Program → List Line → ChangeRead
 exchangeFrom p ls = exchangeUnless (firstMet (exchangeRows p ls)) (exchangeIn ls)
 
--- the exchange that a text says for a program, or the first refusal of 12, 13, 21 and 16 that it meets
+-- the exchange that a text says for a program, or the first refusal of 12, 13, 21, 16 and 23 that it meets
 unfoldable pub wantedExchange : Program → List ℕ → ChangeRead
 wantedExchange p text = exchangeFrom p (textLines text)

@@ -1,5 +1,6 @@
 pub mod Changes
 pub mod Changing
+pub mod Lengths
 pub mod ExchangeText
 pub mod Wanted
 pub mod Decoded

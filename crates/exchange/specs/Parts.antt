@@ -14,7 +14,7 @@ use Rattle.program.specs.Decoded.{edgeKeysOf, edgeOf}
 use Rattle.program.specs.declared.edges.Edges.{Edges}
 use Rattle.exchange.specs.Changes.{Exchange, ChangeRead, Refused}
 use Rattle.exchange.specs.Changing.{others}
-use Rattle.exchange.specs.ExchangeText.{ofRoutine, badFrame, outside, frameKey, astray, exchangeUnless}
+use Rattle.exchange.specs.ExchangeText.{ofRoutine, badFrame, outside, frameKey, astray, tooLarge, exchangeUnless}
 use Rattle.exchange.specs.declared.scan.Scan.{Scan}
 
 -- the edges of a table
@@ -61,18 +61,18 @@ abbrev pub tooManyIn : Program → ℕ → Found → Bool
 tooManyIn p f s = s .crowded || ltb maxEdges (length (others f (p .edges)) + length (s .edges))
 
 -- the refusals after 12
-abbrev pub laterRows : Bool → Bool → Bool → List Row
-laterRows out stray many = row 13 out ∷ row 21 stray ∷ row 16 many ∷ []
+abbrev pub laterRows : Bool → Bool → Bool → Bool → List Row
+laterRows out stray many large = row 13 out ∷ row 21 stray ∷ row 16 many ∷ row 23 large ∷ []
 
 -- the first of them, and else the exchange
-abbrev pub decidedBy : Bool → Bool → Bool → Exchange → ChangeRead
-decidedBy out stray many x = exchangeUnless (firstMet (laterRows out stray many)) x
+abbrev pub decidedBy : Bool → Bool → Bool → Bool → Exchange → ChangeRead
+decidedBy out stray many large x = exchangeUnless (firstMet (laterRows out stray many large)) x
 
 -- after the last line
 abbrev pub concluded : Program → Line → Found → ChangeRead
 concluded p first s =
-    decidedBy (s .outside) (s .astray) (tooManyIn p (num first 1) s)
-    (record { routine = num first 1; nodes = num first 2; edges = s .edges })
+    let x : Exchange = record { routine = num first 1; nodes = num first 2; edges = s .edges } in
+    decidedBy (s .outside) (s .astray) (tooManyIn p (num first 1) s) (tooLarge p x) x
 
 -- what the lines that are left decide
 unfoldable pub restFrom : Program → Program → Line → Found → List Line → ChangeRead

@@ -8,23 +8,22 @@ use lib.ListN.{length}
 use Rattle.tables.specs.Keys.{Ascending}
 use Rattle.program.specs.Sizes.{maxEdges}
 use Rattle.program.specs.Program.{Program, nodesFit, edgeFits}
+use Rattle.program.specs.Chosen.{sizesFit}
 use Rattle.program.specs.Frames.{edgeKey}
 use Rattle.program.specs.WellFormed.{All}
 use Rattle.edit.specs.Editing.{wantedEdit, Applies}
 use Rattle.edit.specs.declared.EditRead.{EditRead}
 use Rattle.edit.specs.declared.EditRead.the-variants as edit
-use Rattle.exchange.specs.Changes.{Exchange, Change, step, whole, ChangeRead, Read, Refused}
+use Rattle.exchange.specs.Changes.{Exchange, Change, step, whole, ChangeRead, Read, Refused, Form, EditLine, ExchangeText}
 use Rattle.exchange.specs.Changing.{others, withNodes}
 use Rattle.exchange.specs.ExchangeText.{wantedExchange}
-use Rattle.exchange.specs.declared.Form.{Form}
-use Rattle.exchange.specs.declared.Form.the-variants.{EditLine, ExchangeText}
 
 abbrev pub ofEdit : EditRead → ChangeRead
 ofEdit (edit.Read e) = Read (step e)
 ofEdit (edit.Refused n) = Refused n
 
 -- the change that a buffer says for a program, or the first refusal that it meets: 12 to 16 for an edit line; 12, 13,
--- 21 and 16 for an exchange
+-- 21, 16 and 23 for an exchange
 abbrev pub wantedChange : Form → Program → List ℕ → ChangeRead
 wantedChange EditLine p s = ofEdit (wantedEdit p s)
 wantedChange ExchangeText p s = wantedExchange p s
@@ -37,6 +36,7 @@ pub record Fits (x : Exchange) (p : Program) : Type 0 where
   pub edges-own : All (λ e. eqb (e .routine) (x .routine)) (x .edges)
   pub edges-ascend : Ascending 0 (map edgeKey (x .edges))
   pub edges-limited : length (others (x .routine) (p .edges)) + length (x .edges) ≤ maxEdges
+  pub sized : sizesFit (withNodes p (x .routine) (x .nodes)) ≡ true
 
 -- a change that is not refused
 abbrev pub ChangeApplies : Change → Program → Type 0

@@ -17,7 +17,7 @@ ghost use Prim.Native.Nat.{_+_, _≤_};
 ghost use lib.ListN.{length, take, drop, set};
 ghost use Rattle.program.specs.Sizes.{maxEdges};
 ghost use Rattle.program.specs.Decoded.{nodesOf, edgeKeysOf, edgeOf, programOf};
-ghost use Rattle.exchange.specs.Changing.{others, emptied, exchangedProgram};
+ghost use Rattle.exchange.specs.Changing.{others, withNodes, emptied, exchangedProgram};
 ghost use Rattle.exchange.specs.Wanted.{Fits};
 ghost use Rattle.exchange.specs.Decoded.{exchangeOf};
 
@@ -33,6 +33,22 @@ pub fn with_nodes(n: Nodes, f: u8, nodes: u8) -> Nodes
     Nodes {
         count: n.count,
         list,
+    }
+}
+
+// The program in which routine f has so many nodes.
+pub fn program_with_nodes(p: DecodedProgram, f: u8, count: u8) -> DecodedProgram
+    ensures { λ r. ⌜ programOf r ≡ withNodes (programOf p) f count ⌝ }
+{
+    let counts = p.nodes;
+    let nodes = with_nodes(counts, f, count);
+    let edges = p.edges;
+    let automaton = p.automaton;
+    DecodedProgram {
+        routines: p.routines,
+        nodes,
+        edges,
+        automaton,
     }
 }
 

@@ -1,11 +1,9 @@
-// Changes of a program: an edit of one edge, or an exchange of a whole routine.
+// Exchanges of a whole routine: the text of one, its refusals, and the program after it.
 pub mod apply;
+pub mod lengths;
 mod line;
 mod scan;
 
-use edit::Edit;
-use edit::EditRead;
-use edit::wanted_edit;
 use frames::judge::limits_of;
 use frames::number;
 use line::bounded_by;
@@ -18,13 +16,10 @@ use scan::conclude;
 use scan::start_scan;
 use text::read_line;
 ghost use mathlib.Core.Path.{_≡_};
-ghost use mathlib.Core.List.{[]};
 ghost use Rattle.program.specs.Decoded.{programOf};
-ghost use Rattle.program.specs.WellFormed.{WellFormed};
-ghost use Rattle.exchange.specs.Changes.{Exchange, Refused};
-ghost use Rattle.exchange.specs.ExchangeText.{exchangeIn, wantedExchange};
-ghost use Rattle.exchange.specs.Wanted.{ofEdit, wantedChange};
-ghost use Rattle.exchange.specs.Decoded.{exchangeOf, readBy, readOf};
+ghost use Rattle.exchange.specs.Changes.{Refused};
+ghost use Rattle.exchange.specs.ExchangeText.{wantedExchange};
+ghost use Rattle.exchange.specs.Decoded.{readOf};
 
 // A routine has so many nodes now and, for its old edges, these.
 pub struct DecodedExchange {
@@ -33,65 +28,37 @@ pub struct DecodedExchange {
     pub edges: Edges,
 }
 
-// What a change is. An exchange stands beside it, for an enum holds no array.
-pub enum ChangeKind {
-    Step(Edit),
-    Whole,
-}
-
-pub struct DecodedChange {
-    pub kind: ChangeKind,
-    pub exchange: DecodedExchange,
-}
-
-// A change that was read, or the refusal of its line or text.
-pub enum ReadKind {
-    Read(ChangeKind),
-    Refused(u8),
-}
-
+// The exchange that was read, and 0; or the refusal of its text, with any exchange beside it.
 pub struct DecodedRead {
-    pub kind: ReadKind,
+    pub refusal: u8,
     pub exchange: DecodedExchange,
 }
 
-// What a call is handed: an edit line, or the text of an exchange.
-pub enum Form {
-    EditLine,
-    ExchangeText,
-}
-
-// What stands beside a change that is no exchange.
-fn no_exchange() -> DecodedExchange
-    ensures { λ r. ⌜ exchangeOf r ≡ exchangeIn [] ⌝ }
+// A text with a bad line.
+fn refuse() -> DecodedRead
+    ensures { λ r. ⌜ readOf r ≡ Refused 12 ⌝ }
 {
     let edges = no_edges();
-    DecodedExchange {
+    let exchange = DecodedExchange {
         routine: 0,
         nodes: 0,
         edges,
-    }
-}
-
-fn refuse(n: u8) -> DecodedRead
-    ensures { λ r. ⌜ readOf r ≡ Refused n ⌝ }
-{
-    let exchange = no_exchange();
+    };
     DecodedRead {
-        kind: ReadKind::Refused(n),
+        refusal: 12,
         exchange,
     }
 }
 
-// The exchange that a text says for a program, or the first refusal of 12, 13, 21 and 16 that it meets. A bad line (12)
-// decides at once; the other refusals wait for the end, for each is over the whole text before the next.
+// The exchange that a text says for a program, or the first refusal of 12, 13, 21, 16 and 23 that it meets. A bad line
+// (12) decides at once; the other refusals wait for the end, for each is over the whole text before the next.
 pub fn wanted_exchange(p: DecodedProgram, text: &[u8]) -> DecodedRead
     ensures { λ r. ⌜ readOf r ≡ wantedExchange (programOf p) (now (text .entry)) ⌝ }
 {
     let read = read_line(text, 0);
     let first = read.line;
     if is_bad(first) {
-        return refuse(12);
+        return refuse();
     }
     let h = bounded_by(limits_of(p), first);
     let f = number(first, 1);
@@ -101,42 +68,10 @@ pub fn wanted_exchange(p: DecodedProgram, text: &[u8]) -> DecodedRead
         let next = read_line(text, at);
         let l = next.line;
         if is_bad(l) {
-            return refuse(12);
+            return refuse();
         }
         s = after_line(s, h, f, l);
         at = next.next;
     }
     conclude(p, first, s)
-}
-
-// The edit of a line, or its refusal, as a change's: whatever stands beside it.
-fn edit_kind(r: EditRead) -> ReadKind
-    ensures { λ k. ⌜ ((x : Exchange) → readBy k x ≡ ofEdit r) ⌝ }
-{
-    match r {
-        EditRead::Read(e) => ReadKind::Read(ChangeKind::Step(e)),
-        EditRead::Refused(n) => ReadKind::Refused(n),
-    }
-}
-
-fn of_edit(r: EditRead) -> DecodedRead
-    ensures { λ w. ⌜ readOf w ≡ ofEdit r ⌝ }
-{
-    let exchange = no_exchange();
-    DecodedRead {
-        kind: edit_kind(r),
-        exchange,
-    }
-}
-
-// The change that a buffer says for a program, or the first refusal that it meets. The reader accepts only well-formed
-// programs: hence the `requires`.
-pub fn wanted_change(form: Form, p: DecodedProgram, s: &[u8]) -> DecodedRead
-    requires { ⌜ WellFormed (programOf p) ⌝ }
-    ensures { λ r. ⌜ readOf r ≡ wantedChange form (programOf p) (now (s .entry)) ⌝ }
-{
-    match form {
-        Form::EditLine => of_edit(wanted_edit(p, s)),
-        Form::ExchangeText => wanted_exchange(p, s),
-    }
 }

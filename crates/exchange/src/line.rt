@@ -19,7 +19,7 @@ pub fn is_bad(l: Line) -> bool
     ensures { λ r. ⌜ r ≡ badFrame l ⌝ }
 {
     let k = kind_of(l);
-    (l.count == 0) | !((k == 2) | (k == 3)) | !(l.count == size_of(k))
+    (l.count == 0) | !((k == 2) | (k == 3)) | !(l.count == size_of(0, k))
 }
 
 // 13, by what bounds the numbers: no more of a program has to be known.

@@ -1,9 +1,8 @@
 // What is known of an exchange's text after some of its lines, none of them bad, and what it says at its end.
-use crate::ChangeKind;
 use crate::DecodedExchange;
 use crate::DecodedRead;
-use crate::ReadKind;
 use crate::apply::others_of;
+use crate::apply::program_with_nodes;
 use crate::line::is_astray;
 use crate::line::is_outside;
 use frames::Limits;
@@ -12,23 +11,27 @@ use frames::key_of;
 use frames::kind_of;
 use frames::number;
 use program::DecodedProgram;
+use program::chosen::sizes_of;
 use program::edges::Edges;
 use program::edges::no_edges;
+use program::sizes::MARKS_MOST;
 use program::sizes::MAX_EDGES;
+use program::sizes::length_of;
 use tables::in_use;
 use tables::with_key;
 use text::Line;
 ghost use mathlib.Core.Path.{_≡_};
+ghost use mathlib.Core.Bool.{not};
 ghost use lib.Dec.{ltb};
 ghost use lib.ListN.{length};
 ghost use Rattle.program.specs.Sizes.{maxEdges};
+ghost use Rattle.program.specs.Chosen.{sizesFit};
 ghost use Rattle.program.specs.Reading.{more};
 ghost use Rattle.program.specs.Checks.{firstMet};
 ghost use Rattle.program.specs.Decoded.{edgeOf, programOf};
 ghost use Rattle.frames.specs.Limits.{limitsOf};
-ghost use Rattle.exchange.specs.Changes.{Exchange};
-ghost use Rattle.exchange.specs.ExchangeText.{exchangeUnless};
-ghost use Rattle.exchange.specs.Decoded.{readBy, readOf};
+ghost use Rattle.exchange.specs.Changing.{withNodes};
+ghost use Rattle.exchange.specs.Decoded.{readOf};
 ghost use Rattle.exchange.specs.Parts.{edgesOf, foundOf, begun, foundAfter, tooManyIn, laterRows, concluded};
 
 // The key of the frame before; whether a line was out of range (13), or astray (21); whether there were more edges than
@@ -93,9 +96,17 @@ fn has_too_many(p: DecodedProgram, f: u8, s: Scan) -> bool
     s.crowded | (MAX_EDGES < kept.count + in_use(new.count, MAX_EDGES))
 }
 
+// 23: the product of the new program's sizes is too large.
+fn is_too_large(p: DecodedProgram, f: u8, nodes: u8) -> bool
+    ensures { λ r. ⌜ r ≡ not (sizesFit (withNodes (programOf p) f nodes)) ⌝ }
+{
+    let changed = program_with_nodes(p, f, nodes);
+    !(length_of(sizes_of(changed)) <= MARKS_MOST)
+}
+
 // The refusals after 12 in their order, or 0.
-fn refusal_by(outside: bool, astray: bool, many: bool) -> u8
-    ensures { λ r. ⌜ r ≡ firstMet (laterRows outside astray many) ⌝ }
+fn refusal_by(outside: bool, astray: bool, many: bool, large: bool) -> u8
+    ensures { λ r. ⌜ r ≡ firstMet (laterRows outside astray many large) ⌝ }
 {
     if outside {
         return 13;
@@ -106,17 +117,10 @@ fn refusal_by(outside: bool, astray: bool, many: bool) -> u8
     if many {
         return 16;
     }
-    0
-}
-
-// An exchange was read, unless a number refuses it.
-fn kind_unless(n: u8) -> ReadKind
-    ensures { λ r. ⌜ ((x : Exchange) → readBy r x ≡ exchangeUnless n x) ⌝ }
-{
-    if n == 0 {
-        return ReadKind::Read(ChangeKind::Whole);
+    if large {
+        return 23;
     }
-    ReadKind::Refused(n)
+    0
 }
 
 // After the last line: the first refusal that is met, and else the exchange.
@@ -124,15 +128,17 @@ pub fn conclude(p: DecodedProgram, first: Line, s: Scan) -> DecodedRead
     ensures { λ r. ⌜ readOf r ≡ concluded (programOf p) first (foundOf s) ⌝ }
 {
     let f = number(first, 1);
+    let nodes = number(first, 2);
     let edges = s.edges;
     let exchange = DecodedExchange {
         routine: f,
-        nodes: number(first, 2),
+        nodes,
         edges,
     };
     let many = has_too_many(p, f, s);
+    let large = is_too_large(p, f, nodes);
     DecodedRead {
-        kind: kind_unless(refusal_by(s.outside, s.astray, many)),
+        refusal: refusal_by(s.outside, s.astray, many, large),
         exchange,
     }
 }

@@ -6,13 +6,15 @@ use Prim.Native.Nat.{ℕ}
 use Rattle.program.specs.Program.{Edge}
 use Rattle.reach.specs.Configurations.{number}
 use Rattle.prune.specs.Parts.{anyFrom, moveKept, callSupports, statesToTry, actionSupports, edgeSupports}
+use Rattle.program.specs.declared.sizes.Sizes.{Sizes}
 
-module _ (next kept : List ℕ) (f n r q : ℕ) (e : Edge) where
-  pub edge-calls : callSupports next kept e f n r q ≡ true → edgeSupports next kept f n r q e ≡ true
-  unfolding edgeSupports
-  edge-calls h = rw h refl
+module _ (Z : Sizes) where
+  module _ (next kept : List ℕ) (f n r q : ℕ) (e : Edge) where
+    pub edge-calls : callSupports Z next kept e f n r q ≡ true → edgeSupports Z next kept f n r q e ≡ true
+    unfolding edgeSupports
+    edge-calls h = rw h refl
 
-  pub edge-is : {end base : ℕ} → callSupports next kept e f n r q ≡ false → end ≡ statesToTry e f n → base ≡ number f (e .source) r 0
-      → anyFrom (λ x. moveKept next kept base x (e .label) q) end 0 ≡ edgeSupports next kept f n r q e
-  unfolding edgeSupports actionSupports
-  edge-is h z b = rw (h, z, b) refl
+    pub edge-is : {end base : ℕ} → callSupports Z next kept e f n r q ≡ false → end ≡ statesToTry Z e f n → base ≡ number Z f (e .source) r 0
+        → anyFrom (λ x. moveKept next kept base x (e .label) q) end 0 ≡ edgeSupports Z next kept f n r q e
+    unfolding edgeSupports actionSupports
+    edge-is h z b = rw (h, z, b) refl

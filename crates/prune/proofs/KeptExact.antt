@@ -32,109 +32,10 @@ use Rattle.prune.specs.Pruning.{Kept}
 use Rattle.prune.specs.Parts.{supports, keepsAt, Keeps, same, more, Settled, Tables, Sound, Started}
 use Rattle.prune.proofs.PassesKeep.{keeps-on}
 use Rattle.prune.proofs.SupportFound.{Supported, by-edge, as-called, as-returned, supports-sound, supports-found}
-
--- ---- what is kept next
-
-module _ (keys next marks kept : List ℕ) (i : ℕ) where
-  record Next : Type 0 where
-    marked : isSet marks i ≡ true
-    free : isSet kept i ≡ false
-    supported : supports keys next kept (routineOf i) (nodeOf i) (rootOf i) (stateOf i) ≡ true
-
-  next-kept : keepsAt keys next marks kept i ≡ true → Next
-  unfolding keepsAt
-  next-kept e = go (isSet marks i) refl (isSet kept i) refl e
-    where
-      go : (a : Bool) → isSet marks i ≡ a → (b : Bool) → isSet kept i ≡ b
-          → cond a (cond b false (supports keys next kept (routineOf i) (nodeOf i) (rootOf i) (stateOf i))) false ≡ true → Next
-      go true x true y e = never e refl
-      go true x false y e = record { marked = x; free = y; supported = e }
-      go false x b y e = never e refl
-
-  keeps-when : isSet marks i ≡ true → isSet kept i ≡ false
-      → supports keys next kept (routineOf i) (nodeOf i) (rootOf i) (stateOf i) ≡ true → keepsAt keys next marks kept i ≡ true
-  unfolding keepsAt
-  keeps-when a b c = rw (a, b, c) refl
-
-  pub keeps-free : keepsAt keys next marks kept i ≡ true → getD kept i 0 ≡ 0
-  keeps-free e = eqb-true (getD kept i 0) 0 (not-false (eqb (getD kept i 0) 0) (next-kept e .free))
-
--- ---- what is kept has support
-
--- nothing is kept yet
-pub none-kept : (p : Program) (marks : List ℕ) → Sound p marks none-set
-unfolding none-set
-none-kept p marks =
-    record {
-      len = length-replicate {A = ℕ} 16384 0;
-      bits = λ i. rw (zeros 16384 i) (omega arith);
-      supported = λ i o. absurd (o .on (zeros 16384 i));
-    }
-
--- one more that has support
-sound-more : {p : Program} {marks kept : List ℕ} → Sound p marks kept → (i : ℕ) → At (Kept p marks) i → Sound p marks (set kept i 1)
-sound-more {p} {marks} {kept} s i d =
-    record {
-      len = simp length-set (s .len);
-      bits = set-bits kept i 1 (omega arith) (s .bits);
-      supported = λ j o. ⊎-elim (λ e. rw e d) (λ k. s .supported j k) (set-inv kept i j o);
-    }
-
-module _ {p : Program} {marks kept : List ℕ} (s : Sound p marks kept) where
-  pub kept-is : {f n r q : ℕ} → Marked kept f n r q → Kept p marks f n r q
-  kept-is {f} {n} {r} {q} o = from-number (Kept p marks) (o .0) (s .supported (number f n r q) (record { on = o .1 }))
-
-  -- a marked configuration that has support in kept ones has support back to a start
-  supported-kept : {f n r q : ℕ} → Marked marks f n r q → Supported p (Marked kept) f n r q → Kept p marks f n r q
-  supported-kept w (by-edge e v o) = by-action (kept-is o) e v w
-  supported-kept w (as-called e v o) = by-call (kept-is o) e v w
-  supported-kept w (as-returned e o v o′ v′) = by-return (kept-is o) e v (kept-is o′) v′ w
-
-marked-at : (marks : List ℕ) (i : ℕ) → i < 16384 → isSet marks i ≡ true → At (Marked marks) i
-marked-at marks i h e = (parts-in-range i h, rw (number-of i) (set-byte marks i e))
-
-module _ {p : Program} {keys next : List ℕ} (t : Tables p keys next) {marks : List ℕ} where
-  pub keeps-sound : {old new : List ℕ} → Sound p marks old → Keeps (keepsAt keys next marks) old new → Sound p marks new
-  keeps-sound s same = s
-  keeps-sound s (more {kept = kept} l i h e) =
-      let s′ = keeps-sound s l in
-      let x = next-kept keys next marks kept i e in
-      let y = supports-sound p keys next t kept (parts-in-range i h) (x .supported) in
-      sound-more s′ i (supported-kept s′ (marked-at marks i h (x .marked)) y)
-
--- ---- nothing is left to be kept
-
-module _ {p : Program} {keys next : List ℕ} (t : Tables p keys next) (marks new : List ℕ)
-    (settled : (j : ℕ) → j < 16384 → keepsAt keys next marks new j ≡ false) where
-  -- a marked configuration that has support in kept ones is kept
-  closed : {f n r q : ℕ} → Marked marks f n r q → Supported p (Marked new) f n r q → On new (number f n r q)
-  closed {f} {n} {r} {q} w s = go (isSet new (number f n r q)) refl
-    where
-      go : (b : Bool) → isSet new (number f n r q) ≡ b → On new (number f n r q)
-      go true e = record { on = set-byte new (number f n r q) e }
-      go false e =
-          let i = number f n r q in
-          let h = w .0 in
-          let x : supports keys next new (routineOf i) (nodeOf i) (rootOf i) (stateOf i) ≡ true =
-          rw (routine-of h, node-of h, root-of h, state-of h) (supports-found p keys next t new h s) in
-          never (keeps-when keys next marks new i (byte-set marks i (w .1)) e x) (settled i (number-fits h))
-
-  -- so is all that has support back to a start
-  module _ (starts : (q : ℕ) → List·Memᴰ q (p .automaton .initial) → Marked marks 0 0 q q → On new (number 0 0 q q)) where
-    all-kept : {f n r q : ℕ} → Kept p marks f n r q → Marked new f n r q
-    all-kept (seeded (initial {q = q} x) w) = (w .0, starts q x w .on)
-    all-kept (by-action d e v w) = (w .0, closed w (by-edge e v (all-kept d)) .on)
-    all-kept (by-call d e v w) = (w .0, closed w (as-called e v (all-kept d)) .on)
-    all-kept (by-return d e v d′ v′ w) = (w .0, closed w (as-returned e (all-kept d) v (all-kept d′) v′) .on)
-
--- from the starts, when nothing is left, exactly what has support back to a start is kept
-pub settled-shows : {p : Program} {keys next : List ℕ} → Tables p keys next → (marks : List ℕ) {old new : List ℕ}
-    → Started p marks old 8 → Settled (keepsAt keys next marks) old new → Shows (Kept p marks) new
-settled-shows {p} t marks {old} {new} a b =
-    let s = keeps-sound t (a .sound) (b .keeps) in
-    let starts : (q : ℕ) → List·Memᴰ q (p .automaton .initial) → Marked marks 0 0 q q → On new (number 0 0 q q) =
-    λ q x w. keeps-on (b .keeps) (number 0 0 q q) (a .starts q (w .0 .state) x w) in
-    shows-marked (s .len) (s .bits) (λ f n r q. (λ o. kept-is s o, λ d. all-kept t marks new (b .none-left) starts d))
+use Rattle.program.specs.declared.sizes.Sizes.{Sizes}
+use Rattle.reach.specs.Configurations.{Usable}
+use Rattle.reach.specs.Ranged.{Sized}
+use Rattle.program.specs.Chosen.{numbers}
 
 -- ---- the starts
 
@@ -150,46 +51,6 @@ in-member q [] x = elim x [ ]
 in-member q (s ∷ ss) (List·Memᴰ·head e) = rw (eq-eqb s q (sym e)) refl
 in-member q (s ∷ ss) (List·Memᴰ·tail x) = rw (in-member q ss x, or-true (eqb s q)) refl
 
-pub start-none : {p : Program} {marks kept : List ℕ} → Sound p marks kept → Started p marks kept 0
-start-none s = record { sound = s; starts = λ q h. absurd (omega arith) }
-
-module _ {p : Program} {marks kept : List ℕ} (q : ℕ) (s : Started p marks kept q) (h : q < 8) where
-  range : InRange 0 0 q q
-  range = record { routine = omega arith; node = omega arith; root = h; state = h }
-
-  -- state q is tried
-  start-turn-to : (b : Bool) → isInitial (p .automaton) q && isSet marks (number 0 0 q q) ≡ b
-      → Started p marks (cond b (set kept (number 0 0 q q) 1) kept) (q + 1)
-  start-turn-to true e =
-      let at = number 0 0 q q in
-      let c = both (isInitial (p .automaton) q) (isSet marks at) e in
-      let d : Kept p marks 0 0 q q = seeded (initial (member-in q (p .automaton .initial) (c .0))) (range, set-byte marks at (c .1)) in
-      let fits : at < length kept = omega (arith, number-fits range, s .sound .len) in
-      record {
-        sound = sound-more (s .sound) at (to-number (Kept p marks) range d);
-        starts = λ j l x w.
-            let le : j ≤ q = omega arith in
-            ⊎-elim (λ y. rw y (set-on kept at fits)) (λ y. on-set kept at (number 0 0 j j) (s .starts j y x w)) (eq-or-lt-of-le le);
-      }
-  start-turn-to false e =
-      record {
-        sound = s .sound;
-        starts = λ j l x w.
-            let le : j ≤ q = omega arith in
-            ⊎-elim (λ y. none j y x w) (λ y. s .starts j y x w) (eq-or-lt-of-le le);
-      }
-    where
-      none : (j : ℕ) → j ≡ q → List·Memᴰ j (p .automaton .initial) → Marked marks 0 0 j j → On kept (number 0 0 j j)
-      none j y x w =
-          let a : isInitial (p .automaton) q ≡ true = rw y at (in-member j (p .automaton .initial) x) in
-          let b : isSet marks (number 0 0 q q) ≡ true = rw y at (byte-set marks (number 0 0 j j) (w .1)) in
-          let c : isInitial (p .automaton) q && isSet marks (number 0 0 q q) ≡ true = rw (a, b) refl in
-          never c e
-
-  pub start-turn : {yes : Bool} → yes ≡ isInitial (p .automaton) q → {at : ℕ} → at ≡ number 0 0 q q → {kept′ : List ℕ}
-      → kept′ ≡ cond (yes && isSet marks at) (set kept at 1) kept → Started p marks kept′ (q + 1)
-  start-turn y a e = rw (e, a, y) (start-turn-to (isInitial (p .automaton) q && isSet marks (number 0 0 q q)) refl)
-
 -- ---- the tables of a program
 
 -- the keys in use are as many as the count says
@@ -200,23 +61,168 @@ module _ (n : ℕ) (keys : List ℕ) {size u : ℕ} (room : length keys ≡ size
   pub used-counted : u ≡ length (take u keys)
   used-counted = rw (length-take u keys) (omega arith)
 
-pub its-tables : (p : Program) → WellFormed p → (edges : Edges) {next : List ℕ} → p .edges ≡ map edgeOf (edgeKeysOf edges)
-    → Answers (p .automaton) (p .routines) next → length (edges .keys) ≡ maxEdges → {m : ℕ} → m ≡ min (edges .count) maxEdges
-    → Tables p (take m (edges .keys)) next
-its-tables p w edges e s a u =
-    record {
-      well-formed = w;
-      edges = e ∙ ap (map edgeOf) (sym (in-use-same (edges .count) (edges .keys) a u));
-      answers = s;
-    }
+module _ (Z : Sizes) (U : Usable Z) where
+  -- ---- what is kept next
 
--- ---- the bytes of a buffer
+  module _ (keys next marks kept : List ℕ) (i : ℕ) where
+    record Next : Type 0 where
+      marked : isSet marks i ≡ true
+      free : isSet kept i ≡ false
+      supported : supports Z keys next kept (routineOf Z i) (nodeOf Z i) (rootOf Z i) (stateOf Z i) ≡ true
 
--- cleared
-pub cleared-sound : (p : Program) (marks : List ℕ) {l : List ℕ} {n : ℕ} → l ≡ replicate n 0 → n ≡ 16384 → Sound p marks l
-cleared-sound p marks e h = rw (cleared-is e h) (none-kept p marks)
+    next-kept : keepsAt Z keys next marks kept i ≡ true → Next
+    unfolding keepsAt
+    next-kept e = go (isSet marks i) refl (isSet kept i) refl e
+      where
+        go : (a : Bool) → isSet marks i ≡ a → (b : Bool) → isSet kept i ≡ b
+            → cond a (cond b false (supports Z keys next kept (routineOf Z i) (nodeOf Z i) (rootOf Z i) (stateOf Z i))) false ≡ true → Next
+        go true x true y e = never e refl
+        go true x false y e = record { marked = x; free = y; supported = e }
+        go false x b y e = never e refl
 
--- copied to one of the same length
-pub copied-shows : {S : Set} {from : List ℕ} → Shows S from → (to : List ℕ) {new : List ℕ} → new ≡ take (length from) from ++ drop (length from) to
-    → length to ≡ 16384 → Shows S new
-copied-shows {S} {from} s to e h = rw (copied-is from to e (s .len ∙ sym h)) s
+    keeps-when : isSet marks i ≡ true → isSet kept i ≡ false
+        → supports Z keys next kept (routineOf Z i) (nodeOf Z i) (rootOf Z i) (stateOf Z i) ≡ true → keepsAt Z keys next marks kept i ≡ true
+    unfolding keepsAt
+    keeps-when a b c = rw (a, b, c) refl
+
+    pub keeps-free : keepsAt Z keys next marks kept i ≡ true → getD kept i 0 ≡ 0
+    keeps-free e = eqb-true (getD kept i 0) 0 (not-false (eqb (getD kept i 0) 0) (next-kept e .free))
+
+  -- ---- what is kept has support
+
+  -- nothing is kept yet
+  pub none-kept : (p : Program) (marks : List ℕ) → Sound Z p marks (none-set Z)
+  unfolding none-set
+  none-kept p marks =
+      record {
+        len = length-replicate {A = ℕ} (numbers Z) 0;
+        bits = λ i. rw (zeros (numbers Z) i) (omega arith);
+        supported = λ i o. absurd (o .on (zeros (numbers Z) i));
+      }
+
+  -- one more that has support
+  sound-more : {p : Program} {marks kept : List ℕ} → Sound Z p marks kept → (i : ℕ) → At Z (Kept Z p marks) i → Sound Z p marks (set kept i 1)
+  sound-more {p} {marks} {kept} s i d =
+      record {
+        len = simp length-set (s .len);
+        bits = set-bits kept i 1 (omega arith) (s .bits);
+        supported = λ j o. ⊎-elim (λ e. rw e d) (λ k. s .supported j k) (set-inv kept i j o);
+      }
+
+  module _ {p : Program} {marks kept : List ℕ} (s : Sound Z p marks kept) where
+    pub kept-is : {f n r q : ℕ} → Marked Z kept f n r q → Kept Z p marks f n r q
+    kept-is {f} {n} {r} {q} o = from-number (Kept Z p marks) (o .0) (s .supported (number Z f n r q) (record { on = o .1 }))
+
+    -- a marked configuration that has support in kept ones has support back to a start
+    supported-kept : {f n r q : ℕ} → Marked Z marks f n r q → Supported p (Marked Z kept) f n r q → Kept Z p marks f n r q
+    supported-kept w (by-edge e v o) = by-action (kept-is o) e v w
+    supported-kept w (as-called e v o) = by-call (kept-is o) e v w
+    supported-kept w (as-returned e o v o′ v′) = by-return (kept-is o) e v (kept-is o′) v′ w
+
+  marked-at : (marks : List ℕ) (i : ℕ) → i < numbers Z → isSet marks i ≡ true → At Z (Marked Z marks) i
+  marked-at marks i h e = (parts-in-range Z U i h, rw (number-of Z i) (set-byte marks i e))
+
+  module _ {p : Program} {keys next : List ℕ} (t : Tables Z p keys next) {marks : List ℕ} where
+    pub keeps-sound : {old new : List ℕ} → Sound Z p marks old → Keeps Z (keepsAt Z keys next marks) old new → Sound Z p marks new
+    keeps-sound s same = s
+    keeps-sound s (more {kept = kept} l i h e) =
+        let s′ = keeps-sound s l in
+        let x = next-kept keys next marks kept i e in
+        let y = supports-sound Z U p keys next t kept (parts-in-range Z U i h) (x .supported) in
+        sound-more s′ i (supported-kept s′ (marked-at marks i h (x .marked)) y)
+
+  -- ---- nothing is left to be kept
+
+  module _ {p : Program} {keys next : List ℕ} (t : Tables Z p keys next) (marks new : List ℕ)
+      (settled : (j : ℕ) → j < numbers Z → keepsAt Z keys next marks new j ≡ false) where
+    -- a marked configuration that has support in kept ones is kept
+    closed : {f n r q : ℕ} → Marked Z marks f n r q → Supported p (Marked Z new) f n r q → On new (number Z f n r q)
+    closed {f} {n} {r} {q} w s = go (isSet new (number Z f n r q)) refl
+      where
+        go : (b : Bool) → isSet new (number Z f n r q) ≡ b → On new (number Z f n r q)
+        go true e = record { on = set-byte new (number Z f n r q) e }
+        go false e =
+            let i = number Z f n r q in
+            let h = w .0 in
+            let x : supports Z keys next new (routineOf Z i) (nodeOf Z i) (rootOf Z i) (stateOf Z i) ≡ true =
+            rw (routine-of h, node-of h, root-of h, state-of h) (supports-found Z U p keys next t new h s) in
+            never (keeps-when keys next marks new i (byte-set marks i (w .1)) e x) (settled i (number-fits h))
+
+    -- so is all that has support back to a start
+    module _ (starts : (q : ℕ) → List·Memᴰ q (p .automaton .initial) → Marked Z marks 0 0 q q → On new (number Z 0 0 q q)) where
+      all-kept : {f n r q : ℕ} → Kept Z p marks f n r q → Marked Z new f n r q
+      all-kept (seeded (initial {q = q} x) w) = (w .0, starts q x w .on)
+      all-kept (by-action d e v w) = (w .0, closed w (by-edge e v (all-kept d)) .on)
+      all-kept (by-call d e v w) = (w .0, closed w (as-called e v (all-kept d)) .on)
+      all-kept (by-return d e v d′ v′ w) = (w .0, closed w (as-returned e (all-kept d) v (all-kept d′) v′) .on)
+
+  -- from the starts, when nothing is left, exactly what has support back to a start is kept
+  pub settled-shows : {p : Program} {keys next : List ℕ} → Tables Z p keys next → (marks : List ℕ) {old new : List ℕ}
+      → Started Z p marks old (Z .states) → Settled Z (keepsAt Z keys next marks) old new → Shows Z (Kept Z p marks) new
+  settled-shows {p} t marks {old} {new} a b =
+      let s = keeps-sound t (a .sound) (b .keeps) in
+      let starts : (q : ℕ) → List·Memᴰ q (p .automaton .initial) → Marked Z marks 0 0 q q → On new (number Z 0 0 q q) =
+      λ q x w. keeps-on Z U (b .keeps) (number Z 0 0 q q) (a .starts q (w .0 .state) x w) in
+      shows-marked Z U (s .len) (s .bits) (λ f n r q. (λ o. kept-is s o, λ d. all-kept t marks new (b .none-left) starts d))
+
+  pub start-none : {p : Program} {marks kept : List ℕ} → Sound Z p marks kept → Started Z p marks kept 0
+  start-none s = record { sound = s; starts = λ q h. absurd (omega arith) }
+
+  module _ {p : Program} {marks kept : List ℕ} (q : ℕ) (s : Started Z p marks kept q) (h : q < Z .states) (main : 0 < Z .routines) where
+    range : InRange Z 0 0 q q
+    range = record { routine = main; node = omega (arith, U .nodes); root = h; state = h }
+
+    -- state q is tried
+    start-turn-to : (b : Bool) → isInitial (p .automaton) q && isSet marks (number Z 0 0 q q) ≡ b
+        → Started Z p marks (cond b (set kept (number Z 0 0 q q) 1) kept) (q + 1)
+    start-turn-to true e =
+        let at = number Z 0 0 q q in
+        let c = both (isInitial (p .automaton) q) (isSet marks at) e in
+        let d : Kept Z p marks 0 0 q q = seeded (initial (member-in q (p .automaton .initial) (c .0))) (range, set-byte marks at (c .1)) in
+        let fits : at < length kept = omega (arith, number-fits range, s .sound .len) in
+        record {
+          sound = sound-more (s .sound) at (to-number (Kept Z p marks) range d);
+          starts = λ j l x w.
+              let le : j ≤ q = omega arith in
+              ⊎-elim (λ y. rw y (set-on kept at fits)) (λ y. on-set kept at (number Z 0 0 j j) (s .starts j y x w)) (eq-or-lt-of-le le);
+        }
+    start-turn-to false e =
+        record {
+          sound = s .sound;
+          starts = λ j l x w.
+              let le : j ≤ q = omega arith in
+              ⊎-elim (λ y. none j y x w) (λ y. s .starts j y x w) (eq-or-lt-of-le le);
+        }
+      where
+        none : (j : ℕ) → j ≡ q → List·Memᴰ j (p .automaton .initial) → Marked Z marks 0 0 j j → On kept (number Z 0 0 j j)
+        none j y x w =
+            let a : isInitial (p .automaton) q ≡ true = rw y at (in-member j (p .automaton .initial) x) in
+            let b : isSet marks (number Z 0 0 q q) ≡ true = rw y at (byte-set marks (number Z 0 0 j j) (w .1)) in
+            let c : isInitial (p .automaton) q && isSet marks (number Z 0 0 q q) ≡ true = rw (a, b) refl in
+            never c e
+
+    pub start-turn : {yes : Bool} → yes ≡ isInitial (p .automaton) q → {at : ℕ} → at ≡ number Z 0 0 q q → {kept′ : List ℕ}
+        → kept′ ≡ cond (yes && isSet marks at) (set kept at 1) kept → Started Z p marks kept′ (q + 1)
+    start-turn y a e = rw (e, a, y) (start-turn-to (isInitial (p .automaton) q && isSet marks (number Z 0 0 q q)) refl)
+
+  pub its-tables : (p : Program) → WellFormed p → Sized Z p → (edges : Edges) {next : List ℕ} → p .edges ≡ map edgeOf (edgeKeysOf edges)
+      → Answers (p .automaton) (p .routines) next → length (edges .keys) ≡ maxEdges → {m : ℕ} → m ≡ min (edges .count) maxEdges
+      → Tables Z p (take m (edges .keys)) next
+  its-tables p w z edges e s a u =
+      record {
+        well-formed = w;
+        sized = z;
+        edges = e ∙ ap (map edgeOf) (sym (in-use-same (edges .count) (edges .keys) a u));
+        answers = s;
+      }
+
+  -- ---- the bytes of a buffer
+
+  -- cleared
+  pub cleared-sound : (p : Program) (marks : List ℕ) {l : List ℕ} {n : ℕ} → l ≡ replicate n 0 → n ≡ numbers Z → Sound Z p marks l
+  cleared-sound p marks e h = rw (cleared-is Z e h) (none-kept p marks)
+
+  -- copied to one of the same length
+  pub copied-shows : {S : Set} {from : List ℕ} → Shows Z S from → (to : List ℕ) {new : List ℕ} → new ≡ take (length from) from ++ drop (length from) to
+      → length to ≡ numbers Z → Shows Z S new
+  copied-shows {S} {from} s to e h = rw (copied-is from to e (s .len ∙ sym h)) s

@@ -17,6 +17,7 @@ use Rattle.program.specs.Decoded.{edgeOf}
 use Rattle.worklist.specs.Parts.{FirstOf}
 use Rattle.worklist.proofs.RoutinePart.{part-starts, before-part, after-part}
 use Rattle.prune.specs.Parts.{anyFrom, anyKey, entrySupports, returnSupports, callSupports, statesToTry, actionSupports, edgeSupports, supports, PartOf}
+use Rattle.program.specs.declared.sizes.Sizes.{Sizes}
 
 -- ---- the part of a list outside which a test fails
 
@@ -54,14 +55,15 @@ its-part {keys} {f} {a} {b} x y up =
           (λ j l h. other (getD keys j 0) (rw all at (after-part x y fits (rw all up) j l (rw all h))));
     }
 
--- ---- what an edge of another routine supports
+module _ (Z : Sizes) where
+  -- ---- what an edge of another routine supports
 
-module _ (next kept : List ℕ) (f n r q : ℕ) (no-entry : eqb n 0 && eqb r q ≡ false) where
-  other-supports : (key : ℕ) → edgeOf key .routine ≢ f → edgeSupports next kept f n r q (edgeOf key) ≡ false
-  unfolding edgeSupports callSupports entrySupports returnSupports actionSupports statesToTry anyFrom
-  other-supports key h = rw (no-entry, ne-eqb (edgeOf key .routine) f h) refl
+  module _ (next kept : List ℕ) (f n r q : ℕ) (no-entry : eqb n 0 && eqb r q ≡ false) where
+    other-supports : (key : ℕ) → edgeOf key .routine ≢ f → edgeSupports Z next kept f n r q (edgeOf key) ≡ false
+    unfolding edgeSupports callSupports entrySupports returnSupports actionSupports statesToTry anyFrom
+    other-supports key h = rw (no-entry, ne-eqb (edgeOf key .routine) f h) refl
 
-  -- the search over the part and the one over the table find the same
-  pub part-supports : {keys part : List ℕ} → PartOf keys f part → supports part next kept f n r q ≡ supports keys next kept f n r q
-  unfolding supports
-  part-supports z = z .decides (λ key. edgeSupports next kept f n r q (edgeOf key)) other-supports
+    -- the search over the part and the one over the table find the same
+    pub part-supports : {keys part : List ℕ} → PartOf keys f part → supports Z part next kept f n r q ≡ supports Z keys next kept f n r q
+    unfolding supports
+    part-supports z = z .decides (λ key. edgeSupports Z next kept f n r q (edgeOf key)) other-supports

@@ -3,7 +3,6 @@
 use automaton::next::next_after;
 use automaton::sizes::FIRST_CALL;
 use automaton::sizes::FIRST_RETURN;
-use automaton::sizes::MAX_STATES;
 use base::bits::has_bit;
 use base::flags::is_set;
 use program::edges::DecodedEdge;
@@ -11,9 +10,9 @@ use program::edges::called_by;
 use program::edges::edge;
 use program::edges::is_call;
 use program::sizes::MAX_ROUTINES;
+use program::sizes::Sizes;
 use reach::configuration::Configuration;
 use reach::configuration::number_of;
-use reach::spans::ROOT_SPAN;
 ghost use mathlib.Core.Path.{_≡_};
 ghost use Prim.Native.Nat.{_<_};
 ghost use Rattle.base.specs.Bits.{bit};
@@ -33,27 +32,33 @@ fn may_go(next: &[u16], x: u8, l: u8, s: u8) -> bool
 
 // Whether some root of the configurations from a number on is kept. The number is one of a configuration: hence the
 // `requires`.
-fn root_kept(kept: &[u8], base: usize) -> bool
+fn root_kept(z: Sizes, kept: &[u8], base: usize) -> bool
     requires { ⌜ base < byteNumbers ⌝ }
-    ensures { λ y. ⌜ y ≡ rootKept (now (kept .entry)) base ⌝ }
+    ensures { λ y. ⌜ y ≡ rootKept z (now (kept .entry)) base ⌝ }
 {
-    let mut x: usize = 0;
-    while x < MAX_STATES {
-        if is_set(kept, base + ROOT_SPAN * x) {
+    let states = z.states;
+    let mut at = base;
+    let mut x: u8 = 0;
+    while x < states {
+        if is_set(kept, at) {
             return true;
         }
+        at = at + states as usize;
         x = x + 1;
     }
     false
 }
 
 // Whether from some state the edge's call gives root r, and its source is kept in that state.
-fn caller_kept(next: &[u16], kept: &[u8], e: DecodedEdge, r: u8) -> bool
-    ensures { λ y. ⌜ y ≡ callerKept (now (next .entry)) (now (kept .entry)) (edgeView e) r ⌝ }
+fn caller_kept(z: Sizes, next: &[u16], kept: &[u8], e: DecodedEdge, r: u8) -> bool
+    ensures { λ y. ⌜ y ≡ callerKept z (now (next .entry)) (now (kept .entry)) (edgeView e) r ⌝ }
 {
+    let states = z.states;
     let mut x: u8 = 0;
-    while x < MAX_STATES as u8 {
-        if may_go(next, x, e.label, r) && root_kept(kept, number_of(e.routine, e.source, 0, x)) {
+    while x < states {
+        if may_go(next, x, e.label, r)
+            && root_kept(z, kept, number_of(z, e.routine, e.source, 0, x))
+        {
             return true;
         }
         x = x + 1;
@@ -72,12 +77,13 @@ fn move_kept(next: &[u16], kept: &[u8], base: usize, x: u8, l: u8, t: u8) -> boo
 
 // Whether for some state the exit from a number on is kept in it, and a return of label l leads from it to t. The
 // number is one of a configuration: hence the `requires`.
-fn exit_kept(next: &[u16], kept: &[u8], exit: usize, l: u8, t: u8) -> bool
+fn exit_kept(z: Sizes, next: &[u16], kept: &[u8], exit: usize, l: u8, t: u8) -> bool
     requires { ⌜ exit < byteNumbers ⌝ }
-    ensures { λ y. ⌜ y ≡ exitKept (now (next .entry)) (now (kept .entry)) exit l t ⌝ }
+    ensures { λ y. ⌜ y ≡ exitKept z (now (next .entry)) (now (kept .entry)) exit l t ⌝ }
 {
+    let states = z.states;
     let mut x: u8 = 0;
-    while x < MAX_STATES as u8 {
+    while x < states {
         if move_kept(next, kept, exit, x, l, t) {
             return true;
         }
@@ -88,14 +94,17 @@ fn exit_kept(next: &[u16], kept: &[u8], exit: usize, l: u8, t: u8) -> bool
 
 // Whether from state y the call of g gives some root with which g returns to state t. A routine past the sizes has no
 // labels: hence the `requires`.
-fn root_returns(next: &[u16], kept: &[u8], y: u8, g: u8, t: u8) -> bool
+fn root_returns(z: Sizes, next: &[u16], kept: &[u8], y: u8, g: u8, t: u8) -> bool
     requires { ⌜ g < maxRoutines ⌝ }
-    ensures { λ z. ⌜ z ≡ rootReturns (now (next .entry)) (now (kept .entry)) y g t ⌝ }
+    ensures { λ b. ⌜ b ≡ rootReturns z (now (next .entry)) (now (kept .entry)) y g t ⌝ }
 {
     let roots = next_after(next, y, FIRST_CALL + g) as u64;
+    let states = z.states;
     let mut s: u8 = 0;
-    while s < MAX_STATES as u8 {
-        if has_bit(s, roots) && exit_kept(next, kept, number_of(g, 1, s, 0), FIRST_RETURN + g, t) {
+    while s < states {
+        if has_bit(s, roots)
+            && exit_kept(z, next, kept, number_of(z, g, 1, s, 0), FIRST_RETURN + g, t)
+        {
             return true;
         }
         s = s + 1;
@@ -105,16 +114,17 @@ fn root_returns(next: &[u16], kept: &[u8], y: u8, g: u8, t: u8) -> bool
 
 // Whether for some state the caller from a number on is kept in it, and a call of g from it returns to state t. A
 // routine past the sizes never returns: it has no labels. The number is one of a configuration: hence the `requires`.
-fn return_kept(next: &[u16], kept: &[u8], caller: usize, g: u8, t: u8) -> bool
+fn return_kept(z: Sizes, next: &[u16], kept: &[u8], caller: usize, g: u8, t: u8) -> bool
     requires { ⌜ caller < byteNumbers ⌝ }
-    ensures { λ z. ⌜ z ≡ returnKept (now (next .entry)) (now (kept .entry)) caller g t ⌝ }
+    ensures { λ b. ⌜ b ≡ returnKept z (now (next .entry)) (now (kept .entry)) caller g t ⌝ }
 {
     if MAX_ROUTINES <= g as usize {
         return false;
     }
+    let states = z.states;
     let mut y: u8 = 0;
-    while y < MAX_STATES as u8 {
-        if is_set(kept, caller + y as usize) && root_returns(next, kept, y, g, t) {
+    while y < states {
+        if is_set(kept, caller + y as usize) && root_returns(z, next, kept, y, g, t) {
             return true;
         }
         y = y + 1;
@@ -124,26 +134,26 @@ fn return_kept(next: &[u16], kept: &[u8], caller: usize, g: u8, t: u8) -> bool
 
 // A called entry has support where a call that gives its root is made, whether it returns or not. A routine past the
 // sizes has no label: hence the `requires`.
-fn entry_supports(next: &[u16], kept: &[u8], e: DecodedEdge, c: Configuration) -> bool
+fn entry_supports(z: Sizes, next: &[u16], kept: &[u8], e: DecodedEdge, c: Configuration) -> bool
     requires { ⌜ c .routine < maxRoutines ⌝ }
-    ensures { λ y. ⌜ y ≡ entrySupports (now (next .entry)) (now (kept .entry)) (edgeView e) (c .routine) (c .node)
+    ensures { λ y. ⌜ y ≡ entrySupports z (now (next .entry)) (now (kept .entry)) (edgeView e) (c .routine) (c .node)
         (c .root) (c .state) ⌝ }
 {
     if (c.node == 0) & (c.root == c.state) & (e.label == FIRST_CALL + c.routine) {
-        return caller_kept(next, kept, e, c.root);
+        return caller_kept(z, next, kept, e, c.root);
     }
     false
 }
 
 // After a call there is support where the caller is kept, and an exit of the called routine from which it returns.
-fn return_supports(next: &[u16], kept: &[u8], e: DecodedEdge, c: Configuration) -> bool
-    ensures { λ y. ⌜ y ≡ returnSupports (now (next .entry)) (now (kept .entry)) (edgeView e) (c .routine) (c .node)
+fn return_supports(z: Sizes, next: &[u16], kept: &[u8], e: DecodedEdge, c: Configuration) -> bool
+    ensures { λ y. ⌜ y ≡ returnSupports z (now (next .entry)) (now (kept .entry)) (edgeView e) (c .routine) (c .node)
         (c .root) (c .state) ⌝ }
 {
     if (e.routine == c.routine) & (e.target == c.node) {
         if is_call(e.label) {
-            let caller = number_of(c.routine, e.source, c.root, 0);
-            return return_kept(next, kept, caller, called_by(e.label), c.state);
+            let caller = number_of(z, c.routine, e.source, c.root, 0);
+            return return_kept(z, next, kept, caller, called_by(e.label), c.state);
         }
         return false;
     }
@@ -152,46 +162,46 @@ fn return_supports(next: &[u16], kept: &[u8], e: DecodedEdge, c: Configuration) 
 
 // By a call the edge gives support in two ways. The routine is in range, as that of an entry has to be: hence the
 // `requires`.
-fn call_supports(next: &[u16], kept: &[u8], e: DecodedEdge, c: Configuration) -> bool
+fn call_supports(z: Sizes, next: &[u16], kept: &[u8], e: DecodedEdge, c: Configuration) -> bool
     requires { ⌜ c .routine < maxRoutines ⌝ }
-    ensures { λ y. ⌜ y ≡ callSupports (now (next .entry)) (now (kept .entry)) (edgeView e) (c .routine) (c .node)
+    ensures { λ y. ⌜ y ≡ callSupports z (now (next .entry)) (now (kept .entry)) (edgeView e) (c .routine) (c .node)
         (c .root) (c .state) ⌝ }
 {
-    if entry_supports(next, kept, e, c) {
+    if entry_supports(z, next, kept, e, c) {
         return true;
     }
-    return_supports(next, kept, e, c)
+    return_supports(z, next, kept, e, c)
 }
 
 // How many states before are to be tried: none for an edge that is no action or leads elsewhere.
-fn states_to_try(e: DecodedEdge, f: u8, n: u8) -> u8
-    ensures { λ r. ⌜ r ≡ statesToTry (edgeView e) f n ⌝ }
+fn states_to_try(z: Sizes, e: DecodedEdge, f: u8, n: u8) -> u8
+    ensures { λ r. ⌜ r ≡ statesToTry z (edgeView e) f n ⌝ }
 {
     if (e.routine == f) & (e.target == n) {
         if is_call(e.label) {
             return 0;
         }
-        return MAX_STATES as u8;
+        return z.states;
     }
     0
 }
 
 // The search ends at the first support found. The configuration is in range: hence the `requires`.
-fn supported(keys: &[u32], next: &[u16], kept: &[u8], c: Configuration) -> bool
+fn supported(z: Sizes, keys: &[u32], next: &[u16], kept: &[u8], c: Configuration) -> bool
     requires { ⌜ c .routine < maxRoutines ⌝ }
-    ensures { λ y. ⌜ y ≡ supports (now (keys .entry)) (now (next .entry)) (now (kept .entry)) (c .routine) (c .node)
+    ensures { λ y. ⌜ y ≡ supports z (now (keys .entry)) (now (next .entry)) (now (kept .entry)) (c .routine) (c .node)
         (c .root) (c .state) ⌝ }
 {
     let mut found = false;
     let mut i: usize = 0;
     'scan: while i < keys.len() {
         let e = edge(keys[i]);
-        if call_supports(next, kept, e, c) {
+        if call_supports(z, next, kept, e, c) {
             found = true;
             break 'scan;
         }
-        let end = states_to_try(e, c.routine, c.node);
-        let base = number_of(c.routine, e.source, c.root, 0);
+        let end = states_to_try(z, e, c.routine, c.node);
+        let base = number_of(z, c.routine, e.source, c.root, 0);
         let mut x: u8 = 0;
         while x < end {
             if move_kept(next, kept, base, x, e.label, c.state) {
@@ -208,13 +218,20 @@ fn supported(keys: &[u32], next: &[u16], kept: &[u8], c: Configuration) -> bool
 // A called entry may have its support in any routine: the whole table is searched. Every other configuration has it by
 // the edges of its own routine alone, and `part` has these: a shorter search gives the same answer. The caller has cut
 // the part out of the table, and the configuration is in range: hence the `requires`.
-pub fn has_support(keys: &[u32], part: &[u32], next: &[u16], kept: &[u8], c: Configuration) -> bool
+pub fn has_support(
+    z: Sizes,
+    keys: &[u32],
+    part: &[u32],
+    next: &[u16],
+    kept: &[u8],
+    c: Configuration,
+) -> bool
     requires { ⌜ (c .routine < maxRoutines) × PartOf (now keys) (c .routine) (now part) ⌝ }
-    ensures { λ y. ⌜ y ≡ supports (now (keys .entry)) (now (next .entry)) (now (kept .entry)) (c .routine) (c .node)
+    ensures { λ y. ⌜ y ≡ supports z (now (keys .entry)) (now (next .entry)) (now (kept .entry)) (c .routine) (c .node)
         (c .root) (c .state) ⌝ }
 {
     if (c.node == 0) & (c.root == c.state) {
-        return supported(keys, next, kept, c);
+        return supported(z, keys, next, kept, c);
     }
-    supported(part, next, kept, c)
+    supported(z, part, next, kept, c)
 }

@@ -6,6 +6,7 @@ use lib.ListN.{getD}
 use Rattle.automaton.specs.Sizes.{maxStates}
 use Rattle.automaton.specs.declared.Event.the-variants.{Call}
 use Rattle.program.specs.Sizes.{maxRoutines}
+use Rattle.program.specs.declared.sizes.Sizes.{Sizes}
 use Rattle.program.specs.Program.{Program}
 use Rattle.reach.specs.Configurations.{Set, rootPlace}
 use Rattle.reach.specs.Runs.{HasStep, Moves}
@@ -23,5 +24,5 @@ pub data Live (p : Program) (M : Set) : ℕ → ℕ → Type 0 where
       → Live p M g s
 
 -- the marked configurations whose roots occur, by the marks themselves
-abbrev pub LiveMarked : Program → List ℕ → Set
-LiveMarked p marks f n r q = Live p (Marked marks) f r × Marked marks f n r q
+abbrev pub LiveMarked : Sizes → Program → List ℕ → Set
+LiveMarked z p marks f n r q = Live p (Marked z marks) f r × Marked z marks f n r q

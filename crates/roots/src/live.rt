@@ -15,10 +15,9 @@ use program::edges::called_by;
 use program::edges::edge;
 use program::edges::is_call;
 use program::sizes::MAX_EDGES;
+use program::sizes::Sizes;
 use reach::configuration::number_of;
-use reach::configuration::parts_of;
 use reach::configuration::root_place;
-use reach::spans::NODE_SPAN;
 use reach::spans::ROOTS_SIZE;
 use tables::in_use;
 ghost use mathlib.Core.Path.{_≡_};
@@ -30,11 +29,11 @@ ghost use Rattle.automaton.specs.Sizes.{maxStates};
 ghost use Rattle.program.specs.Program.{isCall};
 ghost use Rattle.program.specs.WellFormed.{WellFormed};
 ghost use Rattle.program.specs.Decoded.{edgeOf, edgeView, programOf};
-ghost use Rattle.reach.specs.Sizes.{nodeSpan};
+ghost use Rattle.reach.specs.Ranged.{Sized};
 ghost use Rattle.reach.specs.Marks.{Marked};
 ghost use Rattle.base.specs.Flags.{countSet};
 ghost use Rattle.roots.specs.Roots.{Live};
-ghost use Rattle.roots.specs.Parts.{RootFlags, rootsOfMain, rootsAfterCall, rootsWhenMarked, rootsByCall};
+ghost use Rattle.roots.specs.Parts.{RootFlags, rootsOfMain, rootsAfterCall, rootsWhenMarked, rootsByRoot, rootsByCall};
 ghost use Rattle.roots.specs.Parts.{rootsByEdge, rootsByEdges};
 
 // The roots of the main routine in the initial states.
@@ -68,72 +67,100 @@ fn roots_after_call(next: &[u16], from: usize, q: u8, label: u8, live: &mut [u8]
     }
 }
 
-// A configuration at the source of an edge that calls, with the root and the state of number x: the first numbers have
-// every root and state in turn, hence the `requires`.
-fn roots_when_marked(marks: &[u8], next: &[u16], e: DecodedEdge, x: usize, live: &mut [u8])
-    requires { ⌜ (isCall (e .label) ≡ true) × (x < nodeSpan) ⌝ }
-    ensures { λ _. ⌜ now (live .exit)
-        ≡ rootsWhenMarked (now (marks .entry)) (now (next .entry)) (edgeView e) x (now (live .entry)) ⌝ }
-{
-    let c = parts_of(x);
-    if is_set(marks, number_of(e.routine, e.source, c.root, c.state)) {
-        let from = root_place(e.routine, c.root);
-        roots_after_call(next, from, c.state, e.label, live);
-    }
-}
-
-// What an edge adds, by the configurations at its source. An action calls nothing: hence the `requires`.
-fn roots_by_call(marks: &[u8], next: &[u16], e: DecodedEdge, live: &mut [u8])
+// Where the configuration at the edge's source with root r and state q is marked, what its call adds.
+fn roots_when_marked(
+    z: Sizes,
+    marks: &[u8],
+    next: &[u16],
+    e: DecodedEdge,
+    r: u8,
+    q: u8,
+    live: &mut [u8],
+)
     requires { ⌜ isCall (e .label) ≡ true ⌝ }
     ensures { λ _. ⌜ now (live .exit)
-        ≡ rootsByCall (now (marks .entry)) (now (next .entry)) (edgeView e) (now (live .entry)) ⌝ }
+        ≡ rootsWhenMarked z (now (marks .entry)) (now (next .entry)) (edgeView e) r q (now (live .entry)) ⌝ }
 {
-    let mut x: usize = 0;
-    while x < NODE_SPAN {
-        roots_when_marked(marks, next, e, x, live);
-        x = x + 1;
+    if is_set(marks, number_of(z, e.routine, e.source, r, q)) {
+        let from = root_place(e.routine, r);
+        roots_after_call(next, from, q, e.label, live);
     }
 }
 
-fn roots_by_edge(marks: &[u8], next: &[u16], key: u32, live: &mut [u8])
+// Every state with root r.
+fn roots_by_root(z: Sizes, marks: &[u8], next: &[u16], e: DecodedEdge, r: u8, live: &mut [u8])
+    requires { ⌜ isCall (e .label) ≡ true ⌝ }
     ensures { λ _. ⌜ now (live .exit)
-        ≡ rootsByEdge (now (marks .entry)) (now (next .entry)) (edgeOf key) (now (live .entry)) ⌝ }
+        ≡ rootsByRoot z (now (marks .entry)) (now (next .entry)) (edgeView e) r (now (live .entry)) ⌝ }
+{
+    let states = z.states;
+    let mut q: u8 = 0;
+    while q < states {
+        roots_when_marked(z, marks, next, e, r, q, live);
+        q = q + 1;
+    }
+}
+
+// Every root.
+fn roots_by_call(z: Sizes, marks: &[u8], next: &[u16], e: DecodedEdge, live: &mut [u8])
+    requires { ⌜ isCall (e .label) ≡ true ⌝ }
+    ensures { λ _. ⌜ now (live .exit)
+        ≡ rootsByCall z (now (marks .entry)) (now (next .entry)) (edgeView e) (now (live .entry)) ⌝ }
+{
+    let states = z.states;
+    let mut r: u8 = 0;
+    while r < states {
+        roots_by_root(z, marks, next, e, r, live);
+        r = r + 1;
+    }
+}
+
+fn roots_by_edge(z: Sizes, marks: &[u8], next: &[u16], key: u32, live: &mut [u8])
+    ensures { λ _. ⌜ now (live .exit)
+        ≡ rootsByEdge z (now (marks .entry)) (now (next .entry)) (edgeOf key) (now (live .entry)) ⌝ }
 {
     let e = edge(key);
     if is_call(e.label) {
-        roots_by_call(marks, next, e, live);
+        roots_by_call(z, marks, next, e, live);
     }
 }
 
-fn roots_by_edges(marks: &[u8], next: &[u16], keys: &[u32], count: usize, live: &mut [u8])
+fn roots_by_edges(z: Sizes, marks: &[u8], next: &[u16], keys: &[u32], count: usize, live: &mut [u8])
     requires { ⌜ count ≤ length (now keys) ⌝ }
-    ensures { λ _. ⌜ now (live .exit) ≡ rootsByEdges (now (marks .entry)) (now (next .entry))
+    ensures { λ _. ⌜ now (live .exit) ≡ rootsByEdges z (now (marks .entry)) (now (next .entry))
         (now (keys .entry)) count (now (live .entry)) ⌝ }
 {
     let mut i: usize = 0;
     while i < count {
-        roots_by_edge(marks, next, keys[i], live);
+        roots_by_edge(z, marks, next, keys[i], live);
         i = i + 1;
     }
 }
 
 // One pass over the edges; whether it has set a flag more.
-fn roots_further(marks: &[u8], next: &[u16], keys: &[u32], count: usize, live: &mut [u8]) -> bool
+fn roots_further(
+    z: Sizes,
+    marks: &[u8],
+    next: &[u16],
+    keys: &[u32],
+    count: usize,
+    live: &mut [u8],
+) -> bool
     requires { ⌜ count ≤ length (now keys) ⌝ }
-    ensures { λ r. ⌜ (now (live .exit) ≡ rootsByEdges (now (marks .entry)) (now (next .entry))
+    ensures { λ r. ⌜ (now (live .exit) ≡ rootsByEdges z (now (marks .entry)) (now (next .entry))
         (now (keys .entry)) count (now (live .entry)))
         × (r ≡ ltb (countSet (now (live .entry))) (countSet (now (live .exit)))) ⌝ }
 {
     let before = count_set(live);
-    roots_by_edges(marks, next, keys, count, live);
+    roots_by_edges(z, marks, next, keys, count, live);
     let after = count_set(live);
     before < after
 }
 
 // The reader accepts only well-formed programs: hence the `requires`.
-pub fn live_roots(p: DecodedProgram, marks: &[u8]) -> Roots
-    requires { ⌜ WellFormed (programOf p) ⌝ }
-    ensures { λ r. ⌜ RootFlags (Live (programOf p) (Marked (now (marks .entry)))) (r .flags) ⌝ }
+pub fn live_roots(z: Sizes, p: DecodedProgram, marks: &[u8]) -> Roots
+    requires { ⌜ WellFormed (programOf p) × Sized z (programOf p) ⌝ }
+    ensures { λ r. ⌜ RootFlags (Live (programOf p) (Marked z (now (marks .entry)))) (r .flags) ⌝ }
 {
     let edges = p.edges;
     let keys = edges.keys;
@@ -146,7 +173,7 @@ pub fn live_roots(p: DecodedProgram, marks: &[u8]) -> Roots
     roots_of_main(initial, &mut flags);
     let mut more = true;
     while more {
-        more = roots_further(marks, &next, &keys, count, &mut flags);
+        more = roots_further(z, marks, &next, &keys, count, &mut flags);
     }
     Roots { flags }
 }

@@ -1,20 +1,22 @@
 -- The steps of an edited program.
-use mathlib.Core.Path.{_≡_, refl, sym, ap, _∙_}
+use mathlib.Core.Path.{_≡_, refl, sym, ap, subst, _∙_}
 use mathlib.Core.Logic.{_⊎_, inl, inr, _≢_}
 use mathlib.Core.Bool.{Bool, true, false, cond}
 use mathlib.Core.List.{List, [], _∷_, map, List·Memᴰ, List·Memᴰ·head, List·Memᴰ·tail}
 use Prim.Native.Nat.{ℕ, _<_}
 use lib.Dec.{ltb}
 use Rattle.automaton.specs.declared.Event.{Event}
-use Rattle.program.specs.Sizes.{maxRoutines, maxNodes}
+use Rattle.program.specs.declared.sizes.Sizes.{Sizes}
+use Rattle.program.specs.Chosen.{sizesOf}
 use Rattle.program.specs.Program.{Edge, Program}
 use Rattle.program.specs.Frames.{edgeKey}
 use Rattle.program.specs.WellFormed.{WellFormed}
 use Rattle.reach.specs.Runs.{Step, eventOf, stepOf, HasStep}
 use Rattle.reach.specs.Reachable.{Initial, initial}
 use Rattle.reach.proofs.LeastSetLaws.{Within}
-use Rattle.reach.specs.Configurations.{Sub}
-use Rattle.reach.proofs.ProgramInSizes.{sizes}
+use Rattle.reach.specs.Configurations.{Sub, Usable}
+use Rattle.reach.specs.Ranged.{Ranged}
+use Rattle.reach.proofs.ProgramInSizes.{ranged}
 use Rattle.reach.proofs.Growing.{Grown, AtNode}
 use Rattle.edit.specs.Edits.{edgeOfStep, oldEdge}
 use Rattle.edit.specs.Editing.{sameEdge, without, inserted, editedProgram, Applies}
@@ -116,12 +118,12 @@ module _ (e : Edit) (p : Program) {g n m : ℕ} {l : Event} (ne : g ≢ oldEdge 
 
 -- an add has steps more only from its source, and a drop has no step more
 module _ (s : edit.Step) (p : Program) (w : WellFormed p) where
-  pub add-grown : Grown p (editedProgram (Add s) p) (AtNode (s .routine) (s .source))
+  pub add-grown : {Z : Sizes} (U : Usable Z) → Ranged Z p → Grown Z U p (editedProgram (Add s) p) (AtNode (s .routine) (s .source))
   unfolding editedProgram
-  add-grown =
+  add-grown U z =
       record {
         automaton = refl;
-        well-formed = w;
+        ranged = z;
         steps = λ h. in-inserted stepOf (edgeOfStep s) (p .edges) h;
         only = λ h.
             elim (inserted-in stepOf (edgeOfStep s) (p .edges) h) [
@@ -131,12 +133,12 @@ module _ (s : edit.Step) (p : Program) (w : WellFormed p) where
       }
 
   -- a step leads from there, so that it is in range
-  pub add-from : Applies (Add s) p → (s .routine < maxRoutines) × (s .source < maxNodes)
+  pub add-from : {Z : Sizes} → Z ≡ sizesOf p → Applies (Add s) p → (s .routine < Z .routines) × (s .source < Z .nodes)
   unfolding editedProgram
-  add-from a =
-      let z = sizes (editedProgram (Add s) p) (applied-well-formed (Add s) p w a) in
+  add-from i a =
+      let z = ranged (editedProgram (Add s) p) (applied-well-formed (Add s) p w a) in
       let h : HasStep (editedProgram (Add s) p) (s .routine) (s .source) (eventOf (edgeOfStep s .label)) (s .target) = new-inserted stepOf (edgeOfStep s) (p .edges) in
-      (z .routine h, z .source h)
+      subst (λ (y : Sizes). (s .routine < y .routines) × (s .source < y .nodes)) (sym i) (z .routine h, z .source h)
 
   pub drop-within : Within (editedProgram (Drop s) p) p
   unfolding editedProgram

@@ -8,7 +8,9 @@ use Rattle.automaton.specs.declared.Event.{Event}
 use Rattle.program.specs.Program.{Edge, Program}
 use Rattle.program.specs.WellFormed.{WellFormed, All}
 use Rattle.program.proofs.SectionsAscend.{all-in}
-use Rattle.reach.specs.Configurations.{Sub}
+use Rattle.program.specs.declared.sizes.Sizes.{Sizes}
+use Rattle.reach.specs.Ranged.{Ranged, Sized}
+use Rattle.reach.specs.Configurations.{Sub, Usable}
 use Rattle.reach.specs.Runs.{Step, stepOf, HasStep}
 use Rattle.reach.specs.Reachable.{Initial, initial}
 use Rattle.reach.proofs.LeastSetLaws.{Within}
@@ -68,12 +70,13 @@ module _ (f : ℕ) (p : Program) where
       go : {g n r q : ℕ} → Initial (emptied f p) g n r q → Initial p g n r q
       go (initial m) = initial m
 
-  pub emptied-drop : WellFormed p → WellFormed (emptied f p) → DropOf p (emptied f p) f
+  pub emptied-drop : {Z : Sizes} → WellFormed p → WellFormed (emptied f p) → Ranged Z p → Sized Z (emptied f p) → DropOf Z p (emptied f p) f
   unfolding emptied
-  emptied-drop w w′ =
+  emptied-drop w w′ r s =
       record {
-        old-well-formed = w;
         well-formed = w′;
+        old-ranged = r;
+        sized = s;
         automaton = refl;
         steps = λ h. others-in f stepOf (p .edges) h;
         others = λ ne h. in-others f ne (p .edges) h;
@@ -82,12 +85,12 @@ module _ (f : ℕ) (p : Program) where
 -- ---- and with the new edges, which are all of that routine
 
 module _ (x : Exchange) (p : Program) where
-  pub exchanged-grown : Fits x p → WellFormed (emptied (x .routine) p) → Grown (emptied (x .routine) p) (exchangedProgram x p) (InRoutine (x .routine))
+  pub exchanged-grown : {Z : Sizes} (U : Usable Z) → Fits x p → Ranged Z (emptied (x .routine) p) → Grown Z U (emptied (x .routine) p) (exchangedProgram x p) (InRoutine (x .routine))
   unfolding emptied exchangedProgram
-  exchanged-grown a w =
+  exchanged-grown U a r =
       record {
         automaton = refl;
-        well-formed = w;
+        ranged = r;
         steps = λ h. in-inserted-all stepOf (x .edges) _ h;
         only = λ h.
             elim (inserted-all-in stepOf (x .edges) _ h) [

@@ -4,6 +4,7 @@ use lib.ListN.{getD}
 use borrow.Author.Tests.{eq-eqb, ne-eqb}
 use Rattle.reach.proofs.Numbers.{parts-routine, parts-node, parts-root, parts-state}
 use Rattle.prune.specs.Parts.{keepsAt}
+use native.Mathlib.Omega.{arith}
 use borrow.Author.Needs.{needs}
 use Rattle.prune.proofs.keep_at.Statement.{statement}
 use Rattle.prune.proofs.keep_at.Tie as tie
@@ -23,7 +24,7 @@ has-support-requires : tie.Need-has-support-requires
 has-support-requires c κs =
     let parts = c .parts-of .ensures in
     let start = c .before .before .before .before .before .before .before .before .before .before .before in
-    (parts .in-range .routine, rw (parts-routine parts) (start .pre .0 .1))
+    (omega (arith, parts .in-range .routine, start .pre .0 .1 .routines), rw (parts-routine parts) (start .pre .0 .3))
 
 returns-3 : tie.Need-returns-3
 unfolding keepsAt

@@ -16,7 +16,7 @@ keep-numbers-requires : tie.Need-keep-numbers-requires
 keep-numbers-requires c κs =
     let p = c .before .before in
     let z = p .before .before .before .before .before .before .pre in
-    ((z .0 .0, its-part (p .before .first-of .ensures) (p .first-of2 .ensures) (z .0 .1)), z .1)
+    ((z .0 .0, z .0 .1, z .0 .2, its-part (p .before .first-of .ensures) (p .first-of2 .ensures) (z .0 .3)), z .1)
 
 pub keep-routine-spec : {M : Type 1} → statement M
 keep-routine-spec =

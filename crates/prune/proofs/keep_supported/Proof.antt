@@ -31,14 +31,14 @@ keep-all-requires c κs =
     let used = c .before .before in
     let z = start used in
     let same = in-use-same (z .args .edges .count) (z .args .edges .keys) (edges-room z) (used .in-use .ensures) in
-    (subst (λ (ks : List ℕ). Ascending 0 (map edgeKey (map edgeOf ks))) (sym same) (z .pre .0), z .pre .1)
+    ((z .pre .0 .0, z .pre .0 .1, subst (λ (ks : List ℕ). Ascending 0 (map edgeKey (map edgeOf ks))) (sym same) (z .pre .0 .2)), z .pre .1)
 
 returns : tie.Need-returns
-returns c p w e a s =
+returns c p w sz e a s =
     let used = c .before .before .before .before .before in
     let z = start used in
-    let t = its-tables p w (z .args .edges) e a (edges-room z) (used .in-use .ensures) in
-    settled-shows t (z .args .marks .now) s (c .before .before .keep-all .ensures)
+    let t = its-tables _ (z .pre .0 .0) p w sz (z .args .edges) e a (edges-room z) (used .in-use .ensures) in
+    settled-shows _ (z .pre .0 .0) t (z .args .marks .now) s (c .before .before .keep-all .ensures)
 
 pub keep-supported-spec : {M : Type 1} → statement M
 keep-supported-spec =

@@ -9,7 +9,7 @@ returns : tie.Need-returns
 returns c =
     let z = c .before .before .before .before .before .before .before .before .before .before .before .before .before .before .before .before in
     let kept = c .before .before .before .before .before .before .before .before .before .before .before .keep .ensures in
-    (copied-shows kept (z .args .marks .now) (c .before .before .before .before .before .before .copy .ensures .1) (z .pre .1 .0), cleared-is (c .before .before .clear .ensures) (kept .len))
+    (copied-shows _ (z .pre .0 .1 .usable) kept (z .args .marks .now) (c .before .before .before .before .before .before .copy .ensures .1) (z .pre .1 .0), cleared-is (z .args .z) (c .before .before .clear .ensures) (kept .len))
 
 pub prune-program-spec : {M : Type 1} → statement M
 prune-program-spec =

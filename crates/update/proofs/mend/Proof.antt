@@ -7,13 +7,13 @@ use Rattle.update.proofs.mend.Tie as tie
 returns : tie.Need-returns
 returns c =
     let b = c .before .before .before .before in
-    let r = b .rework-marks .ensures in
+    let r = b .rework-edit .ensures in
     (r .0, told _ (b .before .before .before .if1 .taken) (r .1))
 
 returns-2 : tie.Need-returns-2
 returns-2 c =
     let b = c .before .before .before .before in
-    (b .repair-marks .ensures, none-told _ (b .before .before .before .if1 .left))
+    (b .repair-edit .ensures, none-told _ (b .before .before .before .if1 .left))
 
 pub mend-spec : {M : Type 1} → statement M
 mend-spec =

@@ -21,21 +21,21 @@ called-by-requires c κs = sym (c .before .is-call .ensures) ∙ not-false _ (c 
 
 returns-3 : tie.Need-returns-3
 returns-3 c =
-    let called = c .before in
+    let called = c .before .before in
     let is = called .before .before .before .before in
     edge-past (is .before .before .edge .ensures) (called .called-by .ensures) (c .if3 .taken)
 
 returns-4 : tie.Need-returns-4
 returns-4 c =
     let inside = c .before in
-    let called = inside .before .before in
+    let called = inside .before .before .before in
     let is = called .before .before .before .before in
     edge-inside (is .before .before .edge .ensures) (called .called-by .ensures) (sym (inside .is-set2 .ensures) ∙ c .if4 .taken)
 
 returns-5 : tie.Need-returns-5
 returns-5 c =
     let inside = c .before .before in
-    let called = inside .before .before in
+    let called = inside .before .before .before in
     let call = called .before .before in
     let is = call .before .before in
     edge-calls (is .before .before .edge .ensures) (called .called-by .ensures)
@@ -47,5 +47,5 @@ pub edge-differs-spec : {M : Type 1} → statement M
 edge-differs-spec =
     tie.close
     (tie.spec (λ c κs. search needs) (λ c. search needs) (λ c κs. search needs) returns (λ c κs. search needs)
-    returns-2 called-by-requires (λ c. search needs) returns-3 (λ c. search needs) (λ c κs. search needs) returns-4
+    returns-2 called-by-requires returns-3 (λ c. search needs) (λ c κs. search needs) returns-4
     (λ c κs. search needs) returns-5)

@@ -11,10 +11,10 @@ use Rattle.components.proofs.decide.some_differ.Statement.{statement}
 use Rattle.components.proofs.decide.some_differ.Tie as tie
 
 abbrev Inv-loop : tie.InvT-loop
-Inv-loop keys count members before marks i₀ i = (j : ℕ) → j < i → ¬ (DifferingEdge members (flagsOf before) marks (edgeOf (getD keys j 0)))
+Inv-loop z keys count members before marks i₀ i = (j : ℕ) → j < i → ¬ (DifferingEdge z members (flagsOf before) marks (edgeOf (getD keys j 0)))
 
 abbrev μ-loop : tie.MeasureT-loop
-μ-loop keys count members before marks i₀ i = count - i
+μ-loop z keys count members before marks i₀ i = count - i
 
 loop-holds : tie.Need-loop-holds Inv-loop μ-loop
 loop-holds c = λ j h. absurd (omega arith)

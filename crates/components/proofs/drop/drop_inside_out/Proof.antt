@@ -6,13 +6,13 @@ use Rattle.components.proofs.drop.drop_inside_out.Statement.{statement}
 use Rattle.components.proofs.drop.drop_inside_out.Tie as tie
 
 old-roots-requires : tie.Need-old-roots-requires
-old-roots-requires c κs = let z = c .before .before .before .before .before .pre .1 in fresh-length (z .0) (z .2)
+old-roots-requires c κs = let z = c .before .before .before .before .before .pre .1 in (z .1 .sized .usable, z .1 .sized .admitted, fresh-length (z .1 .sized .usable) (z .0) (z .2))
 
 summaries-of-requires : tie.Need-summaries-of-requires
 summaries-of-requires c κs =
     let graph = c .before .before .before .before .before in
     let z = graph .before .before .before .pre .1 in
-    fresh-length (z .0) (z .2)
+    (z .1 .sized .usable, z .1 .sized .admitted, fresh-length (z .1 .sized .usable) (z .0) (z .2))
 
 visit-all-requires : tie.Need-visit-all-requires
 visit-all-requires c κs =
@@ -30,7 +30,7 @@ cut-to-live-requires c κs =
     let graph = entries .before .before .before in
     let z = graph .before .before .before .pre .1 in
     let t = turning-start (z .1) (z .2) (graph .call-graph .ensures) (entries .old-roots .ensures) (exits .summaries-of .ensures) in
-    (z .1 .well-formed, visited .visit-all .ensures (z .0) t .working .marks-length)
+    (z .1 .well-formed, z .1 .sized, visited .visit-all .ensures (z .0) t .working .marks-length)
 
 returns : tie.Need-returns
 returns c =
@@ -40,10 +40,10 @@ returns c =
     let exits = visited .before .before .before .before .before .before .before in
     let entries = exits .before .before .before in
     let graph = entries .before .before .before in
-    let room = visited .visit-all .kept .1 .1 .1 .1 .1 .1 .1 .0 ∙ graph .before .before .before .pre .0 in
+    let room = visited .visit-all .kept .1 .1 .1 .1 .1 .1 .1 .1 .0 ∙ graph .before .before .before .pre .0 in
     λ old h e.
     let t = visited .visit-all .ensures old (turning-start h e (graph .call-graph .ensures) (entries .old-roots .ensures) (exits .summaries-of .ensures)) in
-    (turning-marks t (cut .cut-to-live .ensures), all-cleared room (cleared .clear .ensures), turning-reanalyzed t)
+    (turning-marks t (cut .cut-to-live .ensures), all-cleared _ room (cleared .clear .ensures), turning-reanalyzed t)
 
 pub drop-inside-out-spec : {M : Type 1} → statement M
 drop-inside-out-spec =

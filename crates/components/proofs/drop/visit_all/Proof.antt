@@ -3,7 +3,7 @@ use native.Mathlib.Omega.{arith}
 use Prim.Native.Nat.{_≤_, _-_}
 use mathlib.Core.Path.{_≡_, sym, _∙_}
 use lib.ListN.{length}
-use Rattle.program.specs.Sizes.{marksSize}
+use Rattle.program.specs.Chosen.{numbers}
 use Rattle.program.specs.Decoded.{programOf}
 use Rattle.words.specs.Words.{flagsOf}
 use Rattle.components.specs.TurnParts.{firstTurn, endTurn, Advances}
@@ -12,12 +12,12 @@ use Rattle.components.proofs.drop.visit_all.Statement.{statement}
 use Rattle.components.proofs.drop.visit_all.Tie as tie
 
 abbrev Inv-loop : tie.InvT-loop
-Inv-loop p leads roots before edited marks₀ work₀ progress₀ i₀ marks work progress i =
-    (i ≤ endTurn) × (length work ≡ marksSize)
-    × Advances (programOf p) edited leads roots (flagsOf before) firstTurn marks₀ progress₀ i marks progress
+Inv-loop z p leads roots before edited marks₀ work₀ progress₀ i₀ marks work progress i =
+    (i ≤ endTurn) × (length work ≡ numbers z)
+    × Advances z (programOf p) edited leads roots (flagsOf before) firstTurn marks₀ progress₀ i marks progress
 
 abbrev μ-loop : tie.MeasureT-loop
-μ-loop p leads roots before edited marks₀ work₀ progress₀ i₀ marks work progress i = endTurn - i
+μ-loop z p leads roots before edited marks₀ work₀ progress₀ i₀ marks work progress i = endTurn - i
 
 loop-holds : tie.Need-loop-holds Inv-loop μ-loop
 loop-holds c = (omega arith, c .before .before .before .before .before .pre .0, λ old t. t)
@@ -41,7 +41,7 @@ loop-again c =
     let turn = visited .before .before .before in
     let h = turn .loop-test .taken in
     let v = turn .before .loop .inv in
-    (omega arith, visited .visit .kept .1 .1 .1 .1 .1 .1 .1 .1 .0 ∙ v .1, λ old t. visited .visit .ensures old (v .2 old t))
+    (omega arith, visited .visit .kept .1 .1 .1 .1 .1 .1 .1 .1 .1 .0 ∙ v .1, λ old t. visited .visit .ensures old (v .2 old t))
 
 same-length : tie.Need-same-length Inv-loop μ-loop
 same-length c =

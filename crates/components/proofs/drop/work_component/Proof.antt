@@ -9,7 +9,8 @@ use Rattle.components.proofs.drop.work_component.Tie as tie
 is-reanalyzed-requires : tie.Need-is-reanalyzed-requires
 is-reanalyzed-requires c κs =
     let found = c .before .before .before .before in
-    found .before .before .before .before .before .before .pre .1 .1 .drop .well-formed
+    let t = found .before .before .before .before .before .before .pre .1 .1 in
+    (t .drop .well-formed, t .drop .sized)
 
 component-pass-requires : tie.Need-component-pass-requires
 component-pass-requires c κs =
@@ -18,7 +19,7 @@ component-pass-requires c κs =
     let t = z .pre .1 .1 in
     let m = found .component .ensures in
     let is = component-members (t .graph) (z .pre .0 .0) m in
-    ((t .drop .well-formed, z .pre .0 .1), may-pass (z .args .f) t (z .pre .0 .0) (z .pre .0 .2) (m .len) is)
+    ((t .drop .well-formed, t .drop .sized, z .pre .0 .1), may-pass (z .args .f) t (z .pre .0 .0) (z .pre .0 .2) (m .len) is)
 
 returns : tie.Need-returns
 returns c =

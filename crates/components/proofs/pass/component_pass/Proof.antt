@@ -17,7 +17,7 @@ rounds-requires c κs =
     let reset = c .before .before .before .before .before in
     let table = reset .before .before .before in
     let z = table .before .before .before .before .before .before .pre in
-    (z .0 .1, (first-ready (z .0 .0) (z .1) (reset .reset .ensures), table .next-states .ensures))
+    (z .0 .2, (first-ready (z .0 .0) (z .0 .1) (z .1) (reset .reset .ensures), table .next-states .ensures))
 
 returns : tie.Need-returns
 unfolding none-set
@@ -26,8 +26,8 @@ returns c =
     let worked = cleared .before .before .before .before .before .before in
     let reset = worked .before .before .before .before .before .before in
     let z = reset .before .before .before .before .before .before .before .before .before .pre in (
-      cleared .clear .ensures ∙ ap (λ (n : ℕ). replicate n 0) (worked .rounds .kept .1 .1 .1 .1 .0 ∙ z .0 .1),
-      passed (z .0 .0) (z .1) (reset .reset .ensures) (worked .rounds .ensures),
+      cleared .clear .ensures ∙ ap (λ (n : ℕ). replicate n 0) (worked .rounds .kept .1 .1 .1 .1 .1 .0 ∙ z .0 .2),
+      passed (z .0 .0) (z .0 .1) (z .1) (reset .reset .ensures) (worked .rounds .ensures),
     )
 
 pub component-pass-spec : {M : Type 1} → statement M

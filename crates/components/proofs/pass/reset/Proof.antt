@@ -1,5 +1,5 @@
 -- `components::pass::reset` meets its contract. The loop's invariant: the first `i` marks are written, the others are as they were.
-use Rattle.program.specs.Sizes.{marksSize}
+use Rattle.program.specs.Chosen.{numbers}
 use Rattle.base.proofs.BytesFilled.{Filling, filling-none, filling-more, filling-all}
 use Rattle.components.specs.PassParts.{firstMarks}
 use borrow.Author.Needs.{needs}
@@ -10,13 +10,13 @@ use Rattle.components.proofs.pass.reset.Statement.{statement}
 use Rattle.components.proofs.pass.reset.Tie as tie
 
 abbrev Inv-loop : tie.InvT-loop
-Inv-loop members roots marks₀ i₀ marks i = Filling (firstMarks members roots marks₀) marksSize marks₀ marks i
+Inv-loop z members roots marks₀ size i₀ marks i = Filling (firstMarks z members roots marks₀) (numbers z) marks₀ marks i
 
 abbrev μ-loop : tie.MeasureT-loop
-μ-loop members roots marks₀ i₀ marks i = marksSize - i
+μ-loop z members roots marks₀ size i₀ marks i = numbers z - i
 
 loop-holds : tie.Need-loop-holds Inv-loop μ-loop
-loop-holds c = filling-none _ marksSize _ (c .before .before .before .pre)
+loop-holds c = filling-none _ _ _ (c .before .before .before .pre .1)
 
 slice-read-first-mark : tie.Need-slice-read-first-mark Inv-loop μ-loop
 slice-read-first-mark c = omega (arith, c .before .before .loop .inv .len)
@@ -30,7 +30,7 @@ loop-again c =
     filling-more (l .inv) (omega arith) (rw (l .inv .left (l .i) (omega arith)) at (c .first-mark .ensures))
 
 same-length : tie.Need-same-length Inv-loop μ-loop
-same-length c = c .before .loop .inv .len ∙ sym (c .before .before .before .before .before .pre)
+same-length c = c .before .loop .inv .len ∙ sym (c .before .before .before .before .before .pre .1)
 
 returns : tie.Need-returns Inv-loop μ-loop
 returns c = filling-all (c .before .loop .inv) (omega arith)

@@ -1,5 +1,5 @@
 -- `components::pass::round` meets its contract. The loop's invariant: the routines below `f` have had their turn.
-use Rattle.program.specs.Sizes.{maxRoutines, marksSize}
+use Rattle.program.specs.Chosen.{numbers}
 use Rattle.program.specs.Decoded.{programOf}
 use Rattle.components.specs.PassParts.{Round}
 use Rattle.components.proofs.RoundsClose.{grown-ready, round-none, round-turn}
@@ -12,11 +12,11 @@ use Rattle.components.proofs.pass.round.Statement.{statement}
 use Rattle.components.proofs.pass.round.Tie as tie
 
 abbrev Inv-loop : tie.InvT-loop
-Inv-loop p members next marks₀ work₀ f₀ marks work f =
-    (f ≤ maxRoutines) × (length work ≡ marksSize) × Round (programOf p) members f marks₀ marks
+Inv-loop z p members next marks₀ work₀ routines f₀ marks work f =
+    (f ≤ z .routines) × (length work ≡ numbers z) × Round z (programOf p) members f marks₀ marks
 
 abbrev μ-loop : tie.MeasureT-loop
-μ-loop p members next marks₀ work₀ f₀ marks work f = maxRoutines - f
+μ-loop z p members next marks₀ work₀ routines f₀ marks work f = z .routines - f
 
 loop-holds : tie.Need-loop-holds Inv-loop μ-loop
 loop-holds c = (omega arith, c .before .before .before .pre .0, round-none (c .before .before .before .pre .1 .0))
@@ -40,7 +40,7 @@ loop-again c =
     let h = turned .before .before .before .loop-test .taken in
     let z = at .before .before .before .before .pre in
     let i = at .loop .inv in
-    (omega arith, turned .turn .kept .1 .1 .1 .1 .1 .0 ∙ i .1, round-turn (z .1 .0) (i .2) (turned .turn .ensures))
+    (omega arith, turned .turn .kept .1 .1 .1 .1 .1 .1 .0 ∙ i .1, round-turn (z .1 .0) (i .2) (turned .turn .ensures))
 
 same-length : tie.Need-same-length Inv-loop μ-loop
 same-length c = c .before .loop .inv .2 .grows .marks-length ∙ sym (c .before .before .before .before .before .pre .1 .0 .marks-length)
@@ -51,11 +51,11 @@ same-length-2 c = c .before .loop .inv .1 ∙ sym (c .before .before .before .be
 returns : tie.Need-returns Inv-loop μ-loop
 returns c =
     let i = c .before .loop .inv in
-    let e : c .before .loop .f ≡ maxRoutines = omega arith in
+    let e : c .before .loop .f ≡ c .before .before .before .before .before .args .z .routines = omega arith in
     rw e at (i .2)
 
 pub round-spec : {M : Type 1} → statement M
 round-spec =
     tie.close
-    (tie.spec Inv-loop μ-loop loop-holds (λ c. search needs) turn-requires add-f loop-less loop-again same-length
+    (tie.spec Inv-loop μ-loop loop-holds turn-requires add-f loop-less loop-again same-length
     same-length-2 returns)

@@ -1,5 +1,5 @@
 -- `components::pass::rounds` meets its contract. The loop's invariant: the marks have grown by the edges of the component; each round but the last marks more.
-use Rattle.program.specs.Sizes.{marksSize}
+use Rattle.program.specs.Chosen.{numbers}
 use Rattle.program.specs.Decoded.{programOf}
 use Rattle.base.specs.Flags.{countSet}
 use Rattle.components.specs.PassParts.{Grows}
@@ -12,10 +12,10 @@ use Rattle.components.proofs.pass.rounds.Statement.{statement}
 use Rattle.components.proofs.pass.rounds.Tie as tie
 
 abbrev Inv-loop : tie.InvT-loop
-Inv-loop p members next marks₀ work₀ marks work = (length work ≡ marksSize) × Grows (programOf p) members marks₀ marks
+Inv-loop z p members next marks₀ work₀ marks work = (length work ≡ numbers z) × Grows z (programOf p) members marks₀ marks
 
 abbrev μ-loop : tie.MeasureT-loop
-μ-loop p members next marks₀ work₀ marks work = marksSize - countSet marks
+μ-loop z p members next marks₀ work₀ marks work = numbers z - countSet marks
 
 loop-holds : tie.Need-loop-holds Inv-loop μ-loop
 loop-holds c = let z = c .before .before .before .pre in (z .0, grows-none (z .1 .0))
@@ -42,7 +42,7 @@ same-length-2 : tie.Need-same-length-2 Inv-loop μ-loop
 same-length-2 c =
     let round = c .before .before .before .before .before .before .before in
     let at = round .before .before .before .before .before in
-    round .round .kept .1 .1 .1 .1 .0 ∙ at .loop .inv .0 ∙ sym (at .before .before .before .before .pre .0)
+    round .round .kept .1 .1 .1 .1 .1 .0 ∙ at .loop .inv .0 ∙ sym (at .before .before .before .before .pre .0)
 
 returns : tie.Need-returns Inv-loop μ-loop
 returns c =
@@ -64,7 +64,7 @@ loop-again : tie.Need-loop-again Inv-loop μ-loop
 loop-again c =
     let round = c .before .before .before .before .before .before .before in
     let at = round .before .before .before .before .before in
-    (round .round .kept .1 .1 .1 .1 .0 ∙ at .loop .inv .0, grows-then (at .before .before .before .before .pre .1 .0) (at .loop .inv .1) (round .round .ensures .grows))
+    (round .round .kept .1 .1 .1 .1 .1 .0 ∙ at .loop .inv .0, grows-then (at .before .before .before .before .pre .1 .0) (at .loop .inv .1) (round .round .ensures .grows))
 
 pub rounds-spec : {M : Type 1} → statement M
 rounds-spec =

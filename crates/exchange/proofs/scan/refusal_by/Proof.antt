@@ -18,5 +18,9 @@ returns-4 : tie.Need-returns-4
 unfolding firstMet
 returns-4 c = cc
 
+returns-5 : tie.Need-returns-5
+unfolding firstMet
+returns-5 c = cc
+
 pub refusal-by-spec : {M : Type 1} → statement M
-refusal-by-spec = tie.close (tie.spec returns returns-2 returns-3 returns-4)
+refusal-by-spec = tie.close (tie.spec returns returns-2 returns-3 returns-4 returns-5)

@@ -3,7 +3,6 @@ use mathlib.Core.Path.{sym, _∙_}
 use mathlib.Core.Logic.{⊎-elim}
 use mathlib.Core.Bool.{_&&_}
 use Prim.Native.Nat.{_-_}
-use Rattle.automaton.specs.Sizes.{maxStates}
 use Rattle.automaton.specs.NextStates.{setAt}
 use Rattle.base.specs.Bits.{bit}
 use Rattle.reach.specs.Configurations.{number}
@@ -14,11 +13,11 @@ use Rattle.prune.proofs.support.caller_kept.Statement.{statement}
 use Rattle.prune.proofs.support.caller_kept.Tie as tie
 
 abbrev Inv-loop : tie.InvT-loop
-Inv-loop next kept e r x₀ x =
-    Trying (λ j. bit r (setAt next j (e .label)) && rootKept kept (number (e .routine) (e .source) 0 j)) maxStates x
+Inv-loop z next kept e r states x₀ x =
+    Trying (λ j. bit r (setAt next j (e .label)) && rootKept z kept (number z (e .routine) (e .source) 0 j)) (z .states) x
 
 abbrev μ-loop : tie.MeasureT-loop
-μ-loop next kept e r x₀ x = maxStates - x
+μ-loop z next kept e r states x₀ x = z .states - x
 
 loop-holds : tie.Need-loop-holds Inv-loop μ-loop
 loop-holds c = try-all _ _
@@ -49,5 +48,5 @@ returns-2 c = try-none (c .before .loop .inv) (c .loop-test .left)
 pub caller-kept-spec : {M : Type 1} → statement M
 caller-kept-spec =
     tie.close
-    (tie.spec Inv-loop μ-loop loop-holds (λ c. search needs) (λ c κs. search needs) (λ c κs. search needs)
+    (tie.spec Inv-loop μ-loop loop-holds (λ c κs. search needs) (λ c κs. search needs)
     (λ c κs. search needs) returns (λ c. search needs) (λ c. search needs) loop-again returns-2)

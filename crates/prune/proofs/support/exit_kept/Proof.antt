@@ -1,7 +1,6 @@
 -- `prune::support::exit_kept` meets its contract. The loop's invariant: the states from `x` on decide.
 use mathlib.Core.Path.{sym, _∙_}
 use Prim.Native.Nat.{_-_}
-use Rattle.automaton.specs.Sizes.{maxStates}
 use Rattle.prune.specs.Parts.{moveKept, exitKept}
 use Rattle.prune.proofs.SearchesAsk.{Trying, try-all, try-found, try-next, try-none}
 use borrow.Author.Needs.{needs}
@@ -9,10 +8,10 @@ use Rattle.prune.proofs.support.exit_kept.Statement.{statement}
 use Rattle.prune.proofs.support.exit_kept.Tie as tie
 
 abbrev Inv-loop : tie.InvT-loop
-Inv-loop next kept exit l t x₀ x = Trying (λ j. moveKept next kept exit j l t) maxStates x
+Inv-loop next kept exit l t states x₀ x = Trying (λ j. moveKept next kept exit j l t) states x
 
 abbrev μ-loop : tie.MeasureT-loop
-μ-loop next kept exit l t x₀ x = maxStates - x
+μ-loop next kept exit l t states x₀ x = states - x
 
 loop-holds : tie.Need-loop-holds Inv-loop μ-loop
 loop-holds c = try-all _ _
@@ -35,5 +34,5 @@ returns-2 c = try-none (c .before .loop .inv) (c .loop-test .left)
 pub exit-kept-spec : {M : Type 1} → statement M
 exit-kept-spec =
     tie.close
-    (tie.spec Inv-loop μ-loop loop-holds (λ c. search needs) (λ c κs. search needs) returns (λ c. search needs)
+    (tie.spec Inv-loop μ-loop loop-holds (λ c κs. search needs) returns (λ c. search needs)
     (λ c. search needs) loop-again returns-2)

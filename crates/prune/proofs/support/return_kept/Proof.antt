@@ -4,7 +4,6 @@ use mathlib.Core.Logic.{⊎-elim}
 use mathlib.Core.Bool.{_&&_}
 use Prim.Native.Nat.{_+_, _-_}
 use borrow.Author.Tests.{lt-ltb, le-ltb}
-use Rattle.automaton.specs.Sizes.{maxStates}
 use Rattle.base.specs.Flags.{isSet}
 use Rattle.prune.specs.Parts.{rootReturns, returnKept}
 use Rattle.prune.proofs.SearchesAsk.{both-met, first-fails, second-fails, Trying, try-all, try-found, try-next, try-none}
@@ -13,10 +12,10 @@ use Rattle.prune.proofs.support.return_kept.Statement.{statement}
 use Rattle.prune.proofs.support.return_kept.Tie as tie
 
 abbrev Inv-loop : tie.InvT-loop
-Inv-loop next kept caller g t y₀ y = Trying (λ j. isSet kept (caller + j) && rootReturns next kept j g t) maxStates y
+Inv-loop z next kept caller g t states y₀ y = Trying (λ j. isSet kept (caller + j) && rootReturns z next kept j g t) (z .states) y
 
 abbrev μ-loop : tie.MeasureT-loop
-μ-loop next kept caller g t y₀ y = maxStates - y
+μ-loop z next kept caller g t states y₀ y = z .states - y
 
 returns : tie.Need-returns Inv-loop μ-loop
 unfolding returnKept
@@ -50,5 +49,5 @@ returns-3 c = rw (lt-ltb _ _ (c .before .before .if1 .left)) (try-none (c .befor
 pub return-kept-spec : {M : Type 1} → statement M
 return-kept-spec =
     tie.close
-    (tie.spec Inv-loop μ-loop returns loop-holds (λ c. search needs) (λ c. search needs) (λ c. search needs)
+    (tie.spec Inv-loop μ-loop returns loop-holds (λ c. search needs) (λ c. search needs)
     (λ c κs. search needs) (λ c κs. search needs) returns-2 (λ c. search needs) (λ c. search needs) loop-again returns-3)

@@ -3,7 +3,6 @@ use mathlib.Core.Path.{sym, _∙_}
 use mathlib.Core.Logic.{⊎-elim}
 use mathlib.Core.Bool.{_&&_}
 use Prim.Native.Nat.{_-_}
-use Rattle.automaton.specs.Sizes.{maxStates}
 use Rattle.automaton.specs.Automaton.{callOf, returnOf}
 use Rattle.automaton.specs.NextStates.{setAt}
 use Rattle.base.specs.Bits.{bit}
@@ -15,11 +14,11 @@ use Rattle.prune.proofs.support.root_returns.Statement.{statement}
 use Rattle.prune.proofs.support.root_returns.Tie as tie
 
 abbrev Inv-loop : tie.InvT-loop
-Inv-loop next kept y g t roots s₀ s =
-    Trying (λ j. bit j (setAt next y (callOf g)) && exitKept next kept (number g 1 j 0) (returnOf g) t) maxStates s
+Inv-loop z next kept y g t roots states s₀ s =
+    Trying (λ j. bit j (setAt next y (callOf g)) && exitKept z next kept (number z g 1 j 0) (returnOf g) t) (z .states) s
 
 abbrev μ-loop : tie.MeasureT-loop
-μ-loop next kept y g t roots s₀ s = maxStates - s
+μ-loop z next kept y g t roots states s₀ s = z .states - s
 
 loop-holds : tie.Need-loop-holds Inv-loop μ-loop
 loop-holds c = try-all _ _
@@ -52,6 +51,6 @@ returns-2 c = try-none (c .before .loop .inv) (c .loop-test .left)
 pub root-returns-spec : {M : Type 1} → statement M
 root-returns-spec =
     tie.close
-    (tie.spec Inv-loop μ-loop (λ c. search needs) (λ c κs. search needs) (λ c. search needs) loop-holds (λ c. search needs)
+    (tie.spec Inv-loop μ-loop (λ c. search needs) (λ c κs. search needs) (λ c. search needs) loop-holds
     (λ c κs. search needs) (λ c κs. search needs) (λ c. search needs) (λ c κs. search needs) returns (λ c. search needs)
     (λ c. search needs) loop-again returns-2)

@@ -18,4 +18,4 @@ unfolding statesToTry
 returns-3 c = rw (c .if1 .left) refl
 
 pub states-to-try-spec : {M : Type 1} → statement M
-states-to-try-spec = tie.close (tie.spec (λ c κs. search needs) returns (λ c. search needs) returns-2 returns-3)
+states-to-try-spec = tie.close (tie.spec (λ c κs. search needs) returns returns-2 returns-3)

@@ -16,19 +16,19 @@ use Rattle.prune.proofs.support.supported.Statement.{statement}
 use Rattle.prune.proofs.support.supported.Tie as tie
 
 abbrev Inv-loop : tie.InvT-loop
-Inv-loop keys next kept c found₀ i e end base x₀ found x =
+Inv-loop z keys next kept c found₀ i e end base x₀ found x =
     (found ≡ false) × Trying (λ j. moveKept next kept base j (e .label) (c .state)) end x
 
 abbrev μ-loop : tie.MeasureT-loop
-μ-loop keys next kept c found₀ i e end base x₀ found x = end - x
+μ-loop z keys next kept c found₀ i e end base x₀ found x = end - x
 
 abbrev Inv-scan : tie.InvT-scan
-Inv-scan keys next kept c found₀ i₀ found i =
+Inv-scan z keys next kept c found₀ i₀ found i =
     (found ≡ false)
-    × Left (anyKey (λ key. edgeSupports next kept (c .routine) (c .node) (c .root) (c .state) (edgeOf key))) keys (length keys) i
+    × Left (anyKey (λ key. edgeSupports z next kept (c .routine) (c .node) (c .root) (c .state) (edgeOf key))) keys (length keys) i
 
 abbrev μ-scan : tie.MeasureT-scan
-μ-scan keys next kept c found₀ i₀ found i = length keys - i
+μ-scan z keys next kept c found₀ i₀ found i = length keys - i
 
 scan-holds : tie.Need-scan-holds Inv-loop μ-loop Inv-scan μ-scan
 scan-holds c = (refl, record { decide = refl })
@@ -56,8 +56,8 @@ scan-again c =
     let scan = key .before .before .before .scan .inv in (
       p .loop .inv .0,
       passed (asks-key _) (scan .1) more more
-          (by-key (edgeSupports _ _ _ _ _ _) (key .edge .ensures)
-          (sym (edge-is _ _ _ _ _ _ _ (sym (asked .call-supports .ensures) ∙ no-call .if1 .left) (p .before .before .states-to-try .ensures)
+          (by-key (edgeSupports _ _ _ _ _ _ _) (key .edge .ensures)
+          (sym (edge-is _ _ _ _ _ _ _ _ (sym (asked .call-supports .ensures) ∙ no-call .if1 .left) (p .before .before .states-to-try .ensures)
           (p .before .number-of .ensures .0))
           ∙ sym (try-none (p .loop .inv .1) (c .loop-test .left)))),
     )
@@ -73,7 +73,7 @@ returns-2 c =
     let more = key .before .before .scan-test .taken in
     all-keys _ _
     (found (asks-key _) (key .before .before .before .scan .inv .1) more more
-    (by-key (edgeSupports _ _ _ _ _ _) (key .edge .ensures) (edge-calls _ _ _ _ _ _ _ (sym (c .before .call-supports .ensures) ∙ c .if1 .taken))))
+    (by-key (edgeSupports _ _ _ _ _ _ _) (key .edge .ensures) (edge-calls _ _ _ _ _ _ _ _ (sym (c .before .call-supports .ensures) ∙ c .if1 .taken))))
 
 returns-3 : tie.Need-returns-3 Inv-loop μ-loop Inv-scan μ-scan
 unfolding supports
@@ -86,8 +86,8 @@ returns-3 c =
     let one = sym (c .before .move-kept .ensures) ∙ c .if2 .taken in
     all-keys _ _
     (found (asks-key _) (key .before .before .before .scan .inv .1) more more
-    (by-key (edgeSupports _ _ _ _ _ _) (key .edge .ensures)
-    (sym (edge-is _ _ _ _ _ _ _ (sym (asked .call-supports .ensures) ∙ no-call .if1 .left) (p .before .before .states-to-try .ensures)
+    (by-key (edgeSupports _ _ _ _ _ _ _) (key .edge .ensures)
+    (sym (edge-is _ _ _ _ _ _ _ _ (sym (asked .call-supports .ensures) ∙ no-call .if1 .left) (p .before .before .states-to-try .ensures)
     (p .before .number-of .ensures .0))
     ∙ sym (try-found (p .loop .inv .1) (c .before .before .loop-test .taken) one))))
 

@@ -1,6 +1,6 @@
 -- `roots::cut::cut` meets its contract. The loop's invariant: the bytes below `i` are cut, the others are as
 -- they were.
-use Rattle.program.specs.Sizes.{marksSize}
+use Rattle.program.specs.Chosen.{numbers}
 use Rattle.reach.proofs.Numbers.{parts-routine, parts-root}
 use Rattle.base.proofs.BytesFilled.{Filling, filling-none, filling-more, filling-all}
 use Rattle.roots.specs.Parts.{keptByte}
@@ -13,13 +13,13 @@ use Rattle.roots.proofs.cut.cut.Statement.{statement}
 use Rattle.roots.proofs.cut.cut.Tie as tie
 
 abbrev Inv-loop : tie.InvT-loop
-Inv-loop live marks₀ i₀ marks i = Filling (keptByte live marks₀) marksSize marks₀ marks i
+Inv-loop z live marks₀ size i₀ marks i = Filling (keptByte z live marks₀) (numbers z) marks₀ marks i
 
 abbrev μ-loop : tie.MeasureT-loop
-μ-loop live marks₀ i₀ marks i = marksSize - i
+μ-loop z live marks₀ size i₀ marks i = numbers z - i
 
 loop-holds : tie.Need-loop-holds Inv-loop μ-loop
-loop-holds c = filling-none _ marksSize _ (c .before .before .pre)
+loop-holds c = let z = c .before .before in filling-none _ (numbers (z .args .z)) _ (z .pre .1)
 
 loop-again : tie.Need-loop-again Inv-loop μ-loop
 loop-again c =
@@ -33,7 +33,7 @@ loop-again c =
     filling-more (l .inv) (omega arith) (c .both-set .ensures ∙ kept-byte mark flag)
 
 same-length : tie.Need-same-length Inv-loop μ-loop
-same-length c = c .before .loop .inv .len ∙ sym (c .before .before .before .before .pre)
+same-length c = c .before .loop .inv .len ∙ sym (c .before .before .before .before .pre .1)
 
 returns : tie.Need-returns Inv-loop μ-loop
 returns c = filling-all (c .before .loop .inv) (omega arith)

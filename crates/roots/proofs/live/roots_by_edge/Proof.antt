@@ -13,10 +13,10 @@ returns c =
     let roots = c .before .before in
     let taken = roots .before .before in
     let tested = taken .before in
-    call-roots (tested .before .edge .ensures) _ _ _ (sym (tested .is-call .ensures) ∙ taken .if1 .taken) (roots .roots-by-call .ensures)
+    call-roots _ (tested .before .edge .ensures) _ _ _ (sym (tested .is-call .ensures) ∙ taken .if1 .taken) (roots .roots-by-call .ensures)
 
 returns-2 : tie.Need-returns-2
-returns-2 c = no-call-roots (c .before .before .edge .ensures) _ _ _ (sym (c .before .is-call .ensures) ∙ c .if1 .left)
+returns-2 c = no-call-roots _ (c .before .before .edge .ensures) _ _ _ (sym (c .before .is-call .ensures) ∙ c .if1 .left)
 
 pub roots-by-edge-spec : {M : Type 1} → statement M
 roots-by-edge-spec =

@@ -11,10 +11,10 @@ use Rattle.roots.proofs.live.roots_by_edges.Statement.{statement}
 use Rattle.roots.proofs.live.roots_by_edges.Tie as tie
 
 abbrev Inv-loop : tie.InvT-loop
-Inv-loop marks next keys count live₀ i₀ live i = Turning (λ i. rootsByEdge marks next (edgeOf (getD keys i 0))) count live₀ i live
+Inv-loop z marks next keys count live₀ i₀ live i = Turning (λ i. rootsByEdge z marks next (edgeOf (getD keys i 0))) count live₀ i live
 
 abbrev μ-loop : tie.MeasureT-loop
-μ-loop marks next keys count live₀ i₀ live i = count - i
+μ-loop z marks next keys count live₀ i₀ live i = count - i
 
 loop-holds : tie.Need-loop-holds Inv-loop μ-loop
 loop-holds c = turning-start _ _ _
@@ -23,7 +23,7 @@ loop-again : tie.Need-loop-again Inv-loop μ-loop
 loop-again c =
     let added = c .before .before in
     turning-turn (added .before .before .before .before .loop .inv) (omega arith) (added .roots-by-edge .ensures)
-    (added .roots-by-edge .kept .1 .1 .1 .0)
+    (added .roots-by-edge .kept .1 .1 .1 .1 .0)
 
 same-length : tie.Need-same-length Inv-loop μ-loop
 same-length c = c .before .loop .inv .size

@@ -16,13 +16,13 @@ add-routine-spec =
     let p = programOf (z .args .p) in
     let x = exchangeOf (z .args .x) in
     let e = c .before .before .exchanged .ensures in
-    let fits = exchanged-fits x p (z .pre .0 .0) (z .pre .0 .1) _ e in
-    let small = routine-small x p (z .pre .0 .0) (z .pre .0 .1) in
-    let closed = exchanged-closed x p (z .pre .0 .0) (z .pre .0 .1) _ e (z .pre .1 .0) in
+    let fits = exchanged-fits x p (z .pre .0 .0) (z .pre .0 .1) (z .pre .0 .2) (z .pre .0 .3) _ e in
+    let small = routine-small x p (z .pre .0 .0) (z .pre .0 .1) (z .pre .0 .2) (z .pre .0 .3) in
+    let closed = exchanged-closed x p (z .pre .0 .0) (z .pre .0 .1) (z .pre .0 .2) (z .pre .0 .3) _ e (z .pre .1 .0) in
     search (needs, fits, small, closed))
     (λ c. search needs) (λ c. search needs)
     (λ c.
     let z = c .before .before .before .before .before .before .before .before .before .before in
     let e = c .before .before .before .before .before .before .before .exchanged .ensures in
-    let own = exchanged-own (exchangeOf (z .args .x)) (programOf (z .args .p)) (z .pre .0 .0) (z .pre .0 .1) _ e (z .pre .1 .0) in
+    let own = exchanged-own (exchangeOf (z .args .x)) (programOf (z .args .p)) (z .pre .0 .0) (z .pre .0 .1) (z .pre .0 .2) (z .pre .0 .3) _ e (z .pre .1 .0) in
     search (needs, own)))

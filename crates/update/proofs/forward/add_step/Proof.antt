@@ -16,15 +16,16 @@ follow-added-requires c κs =
     let z = c .before .before .before .before .before in
     let p = programOf (z .args .p) in
     let e = c .before .before .with-step .ensures in
-    let from = add-from (z .args .s) p (z .pre .0 .0) (z .pre .0 .1) in (
-      (added-well-formed (z .args .s) p _ (z .pre .0 .0) (z .pre .0 .1) e, from .0, from .1, z .pre .1 .1),
-      added-closed (z .args .s) p _ (z .pre .0 .0) (z .pre .0 .1) e (z .pre .1 .0),
+    let fits = added-well-formed (z .args .s) p _ (z .pre .0 .0) (z .pre .0 .2) (z .pre .0 .1) e in
+    let from = add-from (z .args .s) p (z .pre .0 .0) (z .pre .0 .2) (z .pre .0 .1) in (
+      (fits .0, fits .1, from .0, from .1, z .pre .1 .1),
+      added-closed (z .args .s) p _ (z .pre .0 .0) (z .pre .0 .2) (z .pre .0 .1) e (z .pre .1 .0),
     )
 
 returns : tie.Need-returns
 returns c =
     let z = c .before .before .before .before .before .before .before .before .before .before in
-    added (z .args .s) (programOf (z .args .p)) _ (z .pre .0 .0) (z .pre .0 .1) (c .before .before .before .before .before .before .before .with-step .ensures) (z .pre .1 .0) (c .before .before .before .before .follow-added .ensures)
+    added (z .args .s) (programOf (z .args .p)) _ (z .pre .0 .0) (z .pre .0 .2) (z .pre .0 .1) (c .before .before .before .before .before .before .before .with-step .ensures) (z .pre .1 .0) (c .before .before .before .before .follow-added .ensures)
 
 pub add-step-spec : {M : Type 1} → statement M
 add-step-spec =

@@ -12,7 +12,7 @@ drop-routine-spec =
     (tie.spec (λ c κs. search needs)
     (λ c κs.
     let z = c .before .before .before .before .before in
-    let w = emptied-fits (z .args .f) (programOf (z .args .p)) (z .pre .0) (c .before .before .without-routine .ensures) in
+    let w = emptied-fits (z .args .f) (programOf (z .args .p)) (z .pre .0 .0) (z .pre .0 .1) (c .before .before .without-routine .ensures) in
     search (needs, w))
     (λ c. search needs) (λ c. search needs)
     (λ c. let e = c .before .before .before .before .before .before .before .without-routine .ensures in search (needs, ← e)))

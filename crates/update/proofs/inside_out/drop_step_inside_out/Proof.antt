@@ -1,6 +1,7 @@
 -- `update::inside_out::drop_step_inside_out` meets its contract.
 use Rattle.update.proofs.InsideOutMarks.{none-dropped, drop-of, dropped-inside-out, step-drop}
 use Rattle.update.proofs.EditedMarks.{is-dropped}
+use Rattle.update.proofs.ChangedMarks.{own-sized}
 use Rattle.edit.proofs.Theorems.{drop-ready}
 use Rattle.program.specs.Decoded.{programOf}
 use borrow.Author.Needs.{needs}
@@ -17,9 +18,9 @@ drop-inside-out-requires : tie.Need-drop-inside-out-requires
 drop-inside-out-requires c κs =
     let z = c .before .before .before .before .before in
     let p = programOf (z .args .p) in
-    let before = none-dropped p (z .pre .0 .0) (z .args .s .routine) in
+    let before = none-dropped p (z .pre .0 .0) (own-sized p (z .pre .0 .2) (z .pre .0 .0)) (z .args .s .routine) in
     let e = is-dropped (z .args .s) p _ (c .before .before .without-step .ensures) in
-    let after = drop-of p _ _ (z .args .s .routine) e (step-drop (z .args .s) p (z .pre .0 .0) (z .pre .0 .1)) in
+    let after = drop-of p _ _ (z .args .s .routine) e (step-drop (z .args .s) p (z .pre .0 .0) (z .pre .0 .1) (z .pre .0 .2)) in
     (z .pre .1 .1, (p, search (before, after), z .pre .1 .0))
 
 returns : tie.Need-returns
@@ -27,8 +28,8 @@ returns c =
     let z = c .before .before .before .before .before .before .before .before .before .before in
     let p = programOf (z .args .p) in
     let e = is-dropped (z .args .s) p _ (c .before .before .before .before .before .before .before .without-step .ensures) in
-    let before = none-dropped p (z .pre .0 .0) (z .args .s .routine) in
-    let after = drop-of p _ _ (z .args .s .routine) e (step-drop (z .args .s) p (z .pre .0 .0) (z .pre .0 .1)) in
+    let before = none-dropped p (z .pre .0 .0) (own-sized p (z .pre .0 .2) (z .pre .0 .0)) (z .args .s .routine) in
+    let after = drop-of p _ _ (z .args .s .routine) e (step-drop (z .args .s) p (z .pre .0 .0) (z .pre .0 .1) (z .pre .0 .2)) in
     dropped-inside-out p _ _ (z .args .s .routine) e (c .before .before .before .before .drop-inside-out .ensures p (search (before, after)) (z .pre .1 .0))
 
 pub drop-step-inside-out-spec : {M : Type 1} → statement M

@@ -1,7 +1,8 @@
 -- `update::inside_out::replace_step_inside_out` meets its contract.
-use Rattle.update.proofs.EditedMarks.{between-well-formed, between-applies, replaced}
+use Rattle.update.proofs.EditedMarks.{between-well-formed, between-sizes, between-applies, replaced}
 use Rattle.update.proofs.InsideOutMarks.{replaced-flags}
 use Rattle.reach.proofs.ShapeKept.{none-length}
+use Rattle.update.proofs.ChangedMarks.{own-sized}
 use Rattle.edit.proofs.Theorems.{drop-applies}
 use Rattle.program.specs.Decoded.{programOf}
 use lib.ListN.{length}
@@ -13,15 +14,21 @@ use Rattle.update.proofs.inside_out.replace_step_inside_out.Tie as tie
 drop-step-inside-out-requires : tie.Need-drop-step-inside-out-requires
 drop-step-inside-out-requires c κs =
     let z = c .before .before .before .before in
-    ((z .pre .0 .0, drop-applies (z .args .s) (z .args .l) (programOf (z .args .p)) (z .pre .0 .1)), z .pre .1)
+    ((z .pre .0 .0, drop-applies (z .args .s) (z .args .l) (programOf (z .args .p)) (z .pre .0 .1), z .pre .0 .2), z .pre .1)
 
 add-step-inside-out-requires : tie.Need-add-step-inside-out-requires
 add-step-inside-out-requires c κs =
     let z = c .before .before .before .before .before .before .before .before .before .before .before .before in
     let p = programOf (z .args .p) in
     let x = c .before .before .before .before .before .before .before .drop-step-inside-out .ensures .0 in
-    let a = between-applies (z .args .s) (z .args .l) p _ p (z .pre .0 .0) (z .pre .0 .1) x in
-    ((between-well-formed (z .args .s) (z .args .l) p _ p (z .pre .0 .0) (z .pre .0 .1) x, rw (c .before .before .relabelled .ensures) a), (x .own, ap length (x .clear) ∙ none-length))
+    let a = between-applies (z .args .s) (z .args .l) p _ p (z .pre .0 .0) (z .pre .0 .1) x in (
+      (
+        between-well-formed (z .args .s) (z .args .l) p _ p (z .pre .0 .0) (z .pre .0 .1) x,
+        rw (c .before .before .relabelled .ensures) a,
+        between-sizes (z .args .s) (z .args .l) p _ p (z .pre .0 .0) (z .pre .0 .1) x (z .pre .0 .2),
+      ),
+      (x .own, ap length (x .clear) ∙ none-length _ (own-sized _ (z .pre .0 .2) (z .pre .0 .0) .usable)),
+    )
 
 returns : tie.Need-returns
 returns c =

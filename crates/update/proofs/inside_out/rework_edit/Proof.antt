@@ -6,17 +6,17 @@ use Rattle.update.proofs.inside_out.rework_edit.Tie as tie
 add-step-inside-out-requires : tie.Need-add-step-inside-out-requires
 add-step-inside-out-requires c κs =
     let z = c .before .before .before .before .before .before .before in
-    ((z .pre .0 .0, rw (c .before .before .before .e .given .1) at (z .pre .0 .1)), z .pre .1)
+    ((z .pre .0 .0, rw (c .before .before .before .e .given .1) at (z .pre .0 .1), z .pre .0 .2), z .pre .1)
 
 drop-step-inside-out-requires : tie.Need-drop-step-inside-out-requires
 drop-step-inside-out-requires c κs =
     let z = c .before .before .before .before .before .before .before in
-    ((z .pre .0 .0, rw (c .before .before .before .e2 .given .1) at (z .pre .0 .1)), z .pre .1)
+    ((z .pre .0 .0, rw (c .before .before .before .e2 .given .1) at (z .pre .0 .1), z .pre .0 .2), z .pre .1)
 
 replace-step-inside-out-requires : tie.Need-replace-step-inside-out-requires
 replace-step-inside-out-requires c κs =
     let z = c .before .before .before .before .before .before .before in
-    ((z .pre .0 .0, rw (c .before .before .before .e3 .given .1) at (z .pre .0 .1)), z .pre .1)
+    ((z .pre .0 .0, rw (c .before .before .before .e3 .given .1) at (z .pre .0 .1), z .pre .0 .2), z .pre .1)
 
 returns : tie.Need-returns
 returns c = rw (c .before .before .before .before .before .before .before .before .e .given .1) (c .before .before .before .before .add-step-inside-out .ensures)

@@ -1,0 +1,44 @@
+-- `update::inside_out::add_step_beside` meets its contract.
+use Rattle.update.proofs.InsideOutMarks.{copied-fresh, grown-flags}
+use Rattle.update.proofs.ChangedMarks.{own-sized, edited-sizes}
+use Rattle.edit.proofs.Theorems.{applied-well-formed}
+use Rattle.edit.specs.declared.Edit.the-variants.{Add}
+use Rattle.reach.proofs.ShapeKept.{marks-length}
+use Rattle.program.specs.Decoded.{programOf}
+use lib.ListN.{length}
+use mathlib.Core.Path.{_≡_, ap, _∙_}
+use borrow.Author.Needs.{needs}
+use Rattle.update.proofs.inside_out.add_step_beside.Statement.{statement}
+use Rattle.update.proofs.inside_out.add_step_beside.Tie as tie
+
+copy-requires : tie.Need-copy-requires
+copy-requires c κs =
+    let z = c .before .before .before .before .before in
+    let m = ap length (z .pre .1 .0) ∙ marks-length (z .args .z) (own-sized _ (z .pre .0 .2) (z .pre .0 .0) .usable) (programOf (z .args .p)) in
+    search (needs, m)
+
+add-step-requires : tie.Need-add-step-requires
+add-step-requires c κs = let z = c .before .before .before .before .before .before .before .before .before .before in (z .pre .0, (z .pre .1 .0, z .pre .1 .1))
+
+gained-requires : tie.Need-gained-requires
+gained-requires c κs =
+    let z = c .before .before .before .before .before .before .before .before .before .before .before .before .before .before .before .before .before in
+    let o = copied-fresh (own-sized _ (z .pre .0 .2) (z .pre .0 .0) .usable) (programOf (z .args .p)) (z .args .marks .now) (z .args .old .now) (z .pre .1 .2) (z .pre .1 .0) (c .before .before .before .before .before .before .before .before .before .before .before .copy .ensures .1) in
+    ((own-sized _ (z .pre .0 .2) (z .pre .0 .0) .usable), (own-sized _ (z .pre .0 .2) (z .pre .0 .0) .admitted), ap length o ∙ marks-length _ (own-sized _ (z .pre .0 .2) (z .pre .0 .0) .usable) _, ap length (c .before .before .before .before .before .before .add-step .ensures .own) ∙ marks-length _ (own-sized _ (z .pre .0 .2) (z .pre .0 .0) .usable) _)
+
+returns : tie.Need-returns
+returns c =
+    let z = c .before .before .before .before .before .before .before .before .before .before .before .before .before .before .before .before .before .before in
+    let p = programOf (z .args .p) in
+    let r = c .before .before .before .before .before .before .before .add-step .ensures in
+    let o = copied-fresh (own-sized _ (z .pre .0 .2) (z .pre .0 .0) .usable) p (z .args .marks .now) (z .args .old .now) (z .pre .1 .2) (z .pre .1 .0) (c .before .before .before .before .before .before .before .before .before .before .before .before .copy .ensures .1) in (
+      r,
+      grown-flags (own-sized _ (z .pre .0 .2) (z .pre .0 .0) .usable) p _ (own-sized p (z .pre .0 .2) (z .pre .0 .0) .ranged)
+          (own-sized _ (edited-sizes (Add (z .args .s)) p (z .pre .0 .2)) (applied-well-formed (Add (z .args .s)) p (z .pre .0 .0) (z .pre .0 .1)) .ranged) o r (c .gained .ensures),
+    )
+
+pub add-step-beside-spec : {M : Type 1} → statement M
+add-step-beside-spec =
+    tie.close
+    (tie.spec copy-requires add-step-requires gained-requires (λ c. search needs) (λ c. search needs) (λ c. search needs)
+    returns)
