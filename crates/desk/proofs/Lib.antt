@@ -1,2 +1,1 @@
-pub mod NumbersFit
 pub mod BackByParts

@@ -5,6 +5,8 @@ use mathlib.Core.Bool.{Bool, true, false}
 use mathlib.Core.List.{List}
 use lib.Dec.{eqb}
 use Rattle.program.specs.Program.{Program}
+use Rattle.program.specs.declared.sizes.Sizes.{Sizes}
+use Rattle.program.specs.Chosen.{sizesOf, numbers}
 use Rattle.program.specs.Reading.{refusal, refusalLine, readFile}
 use Rattle.program.specs.declared.Verdict.{Verdict}
 use Rattle.writer.specs.Answers.{writeAnswer, outputAfter, refusal as writeRefusal, refusalLine as writeLine}
@@ -17,31 +19,46 @@ use Rattle.analysis.specs.declared.AnalyzeAnswer.{AnalyzeAnswer}
 use Rattle.analysis.specs.declared.NextAnswer.{NextAnswer}
 use Rattle.prune.specs.Pruning.{Pruned}
 use Rattle.exchange.specs.Wanted.{wantedChange}
-use Rattle.exchange.specs.declared.Form.{Form}
-use Rattle.exchange.specs.declared.Form.the-variants.{EditLine, ExchangeText}
+use Rattle.exchange.specs.Changes.{Form, EditLine, ExchangeText}
 use Rattle.repair.specs.Repairs.{After, repaired, InsideOutNumber}
+use Rattle.rewrite.specs.Room.{roomAnswer, roomRefusal, roomLine, roomNodes, roomMarks, roomWork}
+use Rattle.rewrite.specs.declared.RoomAnswer.{RoomAnswer}
+use Rattle.answers.specs.Told.{told}
 
 pub data Entry : Type 0 where
   read : Entry
+  sizes : Entry
   write : Entry
   analyze : Entry
   next-violation : Entry
   prune : Entry
   repair-forward : Entry
   repair-inside-out : Entry
+  exchange-sizes : Entry
   exchange-forward : Entry
   exchange-inside-out : Entry
 
 -- what is lent: of these a function reads those that its head names. `text` is an edit line or the text of an exchange,
--- `limit` how many iterations a full analysis may make, and `from` where to begin in the list of violations
+-- `second` the buffer for the marks after an exchange, `limit` how many iterations a full analysis may make, and `from`
+-- where to begin in the list of violations
 pub record Lent : Type 0 where
   pub file : List ℕ
   pub marks : List ℕ
   pub text : List ℕ
   pub output : List ℕ
   pub work : List ℕ
+  pub second : List ℕ
   pub limit : ℕ
   pub from : ℕ
+
+-- the sizes of a program, and what has to be lent: the counts of its routines and states, the largest count of nodes
+-- (paper: R, Q, P), the length of its marks, and of an exchange that of the working buffer
+pub record Room : Type 0 where
+  pub routines : ℕ
+  pub nodes : ℕ
+  pub states : ℕ
+  pub marks : ℕ
+  pub work : ℕ
 
 -- the numbers of an answer that only some functions have; 0 where the function has none of them, and on a refusal
 pub record Values : Type 0 where
@@ -55,6 +72,7 @@ pub record Values : Type 0 where
   pub found : ℕ
   -- the reanalyzed routines (paper: reopened), bit f for routine f
   pub reanalyzed : ℕ
+  pub room : Room
 
 -- what is given back: the refusal's number (0: none) and line, the other numbers, and the lent buffers that may change,
 -- as they are afterwards
@@ -65,29 +83,59 @@ pub record Back : Type 0 where
   pub marks : List ℕ
   pub output : List ℕ
   pub work : List ℕ
+  pub second : List ℕ
 
 -- does it have a working buffer?
 abbrev pub hasWork : Entry → Bool
 hasWork read = false
+hasWork sizes = false
 hasWork write = false
 hasWork analyze = true
 hasWork next-violation = true
 hasWork prune = true
 hasWork repair-forward = true
 hasWork repair-inside-out = true
+hasWork exchange-sizes = false
 hasWork exchange-forward = true
 hasWork exchange-inside-out = true
 
 -- ---- the numbers that a function has
 
+abbrev pub noRoom : Room
+noRoom = record { routines = 0; nodes = 0; states = 0; marks = 0; work = 0 }
+
 abbrev pub noValues : Values
-noValues = record { written = 0; configurations = 0; violations = 0; iterations = 0; found = 0; reanalyzed = 0 }
+noValues = record {
+  written = 0;
+  configurations = 0;
+  violations = 0;
+  iterations = 0;
+  found = 0;
+  reanalyzed = 0;
+  room = noRoom;
+}
 
 abbrev pub counts : ℕ → ℕ → ℕ → Values
-counts c v i = record { written = 0; configurations = c; violations = v; iterations = i; found = 0; reanalyzed = 0 }
+counts c v i = record {
+  written = 0;
+  configurations = c;
+  violations = v;
+  iterations = i;
+  found = 0;
+  reanalyzed = 0;
+  room = noRoom;
+}
 
 abbrev pub finding : ℕ → Values
-finding i = record { written = 0; configurations = 0; violations = 0; iterations = 0; found = i; reanalyzed = 0 }
+finding i = record {
+  written = 0;
+  configurations = 0;
+  violations = 0;
+  iterations = 0;
+  found = i;
+  reanalyzed = 0;
+  room = noRoom;
+}
 
 abbrev pub repairing : ℕ → ℕ → Values
 repairing size routines = record {
@@ -97,6 +145,18 @@ repairing size routines = record {
   iterations = 0;
   found = 0;
   reanalyzed = routines;
+  room = noRoom;
+}
+
+abbrev pub sizing : ℕ → ℕ → ℕ → ℕ → ℕ → Values
+sizing routines nodes states marks work = record {
+  written = 0;
+  configurations = 0;
+  violations = 0;
+  iterations = 0;
+  found = 0;
+  reanalyzed = 0;
+  room = record { routines = routines; nodes = nodes; states = states; marks = marks; work = work };
 }
 
 abbrev pub writing : ℕ → Values
@@ -112,6 +172,31 @@ readBack b v = record {
   marks = b .marks;
   output = b .output;
   work = b .work;
+  second = b .second;
+}
+
+-- the sizes of an accepted file's program
+abbrev pub sizesBack : Lent → Verdict → Sizes → Back
+sizesBack b v z = record {
+  refusal = refusal v;
+  line = refusalLine v;
+  values = sizing (told v (z .routines)) (told v (z .nodes)) (told v (z .states)) (told v (numbers z)) 0;
+  marks = b .marks;
+  output = b .output;
+  work = b .work;
+  second = b .second;
+}
+
+-- what an exchange has to be lent
+abbrev pub roomBack : Lent → RoomAnswer → Back
+roomBack b r = record {
+  refusal = roomRefusal r;
+  line = roomLine r;
+  values = sizing 0 (roomNodes r) 0 (roomMarks r) (roomWork r);
+  marks = b .marks;
+  output = b .output;
+  work = b .work;
+  second = b .second;
 }
 
 abbrev pub writeBack : Lent → WriteAnswer → List ℕ → Back
@@ -122,6 +207,7 @@ writeBack b r output = record {
   marks = b .marks;
   output = output;
   work = b .work;
+  second = b .second;
 }
 
 abbrev pub analyzeBack : Lent → AnalyzeAnswer → List ℕ → List ℕ → Back
@@ -133,6 +219,7 @@ analyzeBack b r marks work =
       marks = marks;
       output = b .output;
       work = work;
+      second = b .second;
     }
 
 abbrev pub nextBack : Lent → NextAnswer → List ℕ → Back
@@ -143,6 +230,7 @@ nextBack b r work = record {
   marks = b .marks;
   output = b .output;
   work = work;
+  second = b .second;
 }
 
 abbrev pub pruneBack : Lent → Verdict → List ℕ → List ℕ → Back
@@ -153,6 +241,7 @@ pruneBack b v marks work = record {
   marks = marks;
   output = b .output;
   work = work;
+  second = b .second;
 }
 
 abbrev pub repairBack : After → ℕ → Back
@@ -164,6 +253,7 @@ repairBack a routines =
       marks = a .marks;
       output = a .output;
       work = a .work;
+      second = a .second;
     }
 
 abbrev pub programIn : Lent → Program
@@ -171,22 +261,31 @@ programIn b = readFile (b .file) .program
 
 -- either repair, by an edit line or by the text of an exchange
 abbrev pub repairedIn : Form → Lent → After
-repairedIn k b = repaired k (b .file) (b .marks) (b .text) (b .output) (b .work)
+repairedIn k b = repaired k (b .file) (b .marks) (b .text) (b .output) (b .work) (b .second)
 
 -- what is lent to a repair, and what it gives back: its number, the line, the bytes written and the routines told, and
 -- the buffers
-abbrev pub lentRepair : List ℕ → List ℕ → List ℕ → List ℕ → List ℕ → Lent
-lentRepair file marks text output work =
-    record { file = file; marks = marks; text = text; output = output; work = work; limit = 0; from = 0 }
+abbrev pub lentRepair : List ℕ → List ℕ → List ℕ → List ℕ → List ℕ → List ℕ → Lent
+lentRepair file marks text output work second = record {
+  file = file;
+  marks = marks;
+  text = text;
+  output = output;
+  work = work;
+  second = second;
+  limit = 0;
+  from = 0;
+}
 
-abbrev pub backRepair : ℕ → ℕ → ℕ → ℕ → List ℕ → List ℕ → List ℕ → Back
-backRepair refusal line size routines marks output work = record {
+abbrev pub backRepair : ℕ → ℕ → ℕ → ℕ → List ℕ → List ℕ → List ℕ → List ℕ → Back
+backRepair refusal line size routines marks output work second = record {
   refusal = refusal;
   line = line;
   values = repairing size routines;
   marks = marks;
   output = output;
   work = work;
+  second = second;
 }
 
 -- the forward one tells no routine
@@ -202,6 +301,7 @@ InsideOutGives k b a =
 
 abbrev pub Gives : Entry → Lent → Back → Type 0
 Gives read b a = a ≡ readBack b (readFile (b .file) .verdict)
+Gives sizes b a = a ≡ sizesBack b (readFile (b .file) .verdict) (sizesOf (programIn b))
 Gives write b a = a ≡ writeBack b (writeAnswer (b .file) (b .output)) (outputAfter (b .file) (b .output))
 Gives analyze b a =
     a ≡ analyzeBack b (analyzeAnswer (b .file) (b .marks) (b .work) (b .limit))
@@ -214,5 +314,6 @@ Gives prune b a =
     × Pruned (checkedMarks (b .file) (b .marks) (b .work)) (programIn b) (b .marks) (a .marks)
 Gives repair-forward b a = RepairGives EditLine b a
 Gives repair-inside-out b a = InsideOutGives EditLine b a
+Gives exchange-sizes b a = a ≡ roomBack b (roomAnswer (b .file) (b .text))
 Gives exchange-forward b a = RepairGives ExchangeText b a
 Gives exchange-inside-out b a = InsideOutGives ExchangeText b a

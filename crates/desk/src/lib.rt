@@ -1,44 +1,16 @@
 // The functions for C: bytes are handed over, and numbers come back. Every number is set on every call.
-use analysis::AnalyzeAnswer;
-use analysis::NextAnswer;
-use exchange::Form;
-use program::Verdict;
-use repair::RepairAnswer;
-use writer::WriteAnswer;
-ghost use mathlib.Core.Path.{_≡_};
+use answers::analyze_numbers;
+use answers::next_numbers;
+use answers::reanalyzed_of;
+use answers::room_numbers;
+use answers::sizes_numbers;
+use answers::verdict_numbers;
+use answers::write_numbers;
+use program::chosen::sizes_of;
 ghost use mathlib.Core.List.{[]};
-ghost use Rattle.program.specs.Reading.{refusal, refusalLine};
-ghost use Rattle.writer.specs.Answers.{refusal as writeRefusal, refusalLine as writeLine, writtenLength};
-ghost use Rattle.analysis.specs.Answers.{analyzeRefusal, analyzeLine, configurationCount, violationCount};
-ghost use Rattle.analysis.specs.Answers.{iterationCount, nextRefusal, nextLine, nextFound};
-ghost use Rattle.repair.specs.Repairs.{reanalyzed as reanalyzedNumber};
-ghost use Rattle.desk.specs.Entries.{Gives, read, write, analyze, next-violation, prune, repair-forward};
-ghost use Rattle.desk.specs.Entries.{repair-inside-out, exchange-forward, exchange-inside-out};
-ghost use Rattle.desk.specs.Entries.{noValues, writing, counts, finding, lentRepair, backRepair};
-ghost use Rattle.desk.specs.Entries.{RepairGives, InsideOutGives};
-ghost use Rattle.desk.specs.Parts.{VerdictFits, WriteFits, AnalyzeFits, NextFits};
-
-struct VerdictNumbers {
-    refusal: u32,
-    line: u32,
-}
-
-// No file is refused at a line above 547, so that each line fits.
-fn verdict_numbers(v: Verdict) -> VerdictNumbers
-    requires { ⌜ VerdictFits v ⌝ }
-    ensures { λ r. ⌜ (r .refusal ≡ refusal v) × (r .line ≡ refusalLine v) ⌝ }
-{
-    match v {
-        Verdict::Accepted => VerdictNumbers {
-            refusal: 0,
-            line: 0,
-        },
-        Verdict::Refused(n, at) => VerdictNumbers {
-            refusal: n as u32,
-            line: at as u32,
-        },
-    }
-}
+ghost use Rattle.desk.specs.Entries.{Gives, read, sizes, write, analyze, next-violation, prune, repair-forward};
+ghost use Rattle.desk.specs.Entries.{repair-inside-out, exchange-sizes, exchange-forward, exchange-inside-out};
+ghost use Rattle.desk.specs.Entries.{noValues, writing, counts, finding, sizing, lentRepair, backRepair};
 
 // Is this file accepted? The line of its refusal is set.
 #[no_mangle]
@@ -49,10 +21,19 @@ pub extern "C" fn palthrenni_read(file: &[u8], line: &mut u32) -> u32
       text = [];
       output = [];
       work = [];
+      second = [];
       limit = 0;
       from = 0;
     })
-        (record { refusal = r; line = now (line .exit); values = noValues; marks = []; output = []; work = [] }) ⌝ }
+        (record {
+          refusal = r;
+          line = now (line .exit);
+          values = noValues;
+          marks = [];
+          output = [];
+          work = [];
+          second = [];
+        }) ⌝ }
 {
     let r = reader::read(file);
     let v = r.verdict;
@@ -61,29 +42,48 @@ pub extern "C" fn palthrenni_read(file: &[u8], line: &mut u32) -> u32
     numbers.refusal
 }
 
-struct WriteNumbers {
-    refusal: u32,
-    line: u32,
-    written: u32,
-}
-
-// No program is written as more than 5,328 bytes, so that each length fits.
-fn write_numbers(a: WriteAnswer) -> WriteNumbers
-    requires { ⌜ WriteFits a ⌝ }
-    ensures { λ r. ⌜ (r .refusal ≡ writeRefusal a) × (r .line ≡ writeLine a) × (r .written ≡ writtenLength a) ⌝ }
+// How large is an accepted file's program? The line of a refusal, the counts of routines and states, the largest count
+// of nodes and the length of the marks are set.
+#[no_mangle]
+pub extern "C" fn palthrenni_sizes(
+    file: &[u8],
+    line: &mut u32,
+    routines: &mut u32,
+    nodes: &mut u32,
+    states: &mut u32,
+    marks_size: &mut u32,
+) -> u32
+    ensures { λ r. ⌜ Gives sizes (record {
+      file = now (file .entry);
+      marks = [];
+      text = [];
+      output = [];
+      work = [];
+      second = [];
+      limit = 0;
+      from = 0;
+    })
+        (record {
+          refusal = r;
+          line = now (line .exit);
+          values = sizing (now (routines .exit)) (now (nodes .exit)) (now (states .exit)) (now («marks_size» .exit)) 0;
+          marks = [];
+          output = [];
+          work = [];
+          second = [];
+        }) ⌝ }
 {
-    match a {
-        WriteAnswer::Written(size) => WriteNumbers {
-            refusal: 0,
-            line: 0,
-            written: size as u32,
-        },
-        WriteAnswer::Refused(n, at) => WriteNumbers {
-            refusal: n as u32,
-            line: at as u32,
-            written: 0,
-        },
-    }
+    let r = reader::read(file);
+    let v = r.verdict;
+    let z = sizes_of(r.program);
+    let numbers = verdict_numbers(v);
+    let told = sizes_numbers(v, z);
+    *line = numbers.line;
+    *routines = told.routines;
+    *nodes = told.nodes;
+    *states = told.states;
+    *marks_size = told.marks;
+    numbers.refusal
 }
 
 // Writes the program of a file at the start of the output. The line of a refusal and the count of bytes written are
@@ -101,6 +101,7 @@ pub extern "C" fn palthrenni_write(
       text = [];
       output = now (output .entry);
       work = [];
+      second = [];
       limit = 0;
       from = 0;
     })
@@ -111,6 +112,7 @@ pub extern "C" fn palthrenni_write(
           marks = [];
           output = now (output .exit);
           work = [];
+          second = [];
         }) ⌝ }
 {
     let a = writer::write(file, output);
@@ -118,39 +120,6 @@ pub extern "C" fn palthrenni_write(
     *line = numbers.line;
     *written = numbers.written;
     numbers.refusal
-}
-
-struct AnalyzeNumbers {
-    refusal: u32,
-    line: u32,
-    configurations: u32,
-    violations: u32,
-    iterations: u32,
-}
-
-// There are 16,384 configurations and at most 16,793,600 iterations, so that each count fits.
-fn analyze_numbers(a: AnalyzeAnswer) -> AnalyzeNumbers
-    requires { ⌜ AnalyzeFits a ⌝ }
-    ensures { λ r. ⌜ (r .refusal ≡ analyzeRefusal a) × (r .line ≡ analyzeLine a)
-        × (r .configurations ≡ configurationCount a) × (r .violations ≡ violationCount a)
-        × (r .iterations ≡ iterationCount a) ⌝ }
-{
-    match a {
-        AnalyzeAnswer::Counts(c, v, i) => AnalyzeNumbers {
-            refusal: 0,
-            line: 0,
-            configurations: c as u32,
-            violations: v as u32,
-            iterations: i as u32,
-        },
-        AnalyzeAnswer::Refused(n, at) => AnalyzeNumbers {
-            refusal: n as u32,
-            line: at as u32,
-            configurations: 0,
-            violations: 0,
-            iterations: 0,
-        },
-    }
 }
 
 // Sets the marks of all reachable configurations of a file's program, or gives up where the limit is not enough. The
@@ -172,6 +141,7 @@ pub extern "C" fn palthrenni_analyze(
       text = [];
       output = [];
       work = now (work .entry);
+      second = [];
       limit = limit;
       from = 0;
     })
@@ -182,6 +152,7 @@ pub extern "C" fn palthrenni_analyze(
           marks = now (marks .exit);
           output = [];
           work = now (work .exit);
+          second = [];
         }) ⌝ }
 {
     let a = analysis::analyze(file, marks, work, limit as usize);
@@ -191,35 +162,6 @@ pub extern "C" fn palthrenni_analyze(
     *violations = numbers.violations;
     *iterations = numbers.iterations;
     numbers.refusal
-}
-
-struct NextNumbers {
-    refusal: u32,
-    line: u32,
-    found: u32,
-}
-
-fn next_numbers(a: NextAnswer) -> NextNumbers
-    requires { ⌜ NextFits a ⌝ }
-    ensures { λ r. ⌜ (r .refusal ≡ nextRefusal a) × (r .line ≡ nextLine a) × (r .found ≡ nextFound a) ⌝ }
-{
-    match a {
-        NextAnswer::Found(i) => NextNumbers {
-            refusal: 0,
-            line: 0,
-            found: i as u32,
-        },
-        NextAnswer::Nothing => NextNumbers {
-            refusal: 0,
-            line: 0,
-            found: 4294967295,
-        },
-        NextAnswer::Refused(n, at) => NextNumbers {
-            refusal: n as u32,
-            line: at as u32,
-            found: 0,
-        },
-    }
 }
 
 // The first violation not below the number. The line of a refusal and the number found are set.
@@ -238,6 +180,7 @@ pub extern "C" fn palthrenni_next_violation(
       text = [];
       output = [];
       work = now (work .entry);
+      second = [];
       limit = 0;
       from = from;
     })
@@ -248,6 +191,7 @@ pub extern "C" fn palthrenni_next_violation(
           marks = now (marks .entry);
           output = [];
           work = now (work .exit);
+          second = [];
         }) ⌝ }
 {
     let a = analysis::next_violation(file, marks, work, from as usize);
@@ -272,6 +216,7 @@ pub extern "C" fn palthrenni_prune(
       text = [];
       output = [];
       work = now (work .entry);
+      second = [];
       limit = 0;
       from = 0;
     })
@@ -282,6 +227,7 @@ pub extern "C" fn palthrenni_prune(
           marks = now (marks .exit);
           output = [];
           work = now (work .exit);
+          second = [];
         }) ⌝ }
 {
     let v = prune::prune(file, marks, work);
@@ -290,67 +236,8 @@ pub extern "C" fn palthrenni_prune(
     numbers.refusal
 }
 
-// Either form of the forward repair. The line of a refusal and the count of bytes written are set.
-fn forward_for_c(
-    form: Form,
-    file: &[u8],
-    marks: &mut [u8],
-    text: &[u8],
-    output: &mut [u8],
-    work: &mut [u8],
-    line: &mut u32,
-    written: &mut u32,
-) -> u32
-    ensures { λ r. ⌜ RepairGives form
-        (lentRepair (now (file .entry)) (now (marks .entry)) (now (text .entry)) (now (output .entry))
-        (now (work .entry)))
-        (backRepair r (now (line .exit)) (now (written .exit)) 0 (now (marks .exit)) (now (output .exit))
-        (now (work .exit))) ⌝ }
-{
-    let a = repair::repair_with(form, false, file, marks, text, output, work);
-    let numbers = write_numbers(a);
-    *line = numbers.line;
-    *written = numbers.written;
-    numbers.refusal
-}
-
-fn reanalyzed_of(a: RepairAnswer) -> u32
-    ensures { λ r. ⌜ r ≡ reanalyzedNumber a ⌝ }
-{
-    match a {
-        RepairAnswer::Repaired(_, routines) => routines,
-        RepairAnswer::Refused(_, _) => 0,
-    }
-}
-
-// Either form of the inside-out repair: as the forward one, and the set of the reanalyzed routines is set too, bit f
-// for routine f.
-fn inside_out_for_c(
-    form: Form,
-    file: &[u8],
-    marks: &mut [u8],
-    text: &[u8],
-    output: &mut [u8],
-    work: &mut [u8],
-    line: &mut u32,
-    written: &mut u32,
-    reanalyzed: &mut u32,
-) -> u32
-    ensures { λ r. ⌜ InsideOutGives form
-        (lentRepair (now (file .entry)) (now (marks .entry)) (now (text .entry)) (now (output .entry))
-        (now (work .entry)))
-        (backRepair r (now (line .exit)) (now (written .exit)) (now (reanalyzed .exit)) (now (marks .exit))
-        (now (output .exit)) (now (work .exit))) ⌝ }
-{
-    let a = repair::repair_inside_out(form, file, marks, text, output, work);
-    let numbers = write_numbers(repair::without_routines(a));
-    *line = numbers.line;
-    *written = numbers.written;
-    *reanalyzed = reanalyzed_of(a);
-    numbers.refusal
-}
-
-// The forward repair by an edit line: the marks become those of the edited program, which is written.
+// The forward repair by an edit line: the marks become those of the edited program, which is written. The line of a
+// refusal and the count of bytes written are set.
 #[no_mangle]
 pub extern "C" fn palthrenni_repair_forward(
     file: &[u8],
@@ -363,23 +250,19 @@ pub extern "C" fn palthrenni_repair_forward(
 ) -> u32
     ensures { λ r. ⌜ Gives repair-forward
         (lentRepair (now (file .entry)) (now (marks .entry)) (now (edit .entry)) (now (output .entry))
-        (now (work .entry)))
+        (now (work .entry)) [])
         (backRepair r (now (line .exit)) (now (written .exit)) 0 (now (marks .exit)) (now (output .exit))
-        (now (work .exit))) ⌝ }
+        (now (work .exit)) []) ⌝ }
 {
-    forward_for_c(
-        Form::EditLine,
-        file,
-        marks,
-        edit,
-        output,
-        work,
-        line,
-        written,
-    )
+    let a = repair::repair_with(false, file, marks, edit, output, work);
+    let numbers = write_numbers(a);
+    *line = numbers.line;
+    *written = numbers.written;
+    numbers.refusal
 }
 
-// The inside-out repair by an edit line.
+// The inside-out repair by an edit line: as the forward one, and the set of the reanalyzed routines is set too, bit f
+// for routine f.
 #[no_mangle]
 pub extern "C" fn palthrenni_repair_inside_out(
     file: &[u8],
@@ -393,80 +276,107 @@ pub extern "C" fn palthrenni_repair_inside_out(
 ) -> u32
     ensures { λ r. ⌜ Gives repair-inside-out
         (lentRepair (now (file .entry)) (now (marks .entry)) (now (edit .entry)) (now (output .entry))
-        (now (work .entry)))
+        (now (work .entry)) [])
         (backRepair r (now (line .exit)) (now (written .exit)) (now (reanalyzed .exit)) (now (marks .exit))
-        (now (output .exit)) (now (work .exit))) ⌝ }
+        (now (output .exit)) (now (work .exit)) []) ⌝ }
 {
-    inside_out_for_c(
-        Form::EditLine,
-        file,
-        marks,
-        edit,
-        output,
-        work,
-        line,
-        written,
-        reanalyzed,
-    )
+    let a = repair::repair_inside_out(file, marks, edit, output, work);
+    let numbers = write_numbers(repair::without_routines(a));
+    *line = numbers.line;
+    *written = numbers.written;
+    *reanalyzed = reanalyzed_of(a);
+    numbers.refusal
 }
 
-// The forward repair by the text of an exchange: a whole routine is exchanged, the marks become those of the new
-// program, which is written.
+// What an exchange by this text has to be lent: the line of a refusal, the largest count of nodes of the new program,
+// the length of its marks and that of the working buffer are set.
+#[no_mangle]
+pub extern "C" fn palthrenni_exchange_sizes(
+    file: &[u8],
+    text: &[u8],
+    line: &mut u32,
+    nodes: &mut u32,
+    marks_size: &mut u32,
+    work_size: &mut u32,
+) -> u32
+    ensures { λ r. ⌜ Gives exchange-sizes (record {
+      file = now (file .entry);
+      marks = [];
+      text = now (text .entry);
+      output = [];
+      work = [];
+      second = [];
+      limit = 0;
+      from = 0;
+    })
+        (record {
+          refusal = r;
+          line = now (line .exit);
+          values = sizing 0 (now (nodes .exit)) 0 (now («marks_size» .exit)) (now («work_size» .exit));
+          marks = [];
+          output = [];
+          work = [];
+          second = [];
+        }) ⌝ }
+{
+    let a = rewrite::exchange_room(file, text);
+    let numbers = room_numbers(a);
+    *line = numbers.line;
+    *nodes = numbers.nodes;
+    *marks_size = numbers.marks;
+    *work_size = numbers.work;
+    numbers.refusal
+}
+
+// The forward exchange of a routine by a text: the marks of the new program go to the new marks, and the program is
+// written. The old marks are only read. The line of a refusal and the count of bytes written are set.
 #[no_mangle]
 pub extern "C" fn palthrenni_exchange_forward(
     file: &[u8],
-    marks: &mut [u8],
+    marks: &[u8],
     text: &[u8],
     output: &mut [u8],
     work: &mut [u8],
+    new_marks: &mut [u8],
     line: &mut u32,
     written: &mut u32,
 ) -> u32
     ensures { λ r. ⌜ Gives exchange-forward
         (lentRepair (now (file .entry)) (now (marks .entry)) (now (text .entry)) (now (output .entry))
-        (now (work .entry)))
-        (backRepair r (now (line .exit)) (now (written .exit)) 0 (now (marks .exit)) (now (output .exit))
-        (now (work .exit))) ⌝ }
+        (now (work .entry)) (now («new_marks» .entry)))
+        (backRepair r (now (line .exit)) (now (written .exit)) 0 (now (marks .entry)) (now (output .exit))
+        (now (work .exit)) (now («new_marks» .exit))) ⌝ }
 {
-    forward_for_c(
-        Form::ExchangeText,
-        file,
-        marks,
-        text,
-        output,
-        work,
-        line,
-        written,
-    )
+    let a = rewrite::exchange_forward(file, marks, text, output, work, new_marks);
+    let numbers = write_numbers(a);
+    *line = numbers.line;
+    *written = numbers.written;
+    numbers.refusal
 }
 
-// The inside-out repair by the text of an exchange.
+// The inside-out exchange: as the forward one, and the set of the reanalyzed routines is set too.
 #[no_mangle]
 pub extern "C" fn palthrenni_exchange_inside_out(
     file: &[u8],
-    marks: &mut [u8],
+    marks: &[u8],
     text: &[u8],
     output: &mut [u8],
     work: &mut [u8],
+    new_marks: &mut [u8],
     line: &mut u32,
     written: &mut u32,
     reanalyzed: &mut u32,
 ) -> u32
     ensures { λ r. ⌜ Gives exchange-inside-out
         (lentRepair (now (file .entry)) (now (marks .entry)) (now (text .entry)) (now (output .entry))
-        (now (work .entry)))
-        (backRepair r (now (line .exit)) (now (written .exit)) (now (reanalyzed .exit)) (now (marks .exit))
-        (now (output .exit)) (now (work .exit))) ⌝ }
+        (now (work .entry)) (now («new_marks» .entry)))
+        (backRepair r (now (line .exit)) (now (written .exit)) (now (reanalyzed .exit)) (now (marks .entry))
+        (now (output .exit)) (now (work .exit)) (now («new_marks» .exit))) ⌝ }
 {
-    inside_out_for_c(
-        Form::ExchangeText,
-        file,
-        marks,
-        text,
-        output,
-        work,
-        line,
-        written,
-        reanalyzed,
-    )
+    let answer = rewrite::exchange_inside_out(file, marks, text, output, work, new_marks);
+    let numbers = write_numbers(repair::without_routines(answer));
+    *line = numbers.line;
+    *written = numbers.written;
+    *reanalyzed = reanalyzed_of(answer);
+    numbers.refusal
 }

@@ -19,15 +19,13 @@ use Rattle.reader.specs.declared.Reading.{Reading}
 use Rattle.analysis.specs.Answers.{owned}
 use Rattle.analysis.proofs.AnswersByChecks.{refused-foreign}
 use Rattle.callgraph.specs.Components.{Bits}
-use Rattle.exchange.specs.Changes.{Change, ChangeRead, Read}
-use Rattle.exchange.specs.Decoded.{exchangeOf, changeBy, readBy, readOf}
-use Rattle.exchange.specs.Wanted.{wantedChange, ChangeApplies}
-use Rattle.exchange.specs.declared.Form.{Form}
-use Rattle.exchange.specs.declared.ChangeKind.{ChangeKind}
-use Rattle.exchange.specs.declared.ReadKind.{ReadKind}
-use Rattle.exchange.specs.declared.DecodedRead.{DecodedRead}
-use Rattle.exchange.specs.declared.ReadKind.the-variants as read
-use Rattle.exchange.proofs.Theorems.{wanted-change-applies, change-number}
+use Rattle.exchange.specs.Changes.{Change, step, ChangeRead, Read, Form, EditLine}
+use Rattle.edit.specs.Editing.{wantedEdit}
+use Rattle.edit.specs.declared.Edit.{Edit}
+use Rattle.edit.specs.declared.EditRead.{EditRead}
+use Rattle.edit.specs.declared.EditRead.the-variants as edit
+use Rattle.exchange.specs.Wanted.{ofEdit, wantedChange}
+use Rattle.exchange.proofs.Theorems.{change-number}
 use Rattle.update.specs.Reanalyzed.{ReanalyzedBy}
 use Rattle.update.specs.Parts.{FlagsOf, Told}
 use Rattle.repair.specs.Repairs.{InsideOutNumber}
@@ -45,20 +43,13 @@ bits-told c p i k b =
 pub number-refused : (n : ℕ) (w : ChangeRead) (p : Program) → 0 < n → InsideOutNumber (eqb n 0) w p 0
 number-refused n w p h = rw (ne-eqb n 0 (λ e. absurd (omega arith))) refl
 
-module _ (k : Form) (p : Program) (text : List ℕ) (w : DecodedRead) (e : readOf w ≡ wantedChange k p text) where
-  -- what was read, by its kind
-  by-kind : {r : ReadKind} → w .kind ≡ r → readBy r (exchangeOf (w .exchange)) ≡ wantedChange k p text
-  by-kind h = ap (λ (r : ReadKind). readBy r (exchangeOf (w .exchange))) (sym h) ∙ e
+module _ (p : Program) (line : List ℕ) where
+  pub number-unwanted : (n : ℕ) → wantedEdit p line ≡ edit.Refused n → InsideOutNumber (eqb n 0) (wantedChange EditLine p line) p 0
+  number-unwanted n h = number-refused n (wantedChange EditLine p line) p (omega (arith, change-number EditLine p line n (ap ofEdit h) .0))
 
-  pub number-unwanted : (n : ℕ) → w .kind ≡ read.Refused n → InsideOutNumber (eqb n 0) (wantedChange k p text) p 0
-  number-unwanted n h = number-refused n (wantedChange k p text) p (omega (arith, change-number k p text n (sym (by-kind h)) .0))
-
-  pub kind-applies : (c : ChangeKind) → w .kind ≡ read.Read c → ChangeApplies (changeBy c (exchangeOf (w .exchange))) p
-  kind-applies c h = wanted-change-applies k p text (changeBy c (exchangeOf (w .exchange))) (sym (by-kind h))
-
-  pub number-wanted : (c : ChangeKind) → w .kind ≡ read.Read c → (t : Bool) (n : ℕ)
-      → InsideOutNumber t (Read (changeBy c (exchangeOf (w .exchange)))) p n → InsideOutNumber t (wantedChange k p text) p n
-  number-wanted c h t n x = subst (λ (y : ChangeRead). InsideOutNumber t y p n) (by-kind h) x
+  pub number-wanted : (e : Edit) → wantedEdit p line ≡ edit.Read e → (t : Bool) (n : ℕ)
+      → InsideOutNumber t (Read (step e)) p n → InsideOutNumber t (wantedChange EditLine p line) p n
+  number-wanted e h t n x = subst (λ (y : EditRead). InsideOutNumber t (ofEdit y) p n) (sym h) x
 
 module _ (p : Program) (marks : List ℕ) where
   pub number-foreign : (c : Change) {n at : ℕ} → owned p marks ≡ verdict.Refused n at → InsideOutNumber (eqb n 0) (Read c) p 0

@@ -1,2 +1,3 @@
 pub mod InsideOutNumbers
 pub mod RepairsAnswer
+pub mod BuffersKept

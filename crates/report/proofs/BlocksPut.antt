@@ -1,5 +1,5 @@
 -- The lines of a block and of refusals, put into an output.
-use mathlib.Core.Path.{_≡_, refl, sym, ap, _∙_}
+use mathlib.Core.Path.{_≡_, refl, sym, ap, subst, _∙_}
 use mathlib.Core.Bool.{Bool, true, false, _&&_, not}
 use mathlib.Core.List.{List, [], _∷_, _++_, map, map-append, append-assoc, append-nil}
 use Prim.Native.Nat.{ℕ, _+_, _*_, _<_, _≤_}
@@ -14,6 +14,8 @@ use Rattle.text.specs.Hex.{hexLine}
 use Rattle.text.specs.declared.Line.{Line}
 use Rattle.text.proofs.RoundTrip.{length-hex}
 use Rattle.automaton.specs.Flags.{Rejects}
+use Rattle.program.specs.declared.sizes.Sizes.{Sizes}
+use Rattle.program.specs.Chosen.{sizesOf, numbers, Admitted}
 use Rattle.program.specs.Program.{Program}
 use Rattle.program.specs.Decoded.{programOf}
 use Rattle.program.specs.declared.Verdict.{Verdict}
@@ -21,13 +23,13 @@ use Rattle.program.specs.declared.Verdict.the-variants as verdict
 use Rattle.program.specs.declared.Length.the-variants.{NotAsked, Of}
 use Rattle.checks.specs.Checked.{Checked}
 use Rattle.reader.specs.declared.Reading.{Reading}
-use Rattle.reach.specs.Configurations.{stateOf}
+use Rattle.reach.specs.Configurations.{Usable, stateOf}
 use Rattle.reach.proofs.Numbers.{state-small}
 use Rattle.reach.specs.Marks.{violates, frontWhen, violationsFrom}
 use Rattle.base.specs.Flags.{countSet}
 use Rattle.writer.specs.Parts.{Put}
 use Rattle.writer.proofs.FramesPut.{put-none, put-both}
-use Rattle.report.specs.Report.{violationFrame, countFrame, blockOf, blockSize, blockBy, blockText, lineWithin, Printed}
+use Rattle.report.specs.Report.{violationFrame, countFrame, blockAt, blockOf, blockSize, blockBy, blockText, lineWithin, Printed}
 use Rattle.report.proofs.Theorems.{block-limited}
 
 -- ---- a line of a refusal
@@ -46,74 +48,75 @@ line-printed {out} {r} o l f n w short room p =
 
 -- ---- the violations, a line each
 
-module _ (p : Program) (marks rejecting : List ℕ) (i : ℕ) (r : Rejects (p .automaton) rejecting) where
-  tested : not (eqb (getD marks i 0) 0) && not (eqb (getD rejecting (stateOf i) 0) 0) ≡ violates p (getD marks i 0) i
-  tested = rw (r .rejects (stateOf i) (state-small i))
+module _ {Z : Sizes} (U : Usable Z) (A : Admitted Z) (p : Program) (marks rejecting : List ℕ) (i : ℕ) (r : Rejects (p .automaton) rejecting) where
+  tested : not (eqb (getD marks i 0) 0) && not (eqb (getD rejecting (stateOf Z i) 0) 0) ≡ violates Z p (getD marks i 0) i
+  tested = rw (r .rejects (stateOf Z i) (omega (arith, A .states, state-small Z U i)))
 
   module _ {o out : List ℕ} {at next : ℕ} where
-    pub put-violation : not (eqb (getD marks i 0) 0) && not (eqb (getD rejecting (stateOf i) 0) 0) ≡ true → Put (violationFrame i ∷ []) o out at next
-        → Put (map violationFrame (frontWhen (violates p (getD marks i 0) i) i [])) o out at next
+    pub put-violation : not (eqb (getD marks i 0) 0) && not (eqb (getD rejecting (stateOf Z i) 0) 0) ≡ true → Put (violationFrame Z i ∷ []) o out at next
+        → Put (map (violationFrame Z) (frontWhen (violates Z p (getD marks i 0) i) i [])) o out at next
     put-violation e w = rw (sym tested ∙ e) w
 
-  pub put-nothing : {o : List ℕ} {at : ℕ} → not (eqb (getD marks i 0) 0) && not (eqb (getD rejecting (stateOf i) 0) 0) ≡ false
-      → Put (map violationFrame (frontWhen (violates p (getD marks i 0) i) i [])) o o at at
+  pub put-nothing : {o : List ℕ} {at : ℕ} → not (eqb (getD marks i 0) 0) && not (eqb (getD rejecting (stateOf Z i) 0) 0) ≡ false
+      → Put (map (violationFrame Z) (frontWhen (violates Z p (getD marks i 0) i) i [])) o o at at
   put-nothing e = rw (sym tested ∙ e) put-none
 
 -- a loop lists the violations in turn: those below i were put, and those from i on are to come
-pub record Listed (p : Program) (l o out : List ℕ) (at i : ℕ) : Type 0 where
+pub record Listed (Z : Sizes) (p : Program) (l o out : List ℕ) (at i : ℕ) : Type 0 where
   pub found : List ℕ
-  pub whole : found ++ violationsFrom p (drop i l) i ≡ violationsFrom p l 0
-  pub put : Put (map violationFrame found) o out 0 at
+  pub whole : found ++ violationsFrom Z p (drop i l) i ≡ violationsFrom Z p l 0
+  pub put : Put (map (violationFrame Z) found) o out 0 at
 
-pub none-listed : (p : Program) (l o : List ℕ) → Listed p l o o 0 0
-none-listed p l o = record { found = []; whole = refl; put = put-none }
+pub none-listed : (Z : Sizes) (p : Program) (l o : List ℕ) → Listed Z p l o o 0 0
+none-listed Z p l o = record { found = []; whole = refl; put = put-none }
 
 front : (t : Bool) (i : ℕ) (vs : List ℕ) → frontWhen t i [] ++ vs ≡ frontWhen t i vs
 front true i vs = refl
 front false i vs = refl
 
-module _ {p : Program} {l o out : List ℕ} {at i : ℕ} (s : Listed p l o out at i) where
-  next-mark : i < length l → violationsFrom p (drop i l) i ≡ frontWhen (violates p (getD l i 0) i) i (violationsFrom p (drop (i + 1) l) (i + 1))
+module _ {Z : Sizes} {p : Program} {l o out : List ℕ} {at i : ℕ} (s : Listed Z p l o out at i) where
+  next-mark : i < length l → violationsFrom Z p (drop i l) i ≡ frontWhen (violates Z p (getD l i 0) i) i (violationsFrom Z p (drop (i + 1) l) (i + 1))
   unfolding violationsFrom
   next-mark h = rw (drop-cons l i 0 h, add-one)
 
-  pub one-listed : {out′ : List ℕ} {at′ : ℕ} → i < length l → Put (map violationFrame (frontWhen (violates p (getD l i 0) i) i [])) out out′ at at′
-      → Listed p l o out′ at′ (i + 1)
+  pub one-listed : {out′ : List ℕ} {at′ : ℕ} → i < length l → Put (map (violationFrame Z) (frontWhen (violates Z p (getD l i 0) i) i [])) out out′ at at′
+      → Listed Z p l o out′ at′ (i + 1)
   one-listed h w =
-      let t : Bool = violates p (getD l i 0) i in
-      let vs : List ℕ = violationsFrom p (drop (i + 1) l) (i + 1) in
+      let t : Bool = violates Z p (getD l i 0) i in
+      let vs : List ℕ = violationsFrom Z p (drop (i + 1) l) (i + 1) in
       record {
         found = s .found ++ frontWhen t i [];
         whole = append-assoc (s .found) (frontWhen t i []) vs ∙ ap (λ (x : List ℕ). s .found ++ x) (front t i vs ∙ sym (next-mark h)) ∙ s .whole;
         put = rw map-append (put-both (s .put) w);
       }
 
-  pub all-listed : length l ≤ i → Put (map violationFrame (violationsFrom p l 0)) o out 0 at
+  pub all-listed : length l ≤ i → Put (map (violationFrame Z) (violationsFrom Z p l 0)) o out 0 at
   unfolding violationsFrom
   all-listed h =
-      let e : s .found ++ violationsFrom p (drop i l) i ≡ s .found = rw (drop-of-length-le l h) (append-nil (s .found)) in
+      let e : s .found ++ violationsFrom Z p (drop i l) i ≡ s .found = rw (drop-of-length-le l h) (append-nil (s .found)) in
       rw (sym e ∙ s .whole) at (s .put)
 
 -- ---- the whole block
 
-pub block-put : {o a out : List ℕ} {at r c v : ℕ} (p : Program) (marks : List ℕ) → length marks ≡ 16384 → blockSize ≤ length o
-    → c ≡ countSet marks → v ≡ length (violationsFrom p marks 0)
-    → Put (map violationFrame (violationsFrom p marks 0)) o a 0 at
+pub block-put : {o a out : List ℕ} {at r c v : ℕ} (Z : Sizes) (U : Usable Z) (A : Admitted Z) (p : Program) (marks : List ℕ) → length marks ≡ numbers Z → blockSize ≤ length o
+    → c ≡ countSet marks → v ≡ length (violationsFrom Z p marks 0)
+    → Put (map (violationFrame Z) (violationsFrom Z p marks 0)) o a 0 at
     → Put (countFrame c v ∷ []) a out at r
-    → Printed (blockOf p marks) o out r
-unfolding blockOf
-block-put {o = o} p marks h room e f x y =
+    → Printed (blockAt Z p marks) o out r
+unfolding blockAt
+block-put {o = o} Z U A p marks h room e f x y =
     let w = put-both x (rw (e, f) at y) in
-    (w .past ∙ zero-add _, w .there ∙ sets-eq (blockOf p marks) o 0 (omega (arith, block-limited p marks h)) ∙ rw zero-add)
+    (w .past ∙ zero-add _, w .there ∙ sets-eq (blockAt Z p marks) o 0 (omega (arith, block-limited Z U A p marks h)) ∙ rw zero-add)
 
 -- ---- the block, or nothing
 
 pub no-block : (p : Program) (marks o : List ℕ) → length o < blockSize → Printed (blockBy verdict.Accepted p marks (length o)) o o 0
 no-block p marks o h = rw (lt-ltb (length o) blockSize h) (refl, refl)
 
-pub whole-block : {out : List ℕ} {r : ℕ} (p : Program) (marks o : List ℕ) → blockSize ≤ length o → Printed (blockOf p marks) o out r
+pub whole-block : {out : List ℕ} {r : ℕ} {Z : Sizes} (p : Program) (marks o : List ℕ) → Z ≡ sizesOf p → blockSize ≤ length o → Printed (blockAt Z p marks) o out r
     → Printed (blockBy verdict.Accepted p marks (length o)) o out r
-whole-block p marks o h x = rw (le-ltb (length o) blockSize h) x
+whole-block {out} {r} p marks o e h x =
+    rw (le-ltb (length o) blockSize h) (subst (λ (z : Sizes). Printed (blockAt z p marks) o out r) e x)
 
 pub block-text : (file marks : List ℕ) (room : ℕ) {r : Reading} → Checked file (Of (length marks)) NotAsked NotAsked r → {v : Verdict} → r .verdict ≡ v
     → blockText file marks room ≡ blockBy v (programOf (r .program)) marks room

@@ -6,9 +6,11 @@ use mathlib.Core.Bool.{Bool, cond, _&&_}
 use mathlib.Core.List.{List, [], _∷_, _++_, map}
 use lib.Dec.{eqb, ltb}
 use lib.ListN.{length, getD, take, drop}
-use Rattle.program.specs.Sizes.{marksSize}
+use Rattle.program.specs.Sizes.{marksMost}
 use Rattle.text.specs.Hex.{hexLine}
 use Rattle.text.specs.Lines.{lines}
+use Rattle.program.specs.declared.sizes.Sizes.{Sizes}
+use Rattle.program.specs.Chosen.{sizesOf}
 use Rattle.program.specs.Program.{Program}
 use Rattle.program.specs.Reading.{readFile}
 use Rattle.program.specs.Checks.{checked}
@@ -46,17 +48,21 @@ firstSize (l ∷ ls) = length l
 -- ---- what is printed
 
 -- a violation (paper: a finding)
-abbrev pub violationFrame : ℕ → List ℕ
-violationFrame i = 0x58 ∷ routineOf i ∷ nodeOf i ∷ rootOf i ∷ stateOf i ∷ []
+abbrev pub violationFrame : Sizes → ℕ → List ℕ
+violationFrame Z i = 0x58 ∷ routineOf Z i ∷ nodeOf Z i ∷ rootOf Z i ∷ stateOf Z i ∷ []
 
 -- the counts of configurations (paper: standings) and of violations, four digits each
 abbrev pub countFrame : ℕ → ℕ → List ℕ
 countFrame c v = 0x5A ∷ c / 256 ∷ c % 256 ∷ v / 256 ∷ v % 256 ∷ []
 
--- the block of a program and its marks: each violation, ascending, and then the counts
-unfoldable pub blockOf : Program → List ℕ → List ℕ
-blockOf p marks = text (map violationFrame (violationsFrom p marks 0)
-    ++ countFrame (countSet marks) (length (violationsFrom p marks 0)) ∷ [])
+-- the block of a program and its marks in some sizes: each violation, ascending, and then the counts
+unfoldable pub blockAt : Sizes → Program → List ℕ → List ℕ
+blockAt Z p marks = text (map (violationFrame Z) (violationsFrom Z p marks 0)
+    ++ countFrame (countSet marks) (length (violationsFrom Z p marks 0)) ∷ [])
+
+-- in the program's own
+abbrev pub blockOf : Program → List ℕ → List ℕ
+blockOf p marks = blockAt (sizesOf p) p marks
 
 -- a refused edit, a refused file with its line, and an input that is too long (18)
 abbrev pub refusedEdit : ℕ → List ℕ
@@ -101,7 +107,7 @@ lineSize = 11
 
 -- no block is longer: a line for each configuration, and the counts
 abbrev pub blockSize : ℕ
-blockSize = lineSize * marksSize + lineSize
+blockSize = lineSize * marksMost + lineSize
 
 -- the block, or nothing where the file or the marks' length is refused, or the output is too short for every block
 abbrev pub blockBy : Verdict → Program → List ℕ → ℕ → List ℕ

@@ -4,7 +4,8 @@ mod put;
 use checks::checked_program;
 use program::Length;
 use program::Verdict;
-use program::sizes::MARKS_SIZE;
+use program::chosen::sizes_of;
+use program::sizes::MARKS_MOST;
 use put::put_block;
 use text::Line;
 use text::put_line;
@@ -23,7 +24,7 @@ pub const INPUT_SIZE: usize = 16384;
 // counts.
 pub const LINE_SIZE: usize = 11;
 
-pub const BLOCK_SIZE: usize = LINE_SIZE * MARKS_SIZE + LINE_SIZE;
+pub const BLOCK_SIZE: usize = LINE_SIZE * MARKS_MOST + LINE_SIZE;
 
 // Whether the line that starts at a position starts with the characters 45.
 fn starts_end(input: &[u8], at: usize) -> bool
@@ -81,7 +82,7 @@ pub fn block(file: &[u8], marks: &[u8], output: &mut [u8]) -> usize
                 return 0;
             }
             let p = r.program;
-            put_block(p, marks, output)
+            put_block(sizes_of(p), p, marks, output)
         }
     }
 }

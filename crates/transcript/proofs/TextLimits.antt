@@ -8,6 +8,10 @@ use lib.Dec.{ltb}
 use lib.ListN.{length, drop, length-append, length-drop}
 use Rattle.text.specs.Lines.{lines}
 use Rattle.text.proofs.RoundTrip.{length-hex}
+use Rattle.program.specs.Chosen.{sizesOf}
+use Rattle.program.proofs.ChosenSizes.{admitted}
+use Rattle.program.proofs.Theorems.{accepted-well-formed}
+use Rattle.reach.proofs.ProgramInSizes.{usable}
 use Rattle.program.specs.Program.{Program}
 use Rattle.program.specs.Reading.{readFile}
 use Rattle.program.specs.Checks.{checked}
@@ -40,7 +44,10 @@ unfolding blockText
 block-short file marks = go (checked file (Of (length marks)) NotAsked NotAsked) refl
   where
     go : (v : Verdict) → checked file (Of (length marks)) NotAsked NotAsked ≡ v → length (blockBy v (readFile file .program) marks 180235) ≤ 180235
-    go verdict.Accepted e = block-limited (readFile file .program) marks (passes file (Of (length marks)) NotAsked NotAsked e .sized .marks-length)
+    go verdict.Accepted e =
+        let p = readFile file .program in
+        let k = passes file (Of (length marks)) NotAsked NotAsked e in
+        block-limited (sizesOf p) (usable p (k .well-formed)) (admitted p (k .well-formed)) p marks (k .sized .marks-length)
     go (verdict.Refused n line) e = omega arith
 
 edited-limited : (a : WriteAnswer) (d : Desk) → length (editedText a d) ≤ 180235
@@ -49,15 +56,17 @@ edited-limited (Refused n line) d = omega (arith, edit-line-long n)
 
 pub begun-short : (input : List ℕ) → length (begun input .text) ≤ 180235
 unfolding begun
-begun-short input = go (ltb 16384 (length input)) (readFile (fileOf input) .verdict)
+begun-short input = go (ltb 16384 (length input)) (readFile (fileOf input) .verdict) refl
   where
     p : Program
     p = readFile (fileOf input) .program
 
-    go : (b : Bool) (v : Verdict) → length (cond b (alone tooLong input) (begunBy v p input) .text) ≤ 180235
-    go true v = omega (arith, edit-line-long 18)
-    go false verdict.Accepted = block-limited p (freshMarks p) (marks-length p)
-    go false (verdict.Refused n line) = omega (arith, file-line-long n line)
+    go : (b : Bool) (v : Verdict) → readFile (fileOf input) .verdict ≡ v → length (cond b (alone tooLong input) (begunBy v p input) .text) ≤ 180235
+    go true v e = omega (arith, edit-line-long 18)
+    go false verdict.Accepted e =
+        let w = accepted-well-formed (fileOf input) e in
+        block-limited (sizesOf p) (usable p w) (admitted p w) p (freshMarks p) (marks-length (sizesOf p) (usable p w) p)
+    go false (verdict.Refused n line) e = omega (arith, file-line-long n line)
 
 pub turned-short : (input : List ℕ) (at : ℕ) (d : Desk) → length (turned input at d .text) ≤ 180235
 unfolding turned

@@ -5,6 +5,9 @@ use Prim.Native.Nat.{ℕ, _+_, _<_, _≤_}
 use lib.ListN.{length, take, drop}
 use borrow.Author.Tests.{lt-ltb, le-ltb}
 use Rattle.text.specs.Lines.{lines}
+use Rattle.program.specs.Chosen.{sizesOf}
+use Rattle.program.proofs.Theorems.{accepted-well-formed}
+use Rattle.reach.proofs.ProgramInSizes.{usable}
 use Rattle.program.specs.Reading.{readFile}
 use Rattle.program.specs.declared.Verdict.the-variants as verdict
 use Rattle.writer.specs.declared.WriteAnswer.{WriteAnswer}
@@ -46,7 +49,8 @@ module _ (input old : List ℕ) {new : List ℕ} where
     gives-block {h} {size} {marks} v m k g =
         let v′ : readFile (fileOf input) .verdict ≡ verdict.Accepted = rw e at v in
         let k′ : heldOf h ≡ started (fileOf input) = k ∙ rw (m, e) in
-        let b = block-is (fileOf input) (freshMarks (readFile (fileOf input) .program)) v′ (marks-length (readFile (fileOf input) .program)) in
+        let p = readFile (fileOf input) .program in
+        let b = block-is (fileOf input) (freshMarks p) v′ (marks-length (sizesOf p) (usable p (accepted-well-formed (fileOf input) v′)) p) in
         let g′ = subst (λ (d : Desk). Printed (blockText (d .file) (d .marks) 180235) old new size) k′ g in
         rw v′ (record { printed = subst (λ (t : List ℕ). Printed t old new size) b g′; next = e; held = k′ })
 

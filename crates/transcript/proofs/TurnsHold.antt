@@ -5,29 +5,33 @@ use mathlib.Core.List.{List, [], _∷_, _++_, flatten, append-nil}
 use Prim.Native.Nat.{ℕ, _+_, _≤_}
 use native.Mathlib.Omega.{arith}
 use lib.Dec.{ltb}
-use lib.ListN.{length, take, drop, drop-of-length-le}
+use lib.ListN.{length, take, drop, length-replicate, drop-of-length-le}
 use Rattle.text.specs.Lines.{lines}
 use Rattle.program.specs.Program.{Program}
 use Rattle.program.specs.WellFormed.{WellFormed}
-use Rattle.program.specs.Reading.{accepted, readFile}
-use Rattle.program.specs.Checks.{firstMet, checked}
+use Rattle.program.specs.Reading.{Outcome, accepted, readFile}
+use Rattle.program.specs.Checks.{firstMet, checkedBy, checked}
 use Rattle.program.specs.declared.Verdict.{Verdict}
 use Rattle.program.specs.declared.Verdict.the-variants as verdict
 use Rattle.program.proofs.Theorems.{accepted-well-formed}
-use Rattle.reach.specs.Configurations.{none-set}
+use Rattle.program.specs.Chosen.{sizesOf, numbers}
+use Rattle.reach.proofs.ProgramInSizes.{usable}
+use Rattle.program.specs.declared.Length.the-variants.{Of}
+use Rattle.exchange.specs.Changes.{EditLine}
+use borrow.Author.Tests.{eq-eqb}
 use Rattle.reach.specs.Marks.{freshMarks}
-use Rattle.reach.proofs.ShapeKept.{marks-length, none-length}
+use Rattle.reach.proofs.ShapeKept.{marks-length}
 use Rattle.analysis.proofs.AnswersByChecks.{same-self}
 use Rattle.edit.specs.Editing.{editedProgram, wantedEdit}
 use Rattle.edit.specs.declared.EditRead.{EditRead}
 use Rattle.edit.specs.declared.EditRead.the-variants as read
 use Rattle.edit.proofs.Theorems.{wanted-applies, applied-well-formed, edited-read}
 use Rattle.exchange.specs.Wanted.{ofEdit}
-use Rattle.repair.specs.Repairs.{wantedBy, repaired}
+use Rattle.repair.specs.Repairs.{After, wantedBy, repairedBy, repaired}
 use Rattle.repair.specs.Desk.{Desk, started}
 use Rattle.report.specs.Report.{firstSize, editText, programAfter, editsText, blockOf, tooLong, fileSize, fileText, inputText, benchText}
 use Rattle.report.proofs.LineEnds.{next-line}
-use Rattle.transcript.specs.Transcript.{heldOf, Shown, TurnGives, lineAt, noOutput, editOn, turnedBy, turned, Turns, over, turn, fileOf, alone, begunBy, begun}
+use Rattle.transcript.specs.Transcript.{heldOf, Shown, TurnGives, lineAt, noOutput, noWork, editOn, turnedBy, turned, Turns, over, turn, fileOf, alone, begunBy, begun}
 use Rattle.transcript.specs.declared.Turn.{Turn}
 use Rattle.transcript.proofs.ListParts.{printed-front}
 use Rattle.transcript.proofs.AnswersPrinted.{take-written}
@@ -45,14 +49,25 @@ record Turned (w : EditRead) (p : Program) (next : ℕ) (s : Shown) : Type 0 whe
   held : Holds (programAfter w p) (s .held)
 
 module _ (p : Program) (d : Desk) (k : Holds p d) where
+  abbrev size : ℕ
+  size = numbers (sizesOf p)
+
+  abbrev clear : List ℕ
+  clear = noWork size
+
   -- on a program's own file and marks nothing is left to refuse but the line
-  edit-on : (line : List ℕ) → editOn line d ≡ wantedBy (ofEdit (wantedEdit p line)) p (freshMarks p) noOutput none-set
-  unfolding repaired checked firstMet noOutput
-  edit-on line = rw (k .file, k .marks, marks-length p, none-length)
+  edit-on : (line : List ℕ) → editOn line d ≡ wantedBy (ofEdit (wantedEdit p line)) p (freshMarks p) noOutput clear []
+  unfolding repaired checked firstMet noOutput noWork
+  edit-on line = (λ i. by (k .file i) (k .marks i)) ∙ rw (marks-length (sizesOf p) (usable p (k .well-formed)) p, length-replicate {A = ℕ} size 0, eq-eqb size size refl)
+    where
+      by : Outcome → List ℕ → After
+      by o m =
+          repairedBy EditLine (checkedBy (o .verdict) (numbers (sizesOf (o .program))) (Of (length m)) (Of (length noOutput)) (Of (length (noWork (length m)))))
+          (o .program) m line noOutput (noWork (length m)) []
 
   -- the turn of a line is what the definition prints for it
   wanted-turn : (line : List ℕ) (next : ℕ) (w : EditRead) → wantedEdit p line ≡ w
-      → Turned w p next (turnedBy (wantedBy (ofEdit w) p (freshMarks p) noOutput none-set) (d .file) next)
+      → Turned w p next (turnedBy (wantedBy (ofEdit w) p (freshMarks p) noOutput clear []) (d .file) next)
   unfolding firstMet
   wanted-turn line next (read.Refused n) h =
       record { text = refl; at = refl; held = record { well-formed = k .well-formed; file = k .file; marks = refl } }

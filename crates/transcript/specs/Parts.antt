@@ -19,3 +19,7 @@ pub record Within (n : ℕ) (l : List ℕ) (r : ℕ) : Type 0 where
   pub counted : r ≡ length (take r l)
   pub front : take r l ≡ take n l
   pub rest : drop r l ≡ drop n l
+
+-- no analysis takes so many iterations
+abbrev pub mostIterations : ℕ
+mostIterations = 67125248

@@ -14,9 +14,8 @@ use Rattle.program.specs.declared.Verdict.the-variants as verdict
 use Rattle.program.specs.Sizes.{outputSize}
 use Rattle.writer.specs.declared.WriteAnswer.{WriteAnswer}
 use Rattle.writer.specs.declared.WriteAnswer.the-variants.{Written, Refused}
-use Rattle.reach.specs.Configurations.{none-set}
 use Rattle.reach.specs.Marks.{freshMarks}
-use Rattle.exchange.specs.declared.Form.the-variants.{EditLine}
+use Rattle.exchange.specs.Changes.{EditLine}
 use Rattle.repair.specs.Repairs.{After, repaired}
 use Rattle.repair.specs.Desk.{Desk, started, after}
 use Rattle.report.specs.Report.{fileSize, firstSize, blockOf, tooLong, refusedFile, refusedEdit, Printed, inputSize}
@@ -25,13 +24,13 @@ use Rattle.transcript.specs.declared.Turn.{Turn}
 
 -- ---- what a turn's function gives
 
--- the file and the marks that are held; the array's bytes past the file are free, and no turn depends on them
+-- the file and the marks that are held; the arrays' bytes past them are free, and no turn depends on them
 abbrev pub heldOf : Held → Desk
-heldOf h = record { file = take (h .used) (h .file); marks = h .marks }
+heldOf h = record { file = take (h .used) (h .file); marks = take (h .size) (h .marks) }
 
 -- nothing: no byte of a file, and no mark
 abbrev pub nothing : Desk
-nothing = record { file = []; marks = none-set }
+nothing = record { file = []; marks = [] }
 
 -- a turn: what is printed, where the next edit line starts, and what is held for it
 pub record Shown : Type 0 where
@@ -80,9 +79,13 @@ lineAt input at = take (firstSize (lines (drop at input))) (drop at input)
 unfoldable pub noOutput : List ℕ
 noOutput = replicate outputSize 0
 
--- an edit line on what is held, by either repair: both promise the same of it
+-- a working buffer that nothing was written to, as long as the marks
+unfoldable pub noWork : ℕ → List ℕ
+noWork n = replicate n 0
+
+-- an edit line on what is held, by either repair: both promise the same of it; an edit line has no second buffer
 abbrev pub editOn : List ℕ → Desk → After
-editOn line d = repaired EditLine (d .file) (d .marks) line noOutput none-set
+editOn line d = repaired EditLine (d .file) (d .marks) line noOutput (noWork (length (d .marks))) []
 
 -- the block comes after an accepted edit, of the new file's program and its marks; a refused edit prints its number
 abbrev pub textBy : WriteAnswer → Desk → List ℕ

@@ -1,29 +1,41 @@
 // What bench prints for an input, a turn after the other: one for the file, and then one for each edit line. Each turn
 // puts its text at the start of an output of 180,235 bytes, which every text fits.
 use analysis::AnalyzeAnswer;
-use exchange::Form;
-use program::sizes::MARKS_SIZE;
+use checks::checked_program;
+use program::Length;
+use program::Verdict;
+use program::chosen::sizes_of;
+use program::sizes::MARKS_MOST;
 use program::sizes::OUTPUT_SIZE;
-use reach::spans::ENOUGH_ITERATIONS;
+use program::sizes::length_of;
 use repair::repair_with;
 use report::BLOCK_SIZE;
 use report::INPUT_SIZE;
 use writer::WriteAnswer;
 ghost use mathlib.Core.Path.{_≡_};
 ghost use Prim.Native.Nat.{_≤_};
-ghost use lib.ListN.{length};
+ghost use lib.ListN.{length, take};
+ghost use Rattle.program.specs.Sizes.{marksMost};
+ghost use Rattle.program.specs.Chosen.{sizesOf, numbers};
+ghost use Rattle.program.specs.declared.Verdict.the-variants.{Accepted};
 ghost use Rattle.program.specs.Reading.{readFile};
+ghost use Rattle.analysis.specs.Answers.{analyzeAnswer, marksAfter};
 ghost use Rattle.repair.specs.Desk.{fileBy, after};
 ghost use Rattle.report.specs.Report.{blockText, Printed, blockSize, inputSize};
 ghost use Rattle.transcript.specs.Transcript.{heldOf, nothing, TurnGives, fileOf, begunBy, begun, lineAt, editOn};
 ghost use Rattle.transcript.specs.Transcript.{turned};
-ghost use Rattle.transcript.specs.Parts.{Within, editedText};
+ghost use Rattle.transcript.specs.Parts.{Within, editedText, mostIterations};
 
-// What is held between two turns: the first `used` bytes of the file, and its marks. The bytes past `used` are free.
+// No analysis takes so many: 16,384 configurations, each once and once more for each of 4,096 summaries.
+const MOST_ITERATIONS: usize = 67125248;
+
+// What is held between two turns: the first `used` bytes of the file, and the first `size` of the marks. The bytes past
+// them are free.
 pub struct Held {
     pub file: [u8; INPUT_SIZE],
     pub used: usize,
-    pub marks: [u8; MARKS_SIZE],
+    pub marks: [u8; MARKS_MOST],
+    pub size: usize,
 }
 
 // After a turn: how many bytes of the output are printed, where the next edit line starts, and what is held for it.
@@ -50,9 +62,9 @@ fn within(n: usize, bytes: &[u8]) -> usize
 }
 
 // A copy of a file, with its marks. No file that is held is longer than an input may be: hence the `requires`.
-fn hold(file: &[u8], marks: [u8; MARKS_SIZE]) -> Held
+fn hold(file: &[u8], marks: [u8; MARKS_MOST], size: usize) -> Held
     requires { ⌜ length (now file) ≤ inputSize ⌝ }
-    ensures { λ r. ⌜ heldOf r ≡ record { file = now (file .entry); marks = marks } ⌝ }
+    ensures { λ r. ⌜ heldOf r ≡ record { file = now (file .entry); marks = take size marks } ⌝ }
 {
     let mut copy = [0u8; INPUT_SIZE];
     let used = bytes::copy(file, &mut copy);
@@ -60,6 +72,7 @@ fn hold(file: &[u8], marks: [u8; MARKS_SIZE]) -> Held
         file: copy,
         used,
         marks,
+        size,
     }
 }
 
@@ -68,11 +81,12 @@ fn nothing_more(size: usize, end: usize) -> Turn
     ensures { λ r. ⌜ (r .size ≡ size) × ((r .next ≡ end) × (heldOf (r .held) ≡ nothing)) ⌝ }
 {
     let file = [0u8; INPUT_SIZE];
-    let marks = [0u8; MARKS_SIZE];
+    let marks = [0u8; MARKS_MOST];
     let held = Held {
         file,
         used: 0,
         marks,
+        size: 0,
     };
     Turn {
         size,
@@ -89,7 +103,33 @@ fn put_held(held: Held, out: &mut [u8; BLOCK_SIZE]) -> usize
     let file = held.file;
     let marks = held.marks;
     let used = within(held.used, &file);
-    report::block(&file[..used], &marks, out)
+    let size = within(held.size, &marks);
+    report::block(&file[..used], &marks[..size], out)
+}
+
+// How many marks a file's program has; of a file that is refused none is asked. No admitted program has more than there
+// is room for.
+fn marks_length(file: &[u8]) -> usize
+    ensures { λ r. ⌜ (r ≤ marksMost) × (readFile (now (file .entry)) .verdict ≡ Accepted
+        → r ≡ numbers (sizesOf (readFile (now (file .entry)) .program))) ⌝ }
+{
+    let r = checked_program(file, Length::NotAsked, Length::NotAsked, Length::NotAsked);
+    let v = r.verdict;
+    match v {
+        Verdict::Refused(_n, _line) => 0,
+        Verdict::Accepted => {
+            let p = r.program;
+            length_of(sizes_of(p))
+        }
+    }
+}
+
+// The analysis without a limit that could be met.
+fn analyze_whole(file: &[u8], marks: &mut [u8], work: &mut [u8]) -> AnalyzeAnswer
+    ensures { λ r. ⌜ (r ≡ analyzeAnswer (now (file .entry)) (now (marks .entry)) (now (work .entry)) mostIterations)
+        × (now (marks .exit) ≡ marksAfter (now (file .entry)) (now (marks .entry)) (now (work .entry)) mostIterations) ⌝ }
+{
+    analysis::analyze(file, marks, work, MOST_ITERATIONS)
 }
 
 // The file: its refusal, or its block and the file to be held. An input that is longer is refused before: hence the
@@ -101,16 +141,17 @@ fn begin_file(input: &[u8], out: &mut [u8; BLOCK_SIZE]) -> Turn
         (now (out .entry)) (now (out .exit)) r ⌝ }
 {
     let end = report::file_size(input);
-    let mut marks = [0u8; MARKS_SIZE];
-    let mut work = [0u8; MARKS_SIZE];
-    let answer = analysis::analyze(&input[..end], &mut marks, &mut work, ENOUGH_ITERATIONS);
+    let length = marks_length(&input[..end]);
+    let mut marks = [0u8; MARKS_MOST];
+    let mut work = [0u8; MARKS_MOST];
+    let answer = analyze_whole(&input[..end], &mut marks[..length], &mut work[..length]);
     match answer {
         AnalyzeAnswer::Refused(n, line) => {
             let size = report::file_refusal(n, line, out);
             nothing_more(size, input.len())
         }
         AnalyzeAnswer::Counts(_configurations, _violations, _iterations) => {
-            let held = hold(&input[..end], marks);
+            let held = hold(&input[..end], marks, length);
             let size = put_held(held, out);
             Turn {
                 size,
@@ -143,14 +184,14 @@ fn line_at(input: &[u8], at: usize) -> &[u8]
 
 // The next file is a copy of what an accepted repair wrote; after a refused one it stays.
 fn hold_next(answer: WriteAnswer, output: [u8; OUTPUT_SIZE], held: Held) -> Held
-    ensures { λ r. ⌜ heldOf r ≡ record { file = fileBy answer output (heldOf held .file); marks = held .marks } ⌝ }
+    ensures { λ r. ⌜ heldOf r ≡ record { file = fileBy answer output (heldOf held .file); marks = heldOf held .marks } ⌝ }
 {
     match answer {
         WriteAnswer::Refused(_n, _line) => held,
         WriteAnswer::Written(n) => {
             let written = within(n, &output);
             let marks = held.marks;
-            hold(&output[..written], marks)
+            hold(&output[..written], marks, held.size)
         }
     }
 }
@@ -161,20 +202,29 @@ fn edit_held(inside_out: bool, line: &[u8], held: Held) -> Edited
         × (heldOf (r .held) ≡ after (editOn (now (line .entry)) (heldOf held)) (heldOf held .file)) ⌝ }
 {
     let mut output = [0u8; OUTPUT_SIZE];
-    let mut work = [0u8; MARKS_SIZE];
+    let mut work = [0u8; MARKS_MOST];
     let file = held.file;
     let mut marks = held.marks;
     let used = within(held.used, &file);
+    let size = within(held.size, &marks);
     let answer = repair_with(
-        Form::EditLine,
         inside_out,
         &file[..used],
-        &mut marks,
+        &mut marks[..size],
         line,
         &mut output,
-        &mut work,
+        &mut work[..size],
     );
-    let next = hold_next(answer, output, Held { file, used, marks });
+    let next = hold_next(
+        answer,
+        output,
+        Held {
+            file,
+            used,
+            marks,
+            size,
+        },
+    );
     Edited { answer, held: next }
 }
 

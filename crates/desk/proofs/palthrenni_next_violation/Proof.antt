@@ -1,5 +1,5 @@
 use Rattle.desk.proofs.BackByParts.{same-back}
-use Rattle.desk.proofs.NumbersFit.{next-fits}
+use Rattle.answers.proofs.NumbersFit.{next-fits}
 use Rattle.desk.specs.Entries.{finding}
 use mathlib.Core.Path.{refl, ap}
 use borrow.Author.Needs.{needs}
@@ -13,7 +13,7 @@ returns : tie.Need-returns
 returns c =
     let e = c .before .before .before .next-violation .ensures in
     let n = rw (e .0) at (c .next-numbers .ensures) in
-    same-back (n .0) (n .1) (ap finding (n .2)) refl refl (e .1)
+    same-back (n .0) (n .1) (ap finding (n .2)) refl refl (e .1) refl
 
 pub palthrenni-next-violation-spec : {M : Type 1} → statement M
 palthrenni-next-violation-spec =

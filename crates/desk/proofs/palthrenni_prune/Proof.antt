@@ -1,5 +1,5 @@
 use Rattle.desk.proofs.BackByParts.{same-back}
-use Rattle.desk.proofs.NumbersFit.{checked-fits}
+use Rattle.answers.proofs.NumbersFit.{checked-fits}
 use mathlib.Core.Path.{refl}
 use borrow.Author.Needs.{needs}
 use Rattle.desk.proofs.palthrenni_prune.Statement.{statement}
@@ -12,7 +12,7 @@ returns : tie.Need-returns
 returns c =
     let e = c .before .before .before .before .before .prune .ensures in
     let n = rw (e .0) at (c .verdict-numbers .ensures) in
-    (same-back (n .0) (n .1) refl refl refl (e .2), e .1)
+    (same-back (n .0) (n .1) refl refl refl (e .2) refl, e .1)
 
 pub palthrenni-prune-spec : {M : Type 1} → statement M
 palthrenni-prune-spec =

@@ -1,5 +1,5 @@
 use Rattle.desk.proofs.BackByParts.{same-back, same-size}
-use Rattle.desk.proofs.NumbersFit.{write-fits}
+use Rattle.answers.proofs.NumbersFit.{write-fits}
 use mathlib.Core.Path.{refl}
 use borrow.Author.Needs.{needs}
 use Rattle.desk.proofs.palthrenni_write.Statement.{statement}
@@ -12,7 +12,7 @@ returns : tie.Need-returns
 returns c =
     let e = c .before .before .before .write .ensures in
     let n = rw (e .0) at (c .write-numbers .ensures) in
-    same-back (n .0) (n .1) (same-size 0 (n .2)) refl (e .1) refl
+    same-back (n .0) (n .1) (same-size 0 (n .2)) refl (e .1) refl refl
 
 pub palthrenni-write-spec : {M : Type 1} → statement M
 palthrenni-write-spec = tie.close (tie.spec (λ c κs. search needs) write-numbers-requires (λ c. search needs) returns)

@@ -1,6 +1,8 @@
 use Rattle.writer.specs.Answers.{refusal}
 use Rattle.repair.specs.Repairs.{plain, reanalyzed}
+use Rattle.exchange.specs.Changes.{EditLine}
 use lib.Dec.{eqb}
+use mathlib.Core.List.{[]}
 use mathlib.Core.Path.{_∙_}
 use Rattle.repair.proofs.RepairsAnswer.{checked-answer}
 use Rattle.repair.proofs.InsideOutNumbers.{number-unchecked, number-checked}
@@ -24,7 +26,7 @@ returns c =
     let z = start b .args in
     let k = b .checked-program .ensures in
     let h = c .before .v .given .1 in
-    (checked-answer (z .form) (z .file .now) (z .marks .now) (z .text .now) (z .output .now) (z .work .now) k h, λ i. number-unchecked (z .form) (z .file .now) (z .text .now) k h)
+    (checked-answer EditLine (z .file .now) (z .marks .now) (z .text .now) (z .output .now) (z .work .now) [] k h, λ i. number-unchecked EditLine (z .file .now) (z .text .now) k h)
 
 returns-2 : tie.Need-returns-2
 returns-2 c =
@@ -35,8 +37,8 @@ returns-2 c =
     let k = b .checked-program .ensures in
     let r = d .repair-wanted .ensures in
     let y = d .repair-wanted .result in (
-      r .0 ∙ checked-answer (z .form) (z .file .now) (z .marks .now) (z .text .now) (z .output .now) (z .work .now) k (t .enum-told .given .1),
-      λ i. number-checked (z .form) (z .file .now) (z .text .now) k (eqb (refusal (plain y)) 0) (reanalyzed y) (r .1 i),
+      r .0 ∙ checked-answer EditLine (z .file .now) (z .marks .now) (z .text .now) (z .output .now) (z .work .now) [] k (t .enum-told .given .1),
+      λ i. number-checked EditLine (z .file .now) (z .text .now) k (eqb (refusal (plain y)) 0) (reanalyzed y) (r .1 i),
     )
 
 pub repair-file-spec : {M : Type 1} → statement M

@@ -1,9 +1,14 @@
 use Rattle.repair.proofs.RepairsAnswer.{own-answer, foreign-answer, room}
 use Rattle.repair.proofs.InsideOutNumbers.{number-foreign, bits-told}
 use Rattle.reach.proofs.ShapeKept.{none-length}
+use Rattle.update.proofs.ChangedMarks.{own-sized}
 use Rattle.analysis.proofs.AnswersByChecks.{accepted-own}
 use Rattle.program.specs.Decoded.{programOf}
-use Rattle.exchange.specs.Decoded.{changeOf}
+use Rattle.exchange.specs.Changes.{step}
+use Rattle.program.specs.Chosen.{sizesOf, numbers}
+use Rattle.reach.specs.Marks.{freshAt}
+use Rattle.reach.specs.Configurations.{none-set}
+use Rattle.program.specs.declared.sizes.Sizes.{Sizes}
 use lib.ListN.{length}
 use mathlib.Core.Path.{ap, sym, _∙_}
 use borrow.Author.Needs.{needs}
@@ -21,16 +26,25 @@ mended c = c .before .before .before .before .before .before .before .before .be
 
 mend-requires : tie.Need-mend-requires
 mend-requires c κs =
-    let t = c .before .before in
+    let sizes = c .before .before in
+    let t = sizes .before in
     let z = start (own t) in
+    let p = programOf (z .args .p) in
     let o = own t .check-own .ensures in
-    (z .pre .0, (accepted-own (programOf (z .args .p)) (z .args .marks .now) (sym (o .0) ∙ t .enum-told .given .1), ap length (o .1) ∙ none-length))
+    let i = sizes .sizes-of .ensures in
+    let u = own-sized p i (z .pre .0 .0) .usable in (
+      (z .pre .0 .0, z .pre .0 .1, i),
+      (
+        accepted-own p (z .args .marks .now) (sym (o .0) ∙ t .enum-told .given .1) ∙ ap (λ (y : Sizes). freshAt y p) (sym i),
+        ap length (o .1 ∙ ap none-set (sym i)) ∙ none-length _ u,
+      ),
+    )
 
 write-program-requires : tie.Need-write-program-requires
 write-program-requires c κs =
     let m = mended (c .before) in
-    let z = start (own (m .before .before .before)) in
-    let x = room (changeOf (z .args .c)) (programOf (z .args .p)) (z .args .marks .now) (z .args .output .now) (z .pre .0 .0) (z .pre .0 .1) (m .mend .ensures .0) (z .pre .1 .1) in
+    let z = start (own (m .before .before .before .before)) in
+    let x = room (z .args .e) (programOf (z .args .p)) (z .args .output .now) (z .pre .0 .0) (z .pre .0 .1) (m .mend .ensures .0) (z .pre .1 .1) in
     (x .0 .transitions-fit, x .1)
 
 returns : tie.Need-returns
@@ -40,23 +54,24 @@ returns c =
     let p = programOf (z .args .p) in
     let o = b .check-own .ensures in
     let h = sym (o .0) ∙ c .before .own .given .1 in
-    (foreign-answer (changeOf (z .args .c)) p (z .args .marks .now) (z .args .output .now) h (o .1), λ i. number-foreign p (z .args .marks .now) (changeOf (z .args .c)) h)
+    (foreign-answer (z .args .e) p (z .args .marks .now) (z .args .output .now) (z .args .work .now) (z .pre .1 .2) h (o .1), λ i. number-foreign p (z .args .marks .now) (step (z .args .e)) h)
 
 returns-2 : tie.Need-returns-2
 returns-2 c =
     let d = c .before .before .before .before in
     let m = mended d in
-    let t = m .before .before .before in
+    let sizes = m .before .before .before in
+    let t = sizes .before in
     let z = start (own t) in
     let h = sym (own t .check-own .ensures .0) ∙ t .enum-told .given .1 in
     let r = m .mend .ensures in (
-      own-answer (changeOf (z .args .c)) (programOf (z .args .p)) (z .args .marks .now) (z .args .output .now) h (r .0) (c .before .before .write-program .ensures),
-      λ i. bits-told (changeOf (z .args .c)) (programOf (z .args .p)) i (r .1) (d .bits-of .ensures),
+      own-answer (z .args .e) (programOf (z .args .p)) (z .args .marks .now) (z .args .output .now) (z .args .work .now) (z .pre .1 .2) (sizes .sizes-of .ensures) h (r .0) (c .before .before .write-program .ensures),
+      λ i. bits-told (step (z .args .e)) (programOf (z .args .p)) i (r .1) (d .bits-of .ensures),
     )
 
 pub repair-own-spec : {M : Type 1} → statement M
 repair-own-spec =
     tie.close
-    (tie.spec (λ c κs. search needs) (λ c. search needs) (λ c. search needs) mend-requires
+    (tie.spec (λ c κs. search needs) (λ c. search needs) (λ c. search needs) (λ c κs. search needs) mend-requires
     (λ c κs. search needs) write-program-requires (λ c. search needs) (λ c. search needs) returns
     (λ c. search needs) (λ c. search needs) (λ c. search needs) returns-2)

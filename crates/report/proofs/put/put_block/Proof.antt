@@ -30,15 +30,15 @@ count-line-requires c κs =
     let c = marked v .count-set .ensures in
     let f = v .count-violations .ensures p (flagged v .rejecting-flags .ensures) in
     let few = count-small (z .args .marks .now) in
-    let fewer = violations-limited p (z .args .marks .now) in
-    (omega (arith, c, f, few, fewer, z .pre .0), omega (arith, c, f, few, fewer, z .pre .0))
+    let fewer = violations-limited (z .args .z) (z .pre .0) p (z .args .marks .now) in
+    (omega (arith, c, f, few, fewer, z .pre .2, z .pre .1 .product), omega (arith, c, f, few, fewer, z .pre .2, z .pre .1 .product))
 
 put-line-requires : tie.Need-put-line-requires
 put-line-requires c κs =
     let n : c .before .count-line .result .count ≡ 5 = ap (λ (l : Line). l .count) (c .before .count-line .ensures) in
     let w = c .before .before .before .before in
     let z = start (w .before .before .before) in
-    omega (arith, w .put-violations .ensures .0, w .put-violations .kept .1 .1 .0, z .pre .1)
+    omega (arith, w .put-violations .ensures .0, w .put-violations .kept .1 .1 .1 .0, z .pre .3)
 
 returns : tie.Need-returns
 returns c =
@@ -50,7 +50,7 @@ returns c =
     let p = programOf (z .args .p) in
     let marks = z .args .marks .now in
     let rejects = flagged v .rejecting-flags .ensures in
-    block-put p marks (z .pre .0) (z .pre .1) (marked v .count-set .ensures) (v .count-violations .ensures p rejects)
+    block-put (z .args .z) (z .pre .0) (z .pre .1) p marks (z .pre .2) (z .pre .3) (marked v .count-set .ensures) (v .count-violations .ensures p rejects)
     (w .put-violations .ensures .1 p rejects)
     (put-one (k .count-line .result) (countFrame (marked v .count-set .result) (v .count-violations .result)) (k .count-line .ensures) (omega arith)
     (q .put-line .ensures))

@@ -20,17 +20,19 @@ returns c =
     let v = q .before .before in
     let n : v .violation-line .result .count ≡ 5 = ap (λ (l : Line). l .count) (v .violation-line .ensures) in
     let state = v .before .before .before in
-    let a = state .before .before .before .before .before .args in (
+    let z = state .before .before .before .before .before in
+    let a = z .args in (
       omega (arith, q .put-line .ensures .0),
-      λ p r. put-violation p (a .marks .now) (a .rejecting .now) (a .i) r (rw (state .state-of .ensures .0) at (v .before .if1 .taken))
-          (put-one (v .violation-line .result) (violationFrame (a .i)) (v .violation-line .ensures) (omega arith) (q .put-line .ensures)),
+      λ p r. put-violation (z .pre .0) (z .pre .1) p (a .marks .now) (a .rejecting .now) (a .i) r (rw (state .state-of .ensures .0) at (v .before .if1 .taken))
+          (put-one (v .violation-line .result) (violationFrame (a .z) (a .i)) (v .violation-line .ensures) (omega arith) (q .put-line .ensures)),
     )
 
 returns-2 : tie.Need-returns-2
 returns-2 c =
     let state = c .before .before in
-    let a = state .before .before .before .before .before .args in
-    (omega arith, λ p r. put-nothing p (a .marks .now) (a .rejecting .now) (a .i) r (rw (state .state-of .ensures .0) at (c .if1 .left)))
+    let z = state .before .before .before .before .before in
+    let a = z .args in
+    (omega arith, λ p r. put-nothing (z .pre .0) (z .pre .1) p (a .marks .now) (a .rejecting .now) (a .i) r (rw (state .state-of .ensures .0) at (c .if1 .left)))
 
 pub put-violation-spec : {M : Type 1} → statement M
 put-violation-spec =

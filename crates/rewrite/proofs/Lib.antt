@@ -1,0 +1,2 @@
+pub mod ExchangesAnswer
+pub mod RoomAnswers
