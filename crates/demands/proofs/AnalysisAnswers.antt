@@ -8,6 +8,8 @@ use Prim.Native.Nat.{ℕ}
 use native.Mathlib.Omega.{arith}
 use lib.ListN.{length}
 use Rattle.automaton.specs.Automaton.{isRejecting}
+use Rattle.program.specs.declared.sizes.Sizes.{Sizes}
+use Rattle.program.specs.Chosen.{sizesOf}
 use Rattle.program.specs.Program.{Program}
 use Rattle.program.specs.WellFormed.{WellFormed}
 use Rattle.program.specs.declared.Verdict.{Verdict}
@@ -16,11 +18,13 @@ use Rattle.program.specs.declared.Length.the-variants.{NotAsked, Of}
 use Rattle.program.proofs.ChecksPassed.{passes, few-checks}
 use Rattle.reach.specs.Configurations.{number}
 use Rattle.reach.specs.Runs.{Occurs}
+use Rattle.reach.specs.Sizes.{summaries}
 use Rattle.reach.specs.Worklist.{analysis}
 use Rattle.reach.specs.Marks.{Shows, freshMarks, violations, firstFrom}
 use Rattle.base.specs.Flags.{countSet}
 use Rattle.reach.specs.Violations.{Violation, First, nowhere, at}
-use Rattle.reach.proofs.Numbers.{routine-of, node-of, root-of, state-of, number-fits}
+use Rattle.reach.proofs.Numbers.{state-of, number-fits, to-number}
+use Rattle.reach.proofs.ProgramInSizes.{usable, ranged}
 use Rattle.reach.proofs.TakingsBounded.{iterations-taken, most-times}
 use Rattle.reach.proofs.AnalysisExact.{pending-clear}
 use Rattle.reach.proofs.MarksShown.{every-byte, fresh-shows, occurs-in-range}
@@ -34,7 +38,7 @@ use Rattle.demands.specs.Demands.{Demand2, Safe, Next, least, nothing, P
 use Rattle.demands.proofs.RefusalsReturned.{both-ways}
 
 -- a call whose checks are passed has a well-formed program
-checked-well-formed : (b : Lent) → checkedMarks (b .file) (b .marks) (b .work) ≡ Accepted → WellFormed (programIn b)
+pub checked-well-formed : (b : Lent) → checkedMarks (b .file) (b .marks) (b .work) ≡ Accepted → WellFormed (programIn b)
 checked-well-formed b e = passes (b .file) (Of (length (b .marks))) NotAsked (Of (length (b .work))) e .well-formed
 
 -- and a refusal has a number
@@ -70,37 +74,39 @@ analyzed b a g z =
 
 -- ---- demand 2
 
-pub analyzed-exact : (b : Lent) (a : Back) → Gives analyze b a → a .refusal ≡ 0 → Demand2 (programIn b) a
+pub analyzed-exact : (b : Lent) (a : Back) → Gives analyze b a → a .refusal ≡ 0 → Demand2 (sizesOf (programIn b)) (programIn b) a
 analyzed-exact b a g z =
     let x = analyzed b a g z in
     let p = programIn b in
-    let s = subst (Shows (Occurs p)) (sym (x .marks)) (fresh-shows p (x .well-formed)) in
+    let Z = sizesOf p in
+    let U = usable p (x .well-formed) in
+    let shows = fresh-shows Z U p (ranged p (x .well-formed)) in
+    let s = subst (Shows Z (Occurs p)) (sym (x .marks)) shows in
     record {
       bytes = s .len;
       marked = s .shown;
-      numbered = occurs-in-range p (x .well-formed);
-      others = every-byte s;
+      numbered = occurs-in-range Z U p (ranged p (x .well-formed));
+      others = every-byte Z U s;
       configurations = ap (λ (v : Values). v .configurations) (x .values) ∙ ap countSet (sym (x .marks));
       violation-count = ap (λ (v : Values). v .violations) (x .values);
-      violating = listed-iff (fresh-shows p (x .well-formed));
-      ascending = violations-ascend p (freshMarks p) 0;
+      violating = listed-iff Z U shows;
+      ascending = violations-ascend Z U p (freshMarks p) 0;
     }
 
 -- ---- no violation, and no run into a rejecting state
 
 module _ (p : Program) (w : WellFormed p) where
-  listed : (i : ℕ) → List·Memᴰ i (violations p) ↔ Violation p i
-  listed = listed-iff (fresh-shows p w)
+  abbrev Z : Sizes
+  Z = sizesOf p
+
+  listed : (i : ℕ) → List·Memᴰ i (violations p) ↔ Violation Z p i
+  listed = listed-iff Z (usable p w) (fresh-shows Z (usable p w) p (ranged p w))
 
   -- a run into a rejecting state is a violation
-  violates : {f n r q : ℕ} → Occurs p f n r q → isRejecting (p .automaton) q ≡ true → Violation p (number f n r q)
+  violates : {f n r q : ℕ} → Occurs p f n r q → isRejecting (p .automaton) q ≡ true → Violation Z p (number Z f n r q)
   violates {f} {n} {r} {q} o h =
-      let i = occurs-in-range p w o in
-      record {
-        inside = number-fits i;
-        occurs = rw (routine-of i, node-of i, root-of i, state-of i) o;
-        rejects = rw (state-of i) h;
-      }
+      let i = occurs-in-range Z (usable p w) p (ranged p w) o in
+      record { inside = number-fits i; occurs = to-number (Occurs p) i o; rejects = rw (state-of i) h }
 
   none-safe : length (violations p) ≡ 0 → Safe p
   none-safe e f n r q below run = go (isRejecting (p .automaton) q) refl
@@ -110,13 +116,13 @@ module _ (p : Program) (w : WellFormed p) where
       empty (v ∷ vs) h m = absurd (omega arith)
 
       go : (t : Bool) → isRejecting (p .automaton) q ≡ t → isRejecting (p .automaton) q ≡ false
-      go true h = absurd (empty (violations p) e (listed (number f n r q) .1 (violates (record { below = below; run = run }) h)))
+      go true h = absurd (empty (violations p) e (listed (number Z f n r q) .1 (violates (record { below = below; run = run }) h)))
       go false h = h
 
   safe-none : Safe p → length (violations p) ≡ 0
   safe-none s = go (violations p) (λ i m. listed i .0 m)
     where
-      go : (vs : List ℕ) → ((i : ℕ) → List·Memᴰ i vs → Violation p i) → length vs ≡ 0
+      go : (vs : List ℕ) → ((i : ℕ) → List·Memᴰ i vs → Violation Z p i) → length vs ≡ 0
       go [] k = refl
       go (v ∷ vs) k =
           let x = k v (List·Memᴰ·head refl) in
@@ -132,38 +138,45 @@ count-safe b a g z =
 -- ---- the procedure
 
 pub procedure-ends : (b : Lent) (a : Back) → Gives analyze b a → a .refusal ≡ 0 → Procedure (programIn b) a
+unfolding summaries
 procedure-ends b a g z =
     let x = analyzed b a g z in
+    let p = programIn b in
+    let Z = sizesOf p in
+    let U = usable p (x .well-formed) in
     record {
-      ends = pending-clear (programIn b) (x .well-formed);
-      iterations = ap (λ (v : Values). v .iterations) (x .values) ∙ iterations-taken (programIn b);
-      at-most = most-times (programIn b) (x .well-formed);
+      ends = pending-clear Z U p (ranged p (x .well-formed));
+      iterations = ap (λ (v : Values). v .iterations) (x .values) ∙ iterations-taken Z U p;
+      at-most = most-times Z U p (ranged p (x .well-formed));
     }
 
 -- ---- the next violation
 
-pub next-given : (b : Lent) (a : Back) → Gives next-entry b a → a .refusal ≡ 0 → Next (programIn b) (b .from) (a .values .found)
+pub next-given : (b : Lent) (a : Back) → Gives next-entry b a → a .refusal ≡ 0 → Next (sizesOf (programIn b)) (programIn b) (b .from) (a .values .found)
 unfolding nextAnswer
 next-given b a g z =
-    subst (Next (programIn b) (b .from)) (sym (ap (λ (x : Back). x .values .found) g))
+    subst (Next (sizesOf (programIn b)) (programIn b) (b .from)) (sym (ap (λ (x : Back). x .values .found) g))
     (go (checkedMarks (b .file) (b .marks) (b .work)) refl (sym (ap (λ (x : Back). x .refusal) g) ∙ z))
   where
     p : Program
     p = programIn b
 
-    found : (o : Option ℕ) → First (Violation p) (b .from) o → Next p (b .from) (nextFound (foundOf o))
+    Z : Sizes
+    Z = sizesOf p
+
+    found : (o : Option ℕ) → First (Violation Z p) (b .from) o → Next Z p (b .from) (nextFound (foundOf o))
     found none (nowhere h) = nothing h
     found (some i) (at x h y) = least x h y
 
     by : Verdict → NextAnswer
     by v = foundBy v (firstFrom (b .from) (violations p))
 
-    own : WellFormed p → nextRefusal (by (owned p (b .marks))) ≡ 0 → Next p (b .from) (nextFound (by (owned p (b .marks))))
+    own : WellFormed p → nextRefusal (by (owned p (b .marks))) ≡ 0 → Next Z p (b .from) (nextFound (by (owned p (b .marks))))
     own w =
-        by-marks p (b .marks) (λ v. nextRefusal (by v) ≡ 0 → Next p (b .from) (nextFound (by v)))
-        (λ t y. found (firstFrom (b .from) (violations p)) (next-violation (fresh-shows p w) (b .from))) (λ t y. absurd (omega arith))
+        by-marks p (b .marks) (λ v. nextRefusal (by v) ≡ 0 → Next Z p (b .from) (nextFound (by v)))
+        (λ t y. found (firstFrom (b .from) (violations p)) (next-violation Z (usable p w) (fresh-shows Z (usable p w) p (ranged p w)) (b .from))) (λ t y. absurd (omega arith))
 
     go : (v : Verdict) → checkedMarks (b .file) (b .marks) (b .work) ≡ v → nextRefusal (nextBy v p (b .marks) (b .from)) ≡ 0
-        → Next p (b .from) (nextFound (nextBy v p (b .marks) (b .from)))
+        → Next Z p (b .from) (nextFound (nextBy v p (b .marks) (b .from)))
     go Accepted e y = own (checked-well-formed b e) y
     go (Refused n line) e y = not-none b e y

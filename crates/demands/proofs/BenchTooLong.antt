@@ -10,6 +10,7 @@ use lib.ListN.{length, getD, take, drop}
 use borrow.Author.Tests.{ltb-true, lt-ltb}
 use Rattle.text.specs.Hex.{hex}
 use Rattle.text.specs.Lines.{lines}
+use Rattle.program.specs.Chosen.{sizesOf}
 use Rattle.program.specs.Program.{Program}
 use Rattle.program.specs.Reading.{readFile}
 use Rattle.program.specs.Writing.{text}
@@ -17,14 +18,14 @@ use Rattle.program.specs.declared.Verdict.{Verdict}
 use Rattle.program.specs.declared.Verdict.the-variants.{Accepted, Refused}
 use Rattle.reach.specs.Marks.{freshMarks, violationsFrom}
 use Rattle.base.specs.Flags.{countSet}
-use Rattle.report.specs.Report.{violationFrame, countFrame, blockOf, tooLong, editsText, fileText, fileSize, inputText, benchText}
+use Rattle.report.specs.Report.{violationFrame, countFrame, blockAt, blockOf, tooLong, editsText, fileText, fileSize, inputText, benchText}
 
 -- the digit 5 begins every block
 block-first : (p : Program) (marks more : List ℕ) → getD (blockOf p marks ++ more) 0 0 ≡ 0x35
-unfolding blockOf text hex
-block-first p marks more = go (violationsFrom p marks 0) (countSet marks) (length (violationsFrom p marks 0))
+unfolding blockAt text hex
+block-first p marks more = go (violationsFrom (sizesOf p) p marks 0) (countSet marks) (length (violationsFrom (sizesOf p) p marks 0))
   where
-    go : (vs : List ℕ) (c v : ℕ) → getD (text (map violationFrame vs ++ countFrame c v ∷ []) ++ more) 0 0 ≡ 0x35
+    go : (vs : List ℕ) (c v : ℕ) → getD (text (map (violationFrame (sizesOf p)) vs ++ countFrame c v ∷ []) ++ more) 0 0 ≡ 0x35
     go [] c v = refl
     go (i ∷ is) c v = refl
 

@@ -15,12 +15,11 @@ use Rattle.edit.specs.Edits.{oldEdge, newEdge}
 use Rattle.edit.specs.EditLines.{editFrom, readEdit}
 use Rattle.edit.specs.Editing.{sameEdge, hasEdge, without, inserted, withEdges, editRefusal, editedEdges, editedProgram, wantedBy, wantedEdit}
 use Rattle.exchange.proofs.OtherRoutines.{own, others-remaining}
-use Rattle.exchange.specs.Changes.{Change, step, whole}
+use Rattle.exchange.specs.Changes.{Change, step, whole, Form, EditLine, ExchangeText}
 use Rattle.exchange.specs.Changing.{others, insertedAll, withNodes, exchangedProgram, changedProgram}
 use Rattle.exchange.specs.ExchangeText.{textLines, ofRoutine, any, outside, outOfRange, exchangeIn, exchangeFrom, wantedExchange}
+use Rattle.exchange.specs.Lengths.{measuredRows}
 use Rattle.exchange.specs.Wanted.{ofEdit, wantedChange}
-use Rattle.exchange.specs.declared.Form.{Form}
-use Rattle.exchange.specs.declared.Form.the-variants.{EditLine, ExchangeText}
 use Rattle.text.specs.declared.Line.{Line}
 use Rattle.demands.specs.Book.{bookEdges, bookChanged, sorted, bookProgram}
 use Rattle.edit.specs.declared.Edit.{Edit}
@@ -202,6 +201,11 @@ edit-sorted b line = rw (read-sorted b (sorted (b .edges)) line) (judged-sorted 
 pub wanted-sorted : (k : Form) (b : Program) (text : List ℕ) → wantedChange k (bookProgram b) text ≡ wantedChange k b text
 wanted-sorted EditLine b text = ap ofEdit (edit-sorted b text)
 wanted-sorted ExchangeText b text = text-sorted b text
+
+-- nor do the lengths that an exchange asks for depend on the edges
+pub measured-sorted : (c : Change) (b : Program) (second work : ℕ) → measuredRows c (bookProgram b) second work ≡ measuredRows c b second work
+measured-sorted (step e) b second work = refl
+measured-sorted (whole x) b second work = refl
 
 -- the program of the book after a change is the book's program, changed
 pub booked : (b : Program) (c : Change) → bookProgram (bookChanged c b) ≡ changedProgram c (bookProgram b)

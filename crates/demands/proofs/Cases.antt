@@ -8,10 +8,13 @@ use Rattle.text.specs.Lines.{lines, numbers}
 use Rattle.automaton.specs.Automaton.{listed, heard, moves}
 use Rattle.tables.specs.Keys.{member}
 use Rattle.program.specs.Reading.{judgeAs, judge, afterAs, after, readFrom, readFile}
+use Rattle.program.specs.Chosen.{largest, numbers as numbersIn}
 use Rattle.program.specs.Checks.{firstMet, checked}
 use Rattle.program.specs.Writing.{nodesFrames, framesOf, text, written}
 use Rattle.reach.specs.Configurations.{number, routineOf, nodeOf, rootOf, stateOf, none-set}
-use Rattle.reach.specs.Worklist.{lowest, mark, wake, markWhen, summary, onEvent, eventWhen, onReturns, rootWhen, onCall, onLabel, labelWhen, onSteps, wakeRoots, calls, wakeWhen, wakeStates, callerWhen, wakeCallers, learn, takeFrom, takeAt, work, opened, analysis}
+use Rattle.reach.specs.Worklist.{lowest, mark, wake, markWhen, summary, onEvent, eventWhen, onReturns, rootWhen, onCall, onLabel, labelWhen, onSteps, wakeRoots, calls, wakeWhen, wakeStates, callerWhen, wakeCallers, learn, takeFrom, takeAt, work, opened, analysisAt}
+use Rattle.reach.specs.Sizes.{summaries, enoughIterations}
+use Rattle.rows.specs.Rows.{pairsFrom, timesMet, tableRefusal, nextState}
 use Rattle.reach.specs.Marks.{violationsFrom}
 use Rattle.analysis.specs.Answers.{same, analyzeAnswer, marksAfter, workAfter}
 use Rattle.edit.specs.EditLines.{editFrom, readEdit}
@@ -21,21 +24,22 @@ use Rattle.exchange.specs.ExchangeText.{any, anyAstray, exchangeFrom, wantedExc
 use Rattle.exchange.specs.Wanted.{wantedChange}
 use Rattle.repair.specs.Repairs.{repaired, InsideOutNumber}
 use Rattle.program.specs.Sample.{bytes}
-use Rattle.desk.specs.Entries.{analyze, Lent, Back, analyzeBack, repairBack, programIn, repairedIn, Gives}
+use Rattle.rewrite.specs.Room.{roomWanted, roomAnswer}
+use Rattle.desk.specs.Entries.{sizes, analyze, exchange-sizes, Lent, Back, analyzeBack, repairBack, programIn, repairedIn, Gives}
 use Rattle.demands.specs.Lists.{entry}
 use Rattle.demands.specs.Lists as repair
-use Rattle.demands.specs.Cases.{Fresh, Changed, Limited, Case, Said, lentFresh, Analyzed, lentChange, Repaired, RepairedBoth, lentLimited, Tried, Holds, P1, P2, P3, P4, P5, P6, P7, P8, P9, P10, E1, E2, E3, E4, H1, H2, H3, H4, H5, H6, L1, L2, L3, L4, table}
+use Rattle.demands.specs.Cases.{Fresh, Changed, Limited, Case, Said, lentFresh, Analyzed, lentChange, Repaired, RepairedBoth, lentLimited, Tried, lentAsked, Told, Holds, P1, P2, P3, P4, P5, P6, P7, P8, P9, P10, E1, E2, E3, E4, H1, H2, H3, H4, H5, H6, L1, L2, L3, L4, S1, S2, S3, S4, S5, S6, S7, S8, table}
 use Rattle.demands.proofs.EntriesGive.{forward-gives, inside-out-gives}
 use Rattle.demands.proofs.OneAnswer.{one-number}
 use Rattle.demands.proofs.CasesReanalyzed.{p5-reanalyzed, p6-reanalyzed, e1-reanalyzed}
 
 -- what the rows compute with: to unfold one of these two is to unfold all that it names
 editing : Unit {0}
-unfolding lines numbers judgeAs judge afterAs after readFrom readFile editFrom readEdit hasEdge without inserted editedProgram wantedEdit others insertedAll exchangedProgram any anyAstray exchangeFrom wantedExchange firstMet checked repaired same analyzeAnswer marksAfter workAfter written framesOf nodesFrames text hex
+unfolding lines numbers largest numbersIn judgeAs judge afterAs after readFrom readFile editFrom readEdit hasEdge without inserted editedProgram wantedEdit others insertedAll exchangedProgram any anyAstray exchangeFrom wantedExchange firstMet checked repaired same analyzeAnswer marksAfter workAfter written framesOf nodesFrames text hex roomWanted roomAnswer
 editing = tt
 
 analyzing : Unit {0}
-unfolding listed heard moves member number routineOf nodeOf rootOf stateOf none-set lowest mark wake markWhen summary onEvent eventWhen onReturns rootWhen onCall onLabel labelWhen onSteps wakeRoots calls wakeWhen wakeStates callerWhen wakeCallers learn takeFrom takeAt work opened analysis violationsFrom
+unfolding listed heard moves member number routineOf nodeOf rootOf stateOf none-set lowest mark wake markWhen summary onEvent eventWhen onReturns rootWhen onCall onLabel labelWhen onSteps wakeRoots calls wakeWhen wakeStates callerWhen wakeCallers learn takeFrom takeAt work opened analysisAt summaries enoughIterations violationsFrom
 analyzing = tt
 
 -- ---- what the functions give back for the rows
@@ -97,7 +101,7 @@ p4 = record { accepted = refl; marks = refl; violating = (refl, refl); iteration
 
 p5 : (k : ℕ) → Repaired P5 (changedBack P5 k)
 unfolding editing analyzing
-p5 k = record { refused = refl; marks = refl; size = refl; output = refl }
+p5 k = record { refused = refl; marks = refl; second = refl; size = refl; output = refl }
 
 p5-routines : (a : Back) → Routines P5 a → a .values .reanalyzed ≡ 3
 unfolding editing
@@ -105,7 +109,7 @@ p5-routines a x = one-number x p5-reanalyzed
 
 p6 : (k : ℕ) → Repaired P6 (changedBack P6 k)
 unfolding editing analyzing
-p6 k = record { refused = refl; marks = refl; size = refl; output = refl }
+p6 k = record { refused = refl; marks = refl; second = refl; size = refl; output = refl }
 
 p6-routines : (a : Back) → Routines P6 a → a .values .reanalyzed ≡ 1
 unfolding editing
@@ -117,19 +121,19 @@ p7 = record { accepted = refl; marks = refl; violating = (refl, refl); iteration
 
 p8 : (k : ℕ) → Repaired P8 (changedBack P8 k)
 unfolding editing analyzing
-p8 k = record { refused = refl; marks = refl; size = refl; output = refl }
+p8 k = record { refused = refl; marks = refl; second = refl; size = refl; output = refl }
 
 p9 : (k : ℕ) → Repaired P9 (changedBack P9 k)
 unfolding editing analyzing
-p9 k = record { refused = refl; marks = refl; size = refl; output = refl }
+p9 k = record { refused = refl; marks = refl; second = refl; size = refl; output = refl }
 
 p10 : (k : ℕ) → Repaired P10 (changedBack P10 k)
 unfolding editing analyzing
-p10 k = record { refused = refl; marks = refl; size = refl; output = refl }
+p10 k = record { refused = refl; marks = refl; second = refl; size = refl; output = refl }
 
 e1 : (k : ℕ) → Repaired E1 (changedBack E1 k)
 unfolding editing analyzing
-e1 k = record { refused = refl; marks = refl; size = refl; output = refl }
+e1 k = record { refused = refl; marks = refl; second = refl; size = refl; output = refl }
 
 e1-routines : (a : Back) → Routines E1 a → a .values .reanalyzed ≡ 3
 unfolding editing
@@ -137,15 +141,15 @@ e1-routines a x = one-number x e1-reanalyzed
 
 e2 : (k : ℕ) → Repaired E2 (changedBack E2 k)
 unfolding editing analyzing
-e2 k = record { refused = refl; marks = refl; size = refl; output = refl }
+e2 k = record { refused = refl; marks = refl; second = refl; size = refl; output = refl }
 
 e3 : (k : ℕ) → Repaired E3 (changedBack E3 k)
 unfolding editing analyzing
-e3 k = record { refused = refl; marks = refl; size = refl; output = refl }
+e3 k = record { refused = refl; marks = refl; second = refl; size = refl; output = refl }
 
 e4 : (k : ℕ) → Repaired E4 (changedBack E4 k)
 unfolding editing analyzing
-e4 k = record { refused = refl; marks = refl; size = refl; output = refl }
+e4 k = record { refused = refl; marks = refl; second = refl; size = refl; output = refl }
 
 h1 : Analyzed H1 (freshBack H1)
 unfolding editing analyzing
@@ -165,11 +169,11 @@ h4 = record { accepted = refl; marks = refl; violating = (refl, refl); iteration
 
 h5 : (k : ℕ) → Repaired H5 (changedBack H5 k)
 unfolding editing analyzing
-h5 k = record { refused = refl; marks = refl; size = refl; output = refl }
+h5 k = record { refused = refl; marks = refl; second = refl; size = refl; output = refl }
 
 h6 : (k : ℕ) → Repaired H6 (changedBack H6 k)
 unfolding editing analyzing
-h6 k = record { refused = refl; marks = refl; size = refl; output = refl }
+h6 k = record { refused = refl; marks = refl; second = refl; size = refl; output = refl }
 
 l1 : Tried L1 (limitedBack L1)
 unfolding editing analyzing
@@ -187,6 +191,43 @@ l4 : Tried L4 (limitedBack L4)
 unfolding editing analyzing
 l4 = record { refused = refl; marks = refl; iterations = refl }
 
+s1 : (k : ℕ) → Repaired S1 (changedBack S1 k)
+unfolding editing analyzing
+s1 k = record { refused = refl; marks = refl; second = refl; size = refl; output = refl }
+
+s2 : (k : ℕ) → Repaired S2 (changedBack S2 k)
+unfolding editing analyzing
+s2 k = record { refused = refl; marks = refl; second = refl; size = refl; output = refl }
+
+s3 : (k : ℕ) → Repaired S3 (changedBack S3 k)
+unfolding editing analyzing
+s3 k = record { refused = refl; marks = refl; second = refl; size = refl; output = refl }
+
+-- the table of a file with rows
+tabling : Unit {0}
+unfolding pairsFrom timesMet tableRefusal nextState
+tabling = tt
+
+s4 : Analyzed S4 (freshBack S4)
+unfolding editing analyzing tabling
+s4 = record { accepted = refl; marks = refl; violating = (refl, refl); iterations = refl }
+
+s5 : (a : Back) → Gives sizes (lentAsked S5) a → Told S5 a
+unfolding editing
+s5 a g = subst (Told S5) (sym g) (record { refused = refl; line = refl; room = refl })
+
+s6 : (a : Back) → Gives sizes (lentAsked S6) a → Told S6 a
+unfolding editing
+s6 a g = subst (Told S6) (sym g) (record { refused = refl; line = refl; room = refl })
+
+s7 : (a : Back) → Gives exchange-sizes (lentAsked S7) a → Told S7 a
+unfolding editing
+s7 a g = subst (Told S7) (sym g) (record { refused = refl; line = refl; room = refl })
+
+s8 : (k : ℕ) → Repaired S8 (changedBack S8 k)
+unfolding editing analyzing
+s8 k = record { refused = refl; marks = refl; second = refl; size = refl; output = refl }
+
 -- ---- every row of the table holds
 
 -- the first of some rows, or a later one
@@ -203,4 +244,6 @@ every-row c =
     (at (by-analysis H1 h1) (at (by-analysis H2 h2) (at (by-analysis H3 h3) (at (by-analysis H4 h4)
     (at (by-repairs H5 h5 (λ a x. tt)) (at (by-repairs H6 h6 (λ a x. tt))
     (at (by-limit L1 l1) (at (by-limit L2 l2) (at (by-limit L3 l3) (at (by-limit L4 l4)
-    (λ m. absurd (List·Memᴰ·not-nil m)))))))))))))))))))))))))
+    (at (by-repairs S1 s1 (λ a x. tt)) (at (by-repairs S2 s2 (λ a x. tt)) (at (by-repairs S3 s3 (λ a x. tt)) (at (by-analysis S4 s4)
+    (at s5 (at s6 (at s7 (at (by-repairs S8 s8 (λ a x. tt))
+    (λ m. absurd (List·Memᴰ·not-nil m)))))))))))))))))))))))))))))))))

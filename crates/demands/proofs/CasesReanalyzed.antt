@@ -11,6 +11,7 @@ use Rattle.automaton.specs.Automaton.{listed, heard, moves}
 use Rattle.automaton.specs.declared.Event.{Event}
 use Rattle.automaton.specs.declared.Event.the-variants.{Action, Call}
 use Rattle.program.specs.Program.{Edge, Program}
+use Rattle.program.specs.Chosen.{largest, numbers as numbersIn}
 use Rattle.program.specs.Reading.{judgeAs, judge, afterAs, after, readFrom, readFile}
 use Rattle.program.specs.Sample.{bytes, F}
 use Rattle.reach.specs.Runs.{Step, HasStep}
@@ -228,7 +229,7 @@ one-bit = record { small = omega arith; bit = go }
 
 -- to unfold this is to unfold all that reading, dropping and exchanging compute with
 dropping : Unit {0}
-unfolding lines numbers judgeAs judge afterAs after readFrom readFile inserted without editedProgram others insertedAll emptied exchangedProgram
+unfolding lines numbers largest numbersIn judgeAs judge afterAs after readFrom readFile inserted without editedProgram others insertedAll emptied exchangedProgram
 dropping = tt
 
 -- P5: dropping 01 00 00 01 reanalyzes routines 0 and 1

@@ -1,6 +1,6 @@
 -- What is proved of the whole, for people: the three demands and the cases. Each proof cites.
 use mathlib.Core.Path.{_≡_}
-use mathlib.Core.Logic.{_↔_, _≢_}
+use mathlib.Core.Logic.{_↔_, _≢_, _⊎_}
 use mathlib.Core.List.{List, [], _∷_, flatten, List·Memᴰ}
 use Prim.Native.Nat.{ℕ, _≤_, _<_}
 use lib.ListN.{length, take}
@@ -8,18 +8,25 @@ use Rattle.automaton.specs.Automaton.{Automaton, moves}
 use Rattle.automaton.specs.NextStates.{setAt, Answers}
 use Rattle.automaton.specs.declared.Event.{Event}
 use Rattle.automaton.specs.declared.Event.the-variants as event
+use Rattle.program.specs.Sizes.{outputSize}
+use Rattle.program.specs.declared.sizes.Sizes.{Sizes}
+use Rattle.program.specs.Chosen.{sizesOf, Admitted}
 use Rattle.program.specs.Program.{Program}
 use Rattle.program.specs.WellFormed.{WellFormed}
 use Rattle.program.specs.Reading.{readFile, rowsIn}
 use Rattle.program.specs.declared.Verdict.the-variants.{Accepted}
+use Rattle.reach.specs.Sizes.{enoughIterations}
+use Rattle.reach.specs.Configurations.{Usable}
+use Rattle.program.proofs.ChosenSizes.{admitted}
+use Rattle.reach.proofs.ProgramInSizes.{usable}
 use Rattle.reach.specs.Takings.{takenIn}
-use Rattle.reach.specs.Marks.{Marked, Shows}
+use Rattle.reach.specs.Marks.{Marked, Shows, freshMarks}
 use Rattle.prune.specs.Pruning.{Kept}
 use Rattle.edit.specs.Editing.{wantedEdit}
 use Rattle.edit.specs.declared.Step.{Step}
 use Rattle.edit.specs.declared.Edit.the-variants.{Drop}
 use Rattle.edit.specs.declared.EditRead.the-variants.{Read}
-use Rattle.exchange.specs.declared.Form.{Form}
+use Rattle.exchange.specs.Changes.{Form, ExchangeText}
 use Rattle.repair.specs.Desk.{started}
 use Rattle.callgraph.specs.Components.{Member}
 use Rattle.components.specs.Passes.{Passed}
@@ -27,18 +34,22 @@ use Rattle.report.specs.Report.{tooLong, benchText}
 use Rattle.transcript.specs.Transcript.{TurnGives, begun, Turns}
 use Rattle.transcript.specs.declared.Turn.{Turn}
 use Rattle.transcript.proofs.TurnsHold.{turns-print}
-use Rattle.desk.specs.Entries.{Entry, read, write, analyze, next-violation, prune, repair-forward, Lent, Back, programIn, Gives}
+use Rattle.desk.specs.Entries.{Entry, read, sizes, write, analyze, next-violation, prune, repair-forward, exchange-sizes, Lent, Back, programIn, Gives}
+use Rattle.demands.specs.Refusals.{marksLength}
 use Rattle.demands.specs.Lists.{Repair, Call, entry, wrote, Gave}
 use Rattle.demands.specs.Inputs.{SameInputs}
-use Rattle.demands.specs.Demands.{Demand1, Acceptance, withWritten, WrittenFile, ChangedFile, Tabulated, Demand2, Safe, Next, Procedure, noLimit, withLimit, givenUp, Heeds, OnActions, movesBefore, OneLook, Demand3, keepingOf}
+use Rattle.demands.specs.Demands.{Demand1, Acceptance, withWritten, WrittenFile, ChangedFile, Tabulated, SizesTold, Needed, Numbering, Demand2, Safe, Next, Procedure, noLimit, withLimit, givenUp, Heeds, OnActions, movesBefore, OneLook, Demand3, keepingOf}
 use Rattle.demands.specs.Cases.{Case, Holds, table}
 use Rattle.demands.proofs.RefusalsReturned.{gives-demanded}
 use Rattle.demands.proofs.OneAnswer.{given-once}
 use Rattle.demands.proofs.FilesAccepted.{file-acceptance, comes-back, written-accepted, tabulated}
 use Rattle.demands.proofs.ChangesAccepted.{changed-files}
 use Rattle.demands.proofs.BenchTooLong.{too-long}
+use Rattle.demands.proofs.ConfigurationsNumbered.{numbered}
+use Rattle.demands.proofs.RoomTold.{sizes-right, room-exact, room-enough, room-after}
+use Rattle.demands.proofs.OldMarksKept.{old-marks-kept}
 use Rattle.demands.proofs.AnalysisAnswers.{analyzed-exact, count-safe, next-given, procedure-ends}
-use Rattle.demands.proofs.LimitAnswers.{gives-up-when, leaves, larger, enough-never, never, zero-limit}
+use Rattle.demands.proofs.LimitAnswers.{gives-up-when, leaves, larger, enough-never, most-never, never, zero-limit}
 use Rattle.demands.proofs.EventsHeeded.{call-heeded, return-heeded, as-before}
 use Rattle.demands.proofs.LookAnswers.{look-answers}
 use Rattle.demands.proofs.PruneKeeps.{pruned, drop-kept}
@@ -86,10 +97,44 @@ bench-text = turns-print
 pub demand-1-bench : (input : List ℕ) → (benchText input ≡ tooLong) ↔ (16384 < length input)
 demand-1-bench = too-long
 
+-- ---- the sizes that a program chooses: R routines, the largest count P of their nodes (paper: places) and Q states. Its marks have R P Q Q bytes, at most 16,384
+
+-- the numbers of configurations, for all sizes together that have an entry, an exit and a state
+pub numbering : (z : Sizes) → Usable z → Numbering z
+numbering = numbered
+
+-- every accepted program's are such, and its marks have at most 16,384 bytes
+pub own-sizes : (p : Program) → WellFormed p → Usable (sizesOf p) × Admitted (sizesOf p)
+own-sizes p w = (usable p w, admitted p w)
+
+-- what is told of an accepted file
+pub sizes-told : (b : Lent) (a : Back) → Gives sizes b a → a .refusal ≡ 0 → SizesTold (programIn b) (a .values .room)
+sizes-told = sizes-right
+
+-- what is told of an exchange before it is made: where the old marks and the output have their lengths, it is refused for nothing but foreign marks exactly when
+-- the second buffer and the working buffer have the lengths told
+pub lengths-told : (b : Lent) (a : Back) → Gives exchange-sizes b a → a .refusal ≡ 0 → outputSize ≤ length (b .output) → (r : Repair) (c : Back)
+    → Gives (entry ExchangeText r) b c → length (b .marks) ≡ marksLength b → ((c .refusal ≡ 0) ⊎ (c .refusal ≡ 17)) ↔ Needed b a
+lengths-told = room-exact
+
+-- and with the program's own marks it is then accepted
+pub lengths-enough : (b : Lent) (a : Back) → Gives exchange-sizes b a → a .refusal ≡ 0 → outputSize ≤ length (b .output) → (r : Repair) (c : Back)
+    → Gives (entry ExchangeText r) b c → b .marks ≡ freshMarks (programIn b) → Needed b a → c .refusal ≡ 0
+lengths-enough = room-enough
+
+-- the same is told of the file that it writes
+pub sizes-after : (b : Lent) (a : Back) → Gives exchange-sizes b a → a .refusal ≡ 0 → (r : Repair) (c : Back) → Gives (entry ExchangeText r) b c → c .refusal ≡ 0
+    → (d : Back) → Gives sizes (withWritten b c) d → (a .values .room .nodes ≡ d .values .room .nodes) × (a .values .room .marks ≡ d .values .room .marks)
+sizes-after = room-after
+
+-- an exchange, accepted or refused, never changes the old marks
+pub exchange-keeps : (r : Repair) (b : Lent) (a : Back) → Gives (entry ExchangeText r) b a → a .marks ≡ b .marks
+exchange-keeps = old-marks-kept
+
 -- ---- demand 2
 
 -- for every full analysis that is not refused
-pub demand-2 : (b : Lent) (a : Back) → Gives analyze b a → a .refusal ≡ 0 → Demand2 (programIn b) a
+pub demand-2 : (b : Lent) (a : Back) → Gives analyze b a → a .refusal ≡ 0 → Demand2 (sizesOf (programIn b)) (programIn b) a
 demand-2 = analyzed-exact
 
 -- its count of violations is 0 exactly when no run arrives in a rejecting state
@@ -97,10 +142,11 @@ pub no-violation : (b : Lent) (a : Back) → Gives analyze b a → a .refusal �
 no-violation = count-safe
 
 -- the list of violations gives the least one not below a number, or says that there is none
-pub next-one : (b : Lent) (a : Back) → Gives next-violation b a → a .refusal ≡ 0 → Next (programIn b) (b .from) (a .values .found)
+pub next-one : (b : Lent) (a : Back) → Gives next-violation b a → a .refusal ≡ 0
+    → Next (sizesOf (programIn b)) (programIn b) (b .from) (a .values .found)
 next-one = next-given
 
--- the procedure ends, and no configuration is taken more than 1,025 times
+-- the procedure ends, and no configuration is taken more than 1 + R Q Q times
 pub procedure : (b : Lent) (a : Back) → Gives analyze b a → a .refusal ≡ 0 → Procedure (programIn b) a
 procedure = procedure-ends
 
@@ -117,9 +163,13 @@ given-up = leaves
 pub larger-limit : (b : Lent) (limit : ℕ) (a c : Back) → Gives analyze b a → Gives analyze (withLimit limit b) c → b .limit ≤ limit → a .refusal ≢ 22 → c ≡ a
 larger-limit = larger
 
--- a limit of 1,025 iterations for each of the 16,384 configurations never gives up, and no larger one does
-pub enough-limit : (b : Lent) (a : Back) → Gives analyze b a → 16793600 ≤ b .limit → a .refusal ≢ 22
+-- a limit of 1 + R Q Q iterations for each of the program's R P Q Q configurations never gives up, and no larger one does
+pub enough-limit : (b : Lent) (a : Back) → Gives analyze b a → enoughIterations (sizesOf (programIn b)) ≤ b .limit → a .refusal ≢ 22
 enough-limit = enough-never
+
+-- whatever the program, this is at most 4,097 for each of 16,384
+pub enough-for-all : (b : Lent) (a : Back) → Gives analyze b a → 67125248 ≤ b .limit → a .refusal ≢ 22
+enough-for-all = most-never
 
 -- nor does the largest limit
 pub no-limit : (b : Lent) (a : Back) → Gives analyze (withLimit noLimit b) a → a .refusal ≢ 22
@@ -152,7 +202,8 @@ pub demand-3 : (file : List ℕ) → readFile file .verdict ≡ Accepted → (cs
 demand-3 = list-demanded
 
 -- the keeping, on any sheet: a 1 at each mark that has support back to a start through marked configurations, and 0 elsewhere
-pub prune-keeps : (b : Lent) (a : Back) → Gives prune b a → a .refusal ≡ 0 → Shows (Kept (programIn b) (b .marks)) (a .marks)
+pub prune-keeps : (b : Lent) (a : Back) → Gives prune b a → a .refusal ≡ 0
+    → Shows (sizesOf (programIn b)) (Kept (sizesOf (programIn b)) (programIn b) (b .marks)) (a .marks)
 prune-keeps = pruned
 
 -- what the keeping gives for the edited file and the old marks is what a forward drop leaves
@@ -161,12 +212,13 @@ pub forward-drop : (b : Lent) (a k : Back) (s : Step) → Gives repair-forward b
 forward-drop = drop-kept
 
 -- two passes over a component that are given its steps, its old roots, the rule and the summaries of the routines it calls alike leave its configurations
--- alike, whatever else the programs and the sheets hold
-pub pass-depends : {members : List ℕ} {p p′ : Program} {old old′ marks marks′ after after′ : List ℕ} → Passed p members old marks after
-    → Passed p′ members old′ marks′ after′ → SameInputs members p p′ old old′ marks marks′ → (f n r q : ℕ) → Member members f
-    → Marked after f n r q ↔ Marked after′ f n r q
+-- alike, whatever else the programs and the sheets hold, and whatever their sizes
+pub pass-depends : {Z Z′ : Sizes} {members : List ℕ} {p p′ : Program} {old old′ marks marks′ after after′ : List ℕ} → Passed Z p members old marks after
+    → Passed Z′ p′ members old′ marks′ after′ → SameInputs Z Z′ members p p′ old old′ marks marks′ → (f n r q : ℕ) → Member members f
+    → Marked Z after f n r q ↔ Marked Z′ after′ f n r q
 pass-depends = depends
 
--- ---- the cases P1 to P10, E1 to E4 for exchanges, H1 to H6 for calls and returns that the rule hears, and L1 to L4 for a limit, rows of one table
+-- ---- the cases P1 to P10, E1 to E4 for exchanges, H1 to H6 for calls and returns that the rule hears, L1 to L4 for a limit, and S1 to S8 for sizes, rows of
+-- one table
 pub cases : (c : Case) → List·Memᴰ c table → Holds c
 cases = every-row

@@ -8,13 +8,15 @@ use native.Mathlib.Omega.{arith}
 use lib.Dec.{ltb, eqb}
 use lib.ListN.{length}
 use borrow.Author.Tests.{ltb-true, ltb-false, eqb-true, eqb-false, lt-ltb, ne-eqb}
-use Rattle.rows.specs.Rows.{TableRow, Pair, timesMet, pairRefusal, tableRefusal}
+use Rattle.rows.specs.Rows.{TableRow, Pair, timesMet, pairRefusal, tableRefusal, tableTransitions}
 use Rattle.text.specs.Lines.{lines, numbers, lineFrom}
-use Rattle.program.specs.Reading.{Progress, start, refused, judgeAs, judge, after, pairsOf, tableDecides, finished, readFrom, readFile}
+use Rattle.program.specs.Reading.{Progress, start, refused, judgeAs, judge, after, pairsOf, withTransitions, accepted, sizesDecide, tableDecides, finished, readFrom, readFile}
+use Rattle.program.specs.Chosen.{sizesFit}
+use Rattle.program.specs.Program.{Program}
 use Rattle.program.specs.Checks.{firstMet}
 use Rattle.program.specs.declared.Verdict.{Verdict}
 use Rattle.program.specs.declared.Verdict.the-variants.{Accepted, Refused}
-use Rattle.demands.specs.Refusals.{lineNumber, tableRows, tableNumber, Faulty, unended, by-table, after-end, here, later}
+use Rattle.demands.specs.Refusals.{lineNumber, tableRows, tableNumber, Faulty, unended, by-table, by-sizes, after-end, here, later}
 
 -- what a verdict says: this refusal, or none
 abbrev pub Says : Progress → List (List ℕ) → Verdict → Type 0
@@ -29,9 +31,10 @@ not-none n h z = let x = ltb-true 0 n h in absurd (omega arith)
 
 -- ---- lines that refuse nothing
 
-ended-good : {s : Progress} {n line : ℕ} → s .ended ≡ true → (s .rows ≢ [] → tableNumber s ≡ 0) → ¬ (Faulty s [] n line)
-ended-good e t (unended h) = both e h
-ended-good e t (by-table h r x) = x (t r)
+ended-good : {s : Progress} {n line : ℕ} → s .ended ≡ true → (s .rows ≢ [] → tableNumber s ≡ 0) → sizesFit (s .program) ≡ true → ¬ (Faulty s [] n line)
+ended-good e t z (unended h) = both e h
+ended-good e t z (by-table h r x) = x (t r)
+ended-good e t z (by-sizes h r x) = both z x
 
 line-good : {s : Progress} {l : List ℕ} {ls : List (List ℕ)} {n line : ℕ} → s .ended ≡ false → lineNumber s l ≡ 0
     → ¬ (Faulty (after s (lineFrom (numbers l))) ls n line) → ¬ (Faulty s (l ∷ ls) n line)
@@ -51,8 +54,17 @@ unfolding firstMet tableRefusal
 table-told rs [] = refl
 table-told rs (p ∷ ps) = rw (table-told rs ps) (pair-told (timesMet p rs) (tableRefusal rs ps))
 
+-- the sizes, where the table refuses nothing; the transitions do not matter for them
+sizes-told : (s : Progress) (p : Program) → s .ended ≡ true → (s .rows ≢ [] → tableNumber s ≡ 0) → sizesFit p ≡ sizesFit (s .program)
+    → Says s [] (sizesDecide p .verdict)
+sizes-told s p e t same = go (sizesFit p) refl
+  where
+    go : (u : Bool) → sizesFit p ≡ u → Says s [] (cond u (accepted p) (refused 23 0) .verdict)
+    go true x = λ n line. ended-good e t (sym same ∙ x)
+    go false x = by-sizes e t (sym same ∙ x)
+
 at-end : (s : Progress) → s .ended ≡ true → (rs : List TableRow) → s .rows ≡ rs → Says s [] (finished rs (s .program) .verdict)
-at-end s e [] h = λ n line. ended-good e (λ x. absurd (x h))
+at-end s e [] h = sizes-told s (s .program) e (λ x. absurd (x h)) refl
 at-end s e (r ∷ rs) h = go (eqb (tableRefusal (r ∷ rs) (pairsOf (s .program))) 0) refl
   where
     told-here : tableNumber s ≡ tableRefusal (r ∷ rs) (pairsOf (s .program))
@@ -63,7 +75,8 @@ at-end s e (r ∷ rs) h = go (eqb (tableRefusal (r ∷ rs) (pairsOf (s .program)
 
     go : (t : Bool) → eqb (tableRefusal (r ∷ rs) (pairsOf (s .program))) 0 ≡ t
         → Says s [] (tableDecides t (tableRefusal (r ∷ rs) (pairsOf (s .program))) (r ∷ rs) (s .program) .verdict)
-    go true x = λ n line. ended-good e (λ y. told-here ∙ eqb-true _ 0 x)
+    go true x =
+        sizes-told s (withTransitions (s .program) (tableTransitions (r ∷ rs) (pairsOf (s .program)))) e (λ y. told-here ∙ eqb-true _ 0 x) refl
     go false x = subst (λ n. Faulty s [] n 0) told-here (by-table e some (λ z. eqb-false _ 0 x (sym told-here ∙ z)))
 
 -- ---- line after line
@@ -103,6 +116,7 @@ file-told file = told (lines file) start
 pub faulty-number : {s : Progress} {ls : List (List ℕ)} {n line : ℕ} → Faulty s ls n line → n ≢ 0
 faulty-number (unended e) z = absurd (omega arith)
 faulty-number (by-table e r x) z = x z
+faulty-number (by-sizes e t x) z = absurd (omega arith)
 faulty-number (after-end e) z = absurd (omega arith)
 faulty-number (here e x) z = x z
 faulty-number (later e x f) z = faulty-number f z
@@ -112,6 +126,11 @@ faulty-once (unended e) (unended h) = (refl, refl)
 faulty-once (unended e) (by-table h r x) = both h e
 faulty-once (by-table e r x) (unended h) = both e h
 faulty-once (by-table e r x) (by-table h t y) = (refl, refl)
+faulty-once (by-table e r x) (by-sizes h t y) = absurd (x (t r))
+faulty-once (by-sizes e t x) (by-table h r y) = absurd (y (t r))
+faulty-once (by-sizes e t x) (by-sizes h r y) = (refl, refl)
+faulty-once (by-sizes e t x) (unended h) = both e h
+faulty-once (unended e) (by-sizes h t x) = both h e
 faulty-once (after-end e) (after-end h) = (refl, refl)
 faulty-once (after-end e) (here h x) = both e h
 faulty-once (after-end e) (later h x f) = both e h

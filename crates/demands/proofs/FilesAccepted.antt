@@ -12,7 +12,7 @@ use Rattle.program.specs.Reading.{Outcome, accepted, readFile, rowsIn, refusal}
 use Rattle.program.specs.declared.Verdict.{Verdict}
 use Rattle.program.specs.declared.Verdict.the-variants.{Accepted, Refused}
 use Rattle.program.specs.declared.Length.the-variants.{NotAsked, Of}
-use Rattle.program.proofs.Theorems.{accepted-well-formed, written-back, no-row-written, same-without-rows, rows-read, read-again, written-limited}
+use Rattle.program.proofs.Theorems.{accepted-well-formed, few-lines, written-back, no-row-written, same-without-rows, rows-read, read-again, written-limited}
 use Rattle.program.proofs.FramesWrittenBack.{TableOf}
 use Rattle.rows.specs.Rows.{TableRow}
 use Rattle.rows.proofs.TableListed.{met-once, table-listed, one-transition}
@@ -20,17 +20,15 @@ use Rattle.program.proofs.ChecksPassed.{passes, few-checks}
 use Rattle.writer.specs.Answers.{answerBy, outputBy, checkedOutput, writeAnswer, outputAfter, refusal as writeRefusal, writtenLength}
 use Rattle.desk.specs.Entries.{read, write, Lent, Back, programIn, Gives}
 use Rattle.demands.specs.Demands.{FileOf, Acceptance, Tabulated, withWritten, WrittenFile}
-use Rattle.demands.specs.Refusals.{rows}
 use Rattle.demands.specs.Lists.{wrote}
-use Rattle.demands.proofs.RefusalsReturned.{Judged, file-judged}
 
 -- a file that is not refused is accepted
 pub not-refused : (b : Lent) → refusal (readFile (b .file) .verdict) ≡ 0 → readFile (b .file) .verdict ≡ Accepted
-not-refused b = go (readFile (b .file) .verdict) (file-judged read b)
+not-refused b = go (readFile (b .file) .verdict) refl
   where
-    go : (v : Verdict) → Judged read b (rows read b) v → refusal v ≡ 0 → v ≡ Accepted
-    go Accepted j z = refl
-    go (Refused n line) x z = absurd (x .some-number z)
+    go : (v : Verdict) → readFile (b .file) .verdict ≡ v → refusal v ≡ 0 → v ≡ Accepted
+    go Accepted h z = refl
+    go (Refused n line) h z = absurd (omega (arith, few-lines (b .file) n line h))
 
 is-accepted : (b : Lent) (a : Back) → Gives read b a → a .refusal ≡ 0 → readFile (b .file) .verdict ≡ Accepted
 is-accepted b a g z = not-refused b (sym (ap (λ (x : Back). x .refusal) g) ∙ z)

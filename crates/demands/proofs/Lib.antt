@@ -3,6 +3,7 @@ pub mod ChangeRefusalsTold
 pub mod RefusalsReturned
 pub mod OneAnswer
 pub mod FilesAccepted
+pub mod ConfigurationsNumbered
 pub mod AnalysisAnswers
 pub mod LimitAnswers
 pub mod BenchTooLong
@@ -11,6 +12,8 @@ pub mod LookAnswers
 pub mod PassDepends
 pub mod EntriesGive
 pub mod ChangesAccepted
+pub mod OldMarksKept
+pub mod RoomTold
 pub mod PruneKeeps
 pub mod BookSorted
 pub mod LocalChange

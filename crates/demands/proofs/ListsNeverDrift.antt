@@ -1,14 +1,14 @@
 -- A list of repair calls never drifts from the reference model: one call, and then the whole list.
 use mathlib.Core.Path.{_≡_, refl, sym, ap, subst, _∙_}
 use mathlib.Core.Bool.{Bool, true, false, cond}
-use mathlib.Core.List.{List, [], _∷_, map}
+use mathlib.Core.List.{List, [], _∷_}
 use Prim.Native.Nat.{ℕ}
 use native.Mathlib.Omega.{arith}
 use lib.Dec.{eqb}
-use lib.ListN.{length, drop}
-use lib.Seq.{take-append-seam}
-use borrow.Author.Tests.{ne-eqb}
+use lib.ListN.{length}
+use borrow.Author.Tests.{eqb-true, eq-eqb, ne-eqb}
 use Rattle.program.specs.Program.{Program}
+use Rattle.program.specs.Chosen.{sizesOf, numbers}
 use Rattle.program.specs.WellFormed.{WellFormed}
 use Rattle.program.specs.Reading.{Outcome, accepted, readFile}
 use Rattle.program.specs.Checks.{firstMet, bufferRows, checked}
@@ -17,23 +17,26 @@ use Rattle.program.specs.declared.Verdict.the-variants as verdict
 use Rattle.program.specs.declared.Length.the-variants.{NotAsked, Of}
 use Rattle.program.proofs.Theorems.{accepted-well-formed}
 use Rattle.reach.specs.Marks.{freshMarks}
+use Rattle.reach.proofs.ProgramInSizes.{usable}
 use Rattle.reach.proofs.ShapeKept.{marks-length}
 use Rattle.analysis.specs.Answers.{same}
 use Rattle.analysis.proofs.AnswersByChecks.{same-self, own-accepted}
-use Rattle.exchange.specs.Changes.{Change, ChangeRead}
+use Rattle.exchange.specs.Changes.{Change, ChangeRead, Form, EditLine, ExchangeText}
 use Rattle.exchange.specs.Changes as change
 use Rattle.exchange.specs.Changing.{changedProgram}
+use Rattle.exchange.specs.Lengths.{workFirst, measuredRows}
 use Rattle.exchange.specs.Wanted.{wantedChange, ChangeApplies}
-use Rattle.exchange.specs.declared.Form.{Form}
 use Rattle.exchange.proofs.Theorems.{wanted-change-applies, changed-well-formed, changed-read, change-number}
-use Rattle.repair.specs.Repairs.{untouched, repairedTo, wantedBy, repairedBy, repaired, InsideOutNumber}
+use Rattle.repair.specs.Repairs.{After, untouched, repairedTo, measuredBy, wantedBy, repairedBy, repaired, InsideOutNumber}
 use Rattle.repair.specs.Desk.{Desk, started}
-use Rattle.desk.specs.Entries.{Lent, Back, repairBack, repairedIn, Gives}
-use Rattle.demands.specs.Book.{bookChanged, bookRefusal, bookRead, unlessRefused, bookAfter, bookProgram, readRefusal}
-use Rattle.demands.specs.Lists.{Repair, forward, inside-out, Call, entry, lentTo, after, Gave, Seen, seen, foreseen, bookCall, bookRefuses, bookWanted, bookPlayed, RoutinesBy, BookRoutines, acceptedChange, LeavesOthers, BookLeaves}
+use Rattle.desk.specs.Entries.{Back, repairBack, repairedIn, Gives}
+use Rattle.demands.specs.Book.{bookChanged, changeRefusal, bookRefusal, bookRead, unlessRefused, bookAfter, bookProgram}
+use Rattle.demands.specs.Lists.{Repair, forward, inside-out, Call, entry, lentTo, marksFrom, after, Gave, Seen, seen, seenOf, foreseen, bookCall, bookRefuses, bookWanted, bookPlayed, RoutinesBy, BookRoutines, acceptedChange, LeavesOthers, BookLeaves}
 use Rattle.demands.specs.Demands.{Demand3}
-use Rattle.demands.proofs.EntriesGive.{forward-gives, inside-out-gives}
-use Rattle.demands.proofs.BookSorted.{book-well-formed, wanted-sorted, booked}
+use Rattle.demands.proofs.ChangeRefusalsTold.{OfForm, edits, exchanges, form-read}
+use Rattle.demands.proofs.ChangesAccepted.{repaired-wrote}
+use Rattle.demands.proofs.EntriesGive.{forward-gives, inside-out-gives, repair-gives}
+use Rattle.demands.proofs.BookSorted.{book-well-formed, wanted-sorted, measured-sorted, booked}
 use Rattle.demands.proofs.LocalChange.{local-change}
 
 -- the desk has a file that is read as the model's program, and the marks of that program
@@ -56,77 +59,101 @@ agreed file h =
 -- ---- one call
 
 -- what is seen of a call and what the model says, and they agree again
-record Step (d : Desk) (a : Back) (n : ℕ) (b′ : Program) : Type 0 where
-  same-seen : seen a ≡ foreseen n (bookProgram b′)
-  again : Agrees (after d a) b′
+record Step (k : Form) (d : Desk) (a : Back) (n : ℕ) (b′ : Program) : Type 0 where
+  same-seen : seen k a ≡ foreseen n (bookProgram b′)
+  again : Agrees (after k d a) b′
 
-module _ (d : Desk) (b : Program) (g : Agrees d b) (k : ℕ) where
+-- a refused call leaves the marks where they were
+refused-marks : (k : Form) (a : Back) → eqb (a .refusal) 0 ≡ false → marksFrom k a ≡ a .marks
+refused-marks EditLine a h = refl
+refused-marks ExchangeText a h = rw h
+
+-- an accepted one has those of the changed program, in the lent marks or in the second buffer, and its file
+changed-desk : {k : Form} {s : List ℕ} {c : Change} → OfForm k s c → (d : Desk) (q : Program) (output work second : List ℕ) (routines : ℕ)
+    → let a = repairBack (repairedTo c q (d .marks) output work second) routines in
+    (seen k a ≡ foreseen 0 q) × (after k d a ≡ record { file = written q; marks = freshMarks q })
+changed-desk (edits {e = e}) d q output work second routines =
+    let w = repaired-wrote (change.step e) q (d .marks) output work second routines in
+    (λ i. record { refused = 0; marks = freshMarks q; size = length (written q); wrote = w i }, λ i. record { file = w i; marks = freshMarks q })
+changed-desk (exchanges {x = x} e) d q output work second routines =
+    let w = repaired-wrote (change.whole x) q (d .marks) output work second routines in
+    (λ i. record { refused = 0; marks = freshMarks q; size = length (written q); wrote = w i }, λ i. record { file = w i; marks = freshMarks q })
+
+module _ (d : Desk) (b : Program) (g : Agrees d b) (routines : ℕ) (k : Form) (text output work second : List ℕ) where
   abbrev p : Program
   p = bookProgram b
 
+  abbrev Answers : After → ℕ → Program → Type 0
+  Answers a = Step k d (repairBack a routines)
+
   -- a refusal before 17 leaves both as they were
-  stays : (n line : ℕ) (output work : List ℕ) → eqb n 0 ≡ false → Step d (repairBack (untouched n line (d .marks) output work) k) n b
-  stays n line output work h =
+  stays : (n line : ℕ) → eqb n 0 ≡ false → Answers (untouched n line (d .marks) output work second) n b
+  stays n line h =
+      let m = refused-marks k (repairBack (untouched n line (d .marks) output work second) routines) h ∙ g .marks in
       record {
-        same-seen = rw (h, g .marks);
-        again = record { file = rw h (g .file); marks = g .marks; well-formed = g .well-formed };
+        same-seen = rw (h, m);
+        again = record { file = rw h (g .file); marks = m; well-formed = g .well-formed };
       }
 
   -- an accepted call leaves the changed program's marks and file
-  goes : (c : Change) (output : List ℕ) → ChangeApplies c p → Step d (repairBack (repairedTo (changedProgram c p) output) k) 0 (bookChanged c b)
-  goes c output h =
+  goes : (c : Change) → OfForm k text c → ChangeApplies c p → Answers (repairedTo c (changedProgram c p) (d .marks) output work second) 0 (bookChanged c b)
+  goes c i h =
       let q = changedProgram c p in
       let x : bookProgram (bookChanged c b) ≡ q = booked b c in
-      let w = take-append-seam (written q) (drop (length (written q)) output) in
+      let e = changed-desk i d q output work second routines in
       record {
-        same-seen = rw (x, w);
-        again = record { file = rw (x, w) (changed-read c p (g .well-formed) h); marks = rw x; well-formed = rw x (changed-well-formed c p (g .well-formed) h) };
+        same-seen = e .0 ∙ ap (foreseen 0) (sym x);
+        again =
+            subst (λ (y : Desk). Agrees y (bookChanged c b)) (sym (e .1))
+            (record { file = rw x (changed-read c p (g .well-formed) h); marks = ap freshMarks (sym x); well-formed = rw x (changed-well-formed c p (g .well-formed) h) });
       }
 
-  module _ (form : Form) (text : List ℕ) where
-    wanted : (w : ChangeRead) (output work : List ℕ) → wantedChange form p text ≡ w
-        → Step d (repairBack (wantedBy w p (d .marks) output work) k) (readRefusal w) (bookRead w b)
-    wanted (change.Read c) output work h =
-        let t : same (d .marks) (freshMarks p) ≡ true =
-        subst (λ (l : List ℕ). same l (freshMarks (bookProgram b)) ≡ true) (sym (g .marks)) (same-self (freshMarks (bookProgram b))) in
-        rw (← own-accepted p (d .marks) t) (goes c output (wanted-change-applies form p text c h))
-    wanted (change.Refused n) output work h = stays n 0 output work (ne-eqb n 0 (λ z. absurd (omega (arith, change-number form p text n h .0))))
+  -- the lengths that an exchange asks for, and then the marks, which are the program's own
+  measures : (c : Change) → wantedChange k p text ≡ change.Read c → (n : ℕ) (t : Bool) → eqb n 0 ≡ t
+      → Answers (measuredBy (cond t verdict.Accepted (verdict.Refused n 0)) c p (d .marks) output work second) n (cond t (bookChanged c b) b)
+  measures c h n true e =
+      let t = ap (λ (l : List ℕ). same l (freshMarks p)) (g .marks) ∙ same-self (freshMarks p) in
+      rw (eqb-true n 0 e, ← own-accepted p (d .marks) t) (goes c (form-read k p text c h) (wanted-change-applies k p text c h))
+  measures c h n false e = stays n 0 e
 
-    zero-when : (w : ChangeRead) → wantedChange form p text ≡ w → unlessRefused (readRefusal w) (bookRead w b) b ≡ bookRead w b
-    zero-when (change.Read c) h = refl
-    zero-when (change.Refused n) h = rw (ne-eqb n 0 (λ z. absurd (omega (arith, change-number form p text n h .0))))
+  wanted : (w : ChangeRead) → wantedChange k p text ≡ w
+      → let n = changeRefusal w b (length work) (length second) in
+      Answers (wantedBy w p (d .marks) output work second) n (unlessRefused n (bookRead w b) b)
+  wanted (change.Read c) h =
+      let n = firstMet (measuredRows c b (length second) (length work)) in
+      rw (measured-sorted c b (length second) (length work)) (measures c h n (eqb n 0) refl)
+  wanted (change.Refused n) h =
+      let e = ne-eqb n 0 (λ z. absurd (omega (arith, change-number k p text n h .0))) in
+      rw e (stays n 0 e)
 
-  one-call : (c : Call) → Step d (repairBack (repairedIn (c .form) (lentTo d c)) k) (bookRefuses b c) (bookCall b c)
-  unfolding repaired checked bookRefusal bookAfter
-  one-call c = rw (g .file, m) (go lengths (eqb lengths 0) refl (bookWanted b c) (wanted-sorted (c .form) b (c .text)))
-    where
-      m : length (d .marks) ≡ 16384
-      m = ap length (g .marks) ∙ marks-length (bookProgram b)
+one-call : (d : Desk) (b : Program) → Agrees d b → (routines : ℕ) (c : Call)
+    → Step (c .form) d (repairBack (repairedIn (c .form) (lentTo d c)) routines) (bookRefuses b c) (bookCall b c)
+unfolding repaired checked bookRefusal bookAfter
+one-call d b g routines c = rw (g .file, eq-eqb (length (d .marks)) (numbers (sizesOf p)) m) (go lengths (eqb lengths 0) refl (bookWanted b c) (wanted-sorted (c .form) b (c .text)))
+  where
+    p : Program
+    p = bookProgram b
 
-      -- what the lengths of output and working buffer meet
-      lengths : ℕ
-      lengths = firstMet (bufferRows NotAsked (Of (length (c .output))) (Of (length (c .work))))
+    m : length (d .marks) ≡ numbers (sizesOf p)
+    m = ap length (g .marks) ∙ marks-length (sizesOf p) (usable p (g .well-formed)) p
 
-      go : (n : ℕ) (t : Bool) → eqb n 0 ≡ t → (w : ChangeRead) → wantedChange (c .form) p (c .text) ≡ w
-          → Step d (repairBack (repairedBy (c .form) (cond t verdict.Accepted (verdict.Refused n 0)) p (d .marks) (c .text) (c .output) (c .work)) k)
-          (cond t (readRefusal w) n)
-          (unlessRefused (cond t (readRefusal w) n) (bookRead w b) b)
-      go n true e w h = rw (h, zero-when (c .form) (c .text) w h) (wanted (c .form) (c .text) w (c .output) (c .work) h)
-      go n false e w h = rw e (stays n 0 (c .output) (c .work) e)
+    -- what the lengths meet that are judged before the line or text
+    lengths : ℕ
+    lengths = firstMet (bufferRows (numbers (sizesOf b)) NotAsked (Of (length (c .output))) (workFirst (c .form) (length (c .work))))
+
+    go : (n : ℕ) (t : Bool) → eqb n 0 ≡ t → (w : ChangeRead) → wantedChange (c .form) p (c .text) ≡ w
+        → let r = cond t (changeRefusal w b (length (c .work)) (length (c .second))) n in
+        Step (c .form) d (repairBack (repairedBy (c .form) (cond t verdict.Accepted (verdict.Refused n 0)) p (d .marks) (c .text) (c .output) (c .work) (c .second)) routines)
+        r (unlessRefused r (bookRead w b) b)
+    go n true e w h = rw h (wanted d b g routines (c .form) (c .text) (c .output) (c .work) (c .second) w h)
+    go n false e w h = rw e (stays d b g routines (c .form) (c .text) (c .output) (c .work) (c .second) n 0 e)
 
 -- ---- one call, by what its function promises
 
--- both repairs give back what `repaired` says, but for the reanalyzed routines
-given : (k : Form) (r : Repair) (b : Lent) (a : Back) → Gives (entry k r) b a → a ≡ repairBack (repairedIn k b) (a .values .reanalyzed)
-given k forward b a x =
-    let y = forward-gives k b a x in
-    y ∙ ap (repairBack (repairedIn k b)) (sym (ap (λ (z : Back). z .values .reanalyzed) y))
-given k inside-out b a x = inside-out-gives k b a x .0
-
 module _ (d : Desk) (b : Program) (g : Agrees d b) (c : Call) (a : Back) (x : Gives (entry (c .form) (c .repair)) (lentTo d c) a) where
-  step : Step d a (bookRefuses b c) (bookCall b c)
+  step : Step (c .form) d a (bookRefuses b c) (bookCall b c)
   step =
-      subst (λ (y : Back). Step d y (bookRefuses b c) (bookCall b c)) (sym (given (c .form) (c .repair) (lentTo d c) a x)) (one-call d b g (a .values .reanalyzed) c)
+      subst (λ (y : Back). Step (c .form) d y (bookRefuses b c) (bookCall b c)) (sym (repair-gives (c .form) (c .repair) (lentTo d c) a x)) (one-call d b g (a .values .reanalyzed) c)
 
   -- the routines by the file's program are those by the model's
   by-model : InsideOutNumber (eqb (a .refusal) 0) (wantedChange (c .form) (readFile (d .file) .program) (c .text)) (readFile (d .file) .program) (a .values .reanalyzed)
@@ -146,14 +173,14 @@ module _ (d : Desk) (b : Program) (g : Agrees d b) (c : Call) (a : Back) (x : Gi
 
 -- ---- the whole list
 
-never-drifts : (cs : List Call) (gs : List Back) (d : Desk) (b : Program) → Agrees d b → Gave cs gs d → map seen gs ≡ bookPlayed cs b
-unfolding Gave bookPlayed
+never-drifts : (cs : List Call) (gs : List Back) (d : Desk) (b : Program) → Agrees d b → Gave cs gs d → seenOf cs gs ≡ bookPlayed cs b
+unfolding Gave seenOf bookPlayed
 never-drifts [] [] d b g x = refl
 never-drifts [] (a ∷ gs) d b g x = absurd x
 never-drifts (c ∷ cs) [] d b g x = absurd x
 never-drifts (c ∷ cs) (a ∷ gs) d b g x =
     let s = step d b g c a (x .0) in
-    λ i. s .same-seen i ∷ never-drifts cs gs (after d a) (bookCall b c) (s .again) (x .1) i
+    λ i. s .same-seen i ∷ never-drifts cs gs (after (c .form) d a) (bookCall b c) (s .again) (x .1) i
 
 routines-right : (cs : List Call) (gs : List Back) (d : Desk) (b : Program) → Agrees d b → Gave cs gs d → BookRoutines cs gs b
 unfolding Gave BookRoutines
@@ -161,7 +188,7 @@ routines-right [] [] d b g x = tt
 routines-right [] (a ∷ gs) d b g x = x
 routines-right (c ∷ cs) [] d b g x = x
 routines-right (c ∷ cs) (a ∷ gs) d b g x =
-    (routines d b g c a (x .0), routines-right cs gs (after d a) (bookCall b c) (step d b g c a (x .0) .again) (x .1))
+    (routines d b g c a (x .0), routines-right cs gs (after (c .form) d a) (bookCall b c) (step d b g c a (x .0) .again) (x .1))
 
 -- ---- what changes leave alone
 

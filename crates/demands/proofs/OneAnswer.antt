@@ -7,20 +7,23 @@ use mathlib.Core.List.{List}
 use native.Mathlib.Omega.{arith}
 use native.Mathlib.Nat.{pow-succ', div-div-eq-div-mul}
 use lib.Dec.{eqb}
+use lib.ListN.{length}
 use Rattle.program.specs.Program.{Program}
+use Rattle.program.specs.Chosen.{sizesOf}
 use Rattle.program.specs.declared.Verdict.{Verdict}
 use Rattle.program.specs.declared.Verdict.the-variants.{Accepted, Refused}
+use Rattle.program.specs.declared.Length.the-variants.{NotAsked, Of}
+use Rattle.program.proofs.ChecksPassed.{passes}
+use Rattle.reach.proofs.ProgramInSizes.{usable}
 use Rattle.reach.proofs.MarksShown.{one-list}
 use Rattle.analysis.specs.Answers.{checkedMarks, workAfter}
 use Rattle.prune.specs.Pruning.{Pruned}
 use Rattle.callgraph.specs.Components.{Bits}
-use Rattle.exchange.specs.Changes.{ChangeRead}
+use Rattle.exchange.specs.Changes.{ChangeRead, Form, EditLine, ExchangeText}
 use Rattle.exchange.specs.Changes as change
 use Rattle.exchange.specs.Wanted.{wantedChange}
-use Rattle.exchange.specs.declared.Form.{Form}
-use Rattle.exchange.specs.declared.Form.the-variants.{EditLine, ExchangeText}
 use Rattle.repair.specs.Repairs.{InsideOutNumber}
-use Rattle.desk.specs.Entries.{Entry, read as reads, write, analyze, next-violation, prune, repair-forward, repair-inside-out, exchange-forward, exchange-inside-out, Lent, Back, pruneBack, repairBack, programIn, repairedIn, InsideOutGives, Gives}
+use Rattle.desk.specs.Entries.{Entry, read as reads, sizes, write, analyze, next-violation, prune, repair-forward, repair-inside-out, exchange-sizes, exchange-forward, exchange-inside-out, Lent, Back, pruneBack, repairBack, programIn, repairedIn, InsideOutGives, Gives}
 
 -- ---- a set of routines has one number
 
@@ -64,9 +67,11 @@ routines-once false w p n m x y = x ∙ sym y
 
 -- ---- marks that are pruned are fixed
 
-marks-once : (v : Verdict) (p : Program) (old l k : List ℕ) → Pruned v p old l → Pruned v p old k → l ≡ k
-marks-once Accepted p old l k x y = one-list x y
-marks-once (Refused n line) p old l k x y = x ∙ sym y
+marks-once : (b : Lent) (v : Verdict) → checkedMarks (b .file) (b .marks) (b .work) ≡ v → {l k : List ℕ} → Pruned v (programIn b) (b .marks) l → Pruned v (programIn b) (b .marks) k → l ≡ k
+marks-once b Accepted e x y =
+    let w = passes (b .file) (Of (length (b .marks))) NotAsked (Of (length (b .work))) e .well-formed in
+    one-list (sizesOf (programIn b)) (usable (programIn b) w) x y
+marks-once b (Refused n line) e x y = x ∙ sym y
 
 -- ---- an inside-out repair tells its routines once
 
@@ -81,14 +86,16 @@ inside-out-once k b a c g h =
 
 pub given-once : (e : Entry) (b : Lent) (a c : Back) → Gives e b a → Gives e b c → a ≡ c
 given-once reads b a c g h = g ∙ sym h
+given-once sizes b a c g h = g ∙ sym h
 given-once write b a c g h = g ∙ sym h
 given-once analyze b a c g h = g ∙ sym h
 given-once next-violation b a c g h = g ∙ sym h
 given-once prune b a c g h =
     let v = checkedMarks (b .file) (b .marks) (b .work) in
-    g .0 ∙ ap (λ (l : List ℕ). pruneBack b v l (workAfter (b .file) (b .marks) (b .work))) (marks-once v (programIn b) (b .marks) (a .marks) (c .marks) (g .1) (h .1))
+    g .0 ∙ ap (λ (l : List ℕ). pruneBack b v l (workAfter (b .file) (b .marks) (b .work))) (marks-once b v refl (g .1) (h .1))
     ∙ sym (h .0)
 given-once repair-forward b a c g h = g ∙ sym h
 given-once repair-inside-out b a c g h = inside-out-once EditLine b a c g h
+given-once exchange-sizes b a c g h = g ∙ sym h
 given-once exchange-forward b a c g h = g ∙ sym h
 given-once exchange-inside-out b a c g h = inside-out-once ExchangeText b a c g h

@@ -9,6 +9,7 @@ use native.Mathlib.Decide.{ℕ-discrete}
 use lib.ListN.{getD}
 use Rattle.automaton.specs.Automaton.{Automaton, moves}
 use Rattle.automaton.specs.declared.Event.{Event}
+use Rattle.program.specs.declared.sizes.Sizes.{Sizes}
 use Rattle.program.specs.Program.{Edge, Program}
 use Rattle.reach.specs.Runs.{stepOf, HasStep}
 use Rattle.reach.specs.Reachable.{seeded, by-action, by-call, by-return}
@@ -32,9 +33,9 @@ alike members p p′ steps rule =
       moves = λ q e s v. subst (λ (a : Automaton). moves a q e s ≡ true) rule v;
     }
 
-flipped : {members : List ℕ} {p p′ : Program} {old old′ marks marks′ : List ℕ} → SameInputs members p p′ old old′ marks marks′
-    → SameInputs members p′ p old′ old marks′ marks
-flipped {members} {p} {p′} i =
+flipped : {Z Z′ : Sizes} {members : List ℕ} {p p′ : Program} {old old′ marks marks′ : List ℕ} → SameInputs Z Z′ members p p′ old old′ marks marks′
+    → SameInputs Z′ Z members p′ p old′ old marks′ marks
+flipped {Z} {Z′} {members} {p} {p′} i =
     record {
       steps = sym (i .steps);
       rule = sym (i .rule);
@@ -48,7 +49,7 @@ flipped {members} {p} {p′} i =
 
 -- ---- what one pass derives of the group, the other derives
 
-module _ {members : List ℕ} {p p′ : Program} {old old′ marks marks′ : List ℕ} (i : SameInputs members p p′ old old′ marks marks′) where
+module _ {Z Z′ : Sizes} {members : List ℕ} {p p′ : Program} {old old′ marks marks′ : List ℕ} (i : SameInputs Z Z′ members p p′ old old′ marks marks′) where
   same : Within (onlyOf (memberOf members) p) (onlyOf (memberOf members) p′)
   same = alike members p p′ (i .steps) (i .rule)
 
@@ -56,14 +57,14 @@ module _ {members : List ℕ} {p p′ : Program} {old old′ marks marks′ : Li
   caller {f} h = true-member members f (only-routine (memberOf members) p h)
 
   -- no step leads to an exit outside the group: what the pass has of it, it was given
-  pair-given : {g n r q : ℕ} → ¬ (Member members g) → n ≡ 1 → PassOf p members old marks g n r q → ExitOf marks g r q
+  pair-given : {g n r q : ℕ} → ¬ (Member members g) → n ≡ 1 → PassOf Z p members old marks g n r q → ExitOf Z marks g r q
   pair-given k e (seeded (entry m y) u) = absurd (k m)
   pair-given k e (seeded (summary z y) u) = y
   pair-given k e (by-action d s v u) = absurd (k (caller s))
   pair-given k e (by-call d s v u) = absurd (let z : _≡_ {A = ℕ} 0 1 = e in omega arith)
   pair-given k e (by-return d s v d′ v′ u) = absurd (k (caller s))
 
-  derives : {f n r q : ℕ} → Member members f → PassOf p members old marks f n r q → PassOf p′ members old′ marks′ f n r q
+  derives : {f n r q : ℕ} → Member members f → PassOf Z p members old marks f n r q → PassOf Z′ p′ members old′ marks′ f n r q
   derives m (seeded (entry {f = f} {r = r} z y) u) = seeded (entry z (i .roots f r z .0 y)) tt
   derives m (seeded (summary k y) u) = absurd (k m)
   derives m (by-action d e v u) = by-action (derives m d) (same .steps e) (same .moves _ _ _ v) tt
@@ -79,9 +80,9 @@ module _ {members : List ℕ} {p p′ : Program} {old old′ marks marks′ : Li
 
 -- ---- the theorem
 
-pub depends : {members : List ℕ} {p p′ : Program} {old old′ marks marks′ after after′ : List ℕ} → Passed p members old marks after
-    → Passed p′ members old′ marks′ after′ → SameInputs members p p′ old old′ marks marks′ → (f n r q : ℕ) → Member members f
-    → Marked after f n r q ↔ Marked after′ f n r q
+pub depends : {Z Z′ : Sizes} {members : List ℕ} {p p′ : Program} {old old′ marks marks′ after after′ : List ℕ} → Passed Z p members old marks after
+    → Passed Z′ p′ members old′ marks′ after′ → SameInputs Z Z′ members p p′ old old′ marks marks′ → (f n r q : ℕ) → Member members f
+    → Marked Z after f n r q ↔ Marked Z′ after′ f n r q
 depends a b i f n r q m =
     let here = a .inside f n r q m in
     let there = b .inside f n r q m in

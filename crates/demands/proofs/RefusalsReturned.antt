@@ -4,12 +4,14 @@ use mathlib.Core.Logic.{_≢_, _⊎_, inl, inr, ⊎-elim}
 use mathlib.Core.Bool.{Bool, true, false, cond, not}
 use mathlib.Core.Option.{Option, some, none}
 use mathlib.Core.List.{List, [], _∷_, _++_}
-use Prim.Native.Nat.{ℕ, _<_}
+use Prim.Native.Nat.{ℕ, _≤_}
 use native.Mathlib.Omega.{arith}
 use lib.Dec.{eqb, ltb}
-use lib.ListN.{length}
-use borrow.Author.Tests.{eqb-false, ne-eqb}
+use lib.ListN.{length, replicate}
+use borrow.Author.Tests.{eqb-true, eqb-false, ne-eqb}
 use Rattle.program.specs.Program.{Program}
+use Rattle.text.specs.declared.Line.{Line}
+use Rattle.program.specs.Chosen.{sizesOf}
 use Rattle.program.specs.Reading.{readFile}
 use Rattle.program.specs.Checks.{Row, firstMet, verdictOf, bufferRows, checked}
 use Rattle.program.specs.declared.Verdict.{Verdict}
@@ -17,26 +19,28 @@ use Rattle.program.specs.declared.Verdict.the-variants.{Accepted, Refused}
 use Rattle.program.specs.declared.Length.{Length}
 use Rattle.program.specs.declared.Length.the-variants.{NotAsked, Of}
 use Rattle.program.proofs.Theorems.{few-lines}
-use Rattle.program.proofs.ChecksPassed.{CheckedAs, passed, by-file, by-length, checked-file}
+use Rattle.program.proofs.ChecksPassed.{CheckedAs, passed, by-file, by-length, checked-file, passes}
 use Rattle.writer.specs.Answers.{answerBy, outputBy, checkedOutput, writeAnswer, outputAfter, refusal as writeRefusal}
 use Rattle.reach.specs.Configurations.{none-set}
 use Rattle.reach.specs.Worklist.{analysis}
 use Rattle.reach.specs.Marks.{freshMarks, firstFrom, violations}
 use Rattle.analysis.specs.Answers.{checkedMarks, limitRow, limited, followedBy, analyzeBy, analyzeAnswer, onSuccess, marksAfter, workAfter, same, foreignRow, foundOf, foundBy, nextBy, nextAnswer}
 use Rattle.prune.specs.Pruning.{Pruned}
-use Rattle.exchange.specs.Changes.{ChangeRead}
+use Rattle.exchange.specs.Changes.{Change, ChangeRead, Form, EditLine, ExchangeText}
 use Rattle.exchange.specs.Changes as change
 use Rattle.exchange.specs.Changing.{changedProgram}
+use Rattle.exchange.specs.ExchangeText.{textLines, exchangeRows, exchangeIn, exchangeFrom, wantedExchange}
+use Rattle.exchange.specs.Lengths.{workFirst, measuredRows}
 use Rattle.exchange.specs.Wanted.{wantedChange}
-use Rattle.exchange.specs.declared.Form.{Form}
-use Rattle.exchange.specs.declared.Form.the-variants.{EditLine, ExchangeText}
 use Rattle.exchange.proofs.Theorems.{change-number}
-use Rattle.repair.specs.Repairs.{checkedRepair, ownedBy, wantedBy, repairedBy, repaired}
-use Rattle.desk.specs.Entries.{Entry, read as reads, write, analyze, next-violation, prune, repair-forward, repair-inside-out, exchange-forward, exchange-inside-out, Lent, Back, hasWork, Values, noValues, repairing, readBack, writeBack, analyzeBack, nextBack, pruneBack, repairBack, programIn, repairedIn, RepairGives, InsideOutGives, Gives}
+use Rattle.repair.specs.Repairs.{After, untouched, zeroed, foreign, repairedTo, checkedRepair, ownedBy, measuredBy, wantedBy, repairedBy, repaired}
+use Rattle.rewrite.specs.Room.{roomOf, roomBy, roomWanted, roomAnswer}
+use Rattle.rewrite.specs.declared.RoomAnswer.the-variants as room
+use Rattle.desk.specs.Entries.{Entry, read as reads, sizes, write, analyze, next-violation, prune, repair-forward, repair-inside-out, exchange-sizes, exchange-forward, exchange-inside-out, Lent, Back, hasWork, Values, noValues, readBack, sizesBack, roomBack, writeBack, analyzeBack, nextBack, pruneBack, repairBack, programIn, repairedIn, RepairGives, InsideOutGives, Gives}
 use Rattle.demands.specs.Demands.{Demand1}
-use Rattle.demands.specs.Refusals.{changeRows, repairRows, marksRows, rows, Returned, of-the-file, of-the-rest}
+use Rattle.demands.specs.Refusals.{marksLength, changeRows, laterRows, repairRows, marksRows, rows, FaultyFile, Returned, of-the-file, of-the-rest}
 use Rattle.demands.proofs.FileRefusalsTold.{SaysFile, file-told, faulty-number, faulty-once}
-use Rattle.demands.proofs.ChangeRefusalsTold.{numberThen, change-told}
+use Rattle.demands.proofs.ChangeRefusalsTold.{numberThen, change-told, form-read, later-told, MeasuredAs, fitting, unfit, measured-told}
 
 pub both-ways : false ≡ true → ⊥
 both-ways e = subst (λ t. cond t ⊥ Unit) e tt
@@ -52,14 +56,14 @@ returned-once (of-the-rest f) (of-the-rest g) = (refl, refl)
 
 -- a call that is refused before these, and leaves everything
 abbrev refused : ℕ → ℕ → Lent → Back
-refused n line b = record { refusal = n; line = line; values = noValues; marks = b .marks; output = b .output; work = b .work }
+refused n line b = record { refusal = n; line = line; values = noValues; marks = b .marks; output = b .output; work = b .work; second = b .second }
 
 -- the number is the table's, and none of 0, 17 and 22
 pub record Early (e : Entry) (b : Lent) (n line : ℕ) : Type 0 where
   pub returned : Returned e b n line
   pub some-number : n ≢ 0
   pub before-17 : n ≢ 17
-  pub below-22 : n < 22
+  pub before-22 : n ≢ 22
 
 early : {e : Entry} {b : Lent} {n line : ℕ} → Early e b n line → Demand1 e b (refused n line b)
 early {e} {b} {n} {line} x =
@@ -69,20 +73,31 @@ early {e} {b} {n} {line} x =
       no-result = λ h. refl;
       marks = λ h. refl;
       output = λ h. refl;
+      second = λ h. refl;
       work-kept = λ h i j. refl;
       work-cleared = λ w. cleared;
     }
   where
-    cleared : (n ≡ 0) ⊎ ((n ≡ 17) ⊎ (n ≡ 22)) → b .work ≡ none-set
+    cleared : (n ≡ 0) ⊎ ((n ≡ 17) ⊎ (n ≡ 22)) → b .work ≡ zeroed (b .work)
     cleared (inl h) = absurd (x .some-number h)
     cleared (inr (inl h)) = absurd (x .before-17 h)
-    cleared (inr (inr h)) = absurd (omega (arith, x .below-22))
+    cleared (inr (inr h)) = absurd (x .before-22 h)
+
+-- a length's number, 9 to 11, is such
+length-early : {e : Entry} {b : Lent} {n : ℕ} → 9 ≤ n → n ≤ 11 → Returned e b n 0 → Early e b n 0
+length-early low high r = record { returned = r; some-number = λ z. absurd (omega arith); before-17 = λ z. absurd (omega arith); before-22 = λ z. absurd (omega arith) }
+
+-- so is that of a line or text
+change-early : {e : Entry} {b : Lent} (k : Form) (p : Program) {n : ℕ} → wantedChange k p (b .text) ≡ change.Refused n → Returned e b n 0 → Early e b n 0
+change-early {b = b} k p {n} i r =
+    let x = change-number k p (b .text) n i in
+    record { returned = r; some-number = λ y. absurd (omega (arith, x .0)); before-17 = x .2; before-22 = x .3 }
 
 -- ---- no refusal before 17 and 22
 
 -- a call without a working buffer is done
 done : {e : Entry} {b : Lent} {v : Values} {output : List ℕ} → hasWork e ≡ false → Returned e b 0 0
-    → Demand1 e b (record { refusal = 0; line = 0; values = v; marks = b .marks; output = output; work = b .work })
+    → Demand1 e b (record { refusal = 0; line = 0; values = v; marks = b .marks; output = output; work = b .work; second = b .second })
 done h r =
     record {
       returned = r;
@@ -90,35 +105,41 @@ done h r =
       no-result = λ i. absurd (i refl);
       marks = λ i. refl;
       output = λ i. absurd (i refl);
+      second = λ i. refl;
       work-kept = λ i j k. refl;
       work-cleared = λ w. absurd (both-ways (sym h ∙ w));
     }
 
 -- a call with one: 17 or 22, or it is done
-abbrev Spared : Lent → ℕ → Values → List ℕ → List ℕ → Type 0
-Spared b n v marks output = ((n ≡ 17) ⊎ (n ≡ 22)) × (v ≡ noValues) × (marks ≡ b .marks) × (output ≡ b .output)
+record Spared (b : Lent) (n : ℕ) (v : Values) (marks output second : List ℕ) : Type 0 where
+  number : (n ≡ 17) ⊎ (n ≡ 22)
+  no-values : v ≡ noValues
+  same-marks : marks ≡ b .marks
+  same-output : output ≡ b .output
+  same-second : second ≡ b .second
 
-late : {e : Entry} {b : Lent} {n : ℕ} {v : Values} {marks output : List ℕ} → Returned e b n 0
-    → (n ≡ 0) ⊎ Spared b n v marks output
-    → Demand1 e b (record { refusal = n; line = 0; values = v; marks = marks; output = output; work = none-set })
-late {e} {b} {n} {v} {marks} {output} r x =
+late : {e : Entry} {b : Lent} {n : ℕ} {v : Values} {marks output second : List ℕ} → Returned e b n 0
+    → (n ≡ 0) ⊎ Spared b n v marks output second
+    → Demand1 e b (record { refusal = n; line = 0; values = v; marks = marks; output = output; work = zeroed (b .work); second = second })
+late {e} {b} {n} {v} {marks} {output} {second} r x =
     record {
       returned = r;
       no-other = λ m at s. returned-once s r;
-      no-result = λ h. kept x h .0;
-      marks = λ h. kept x h .1;
-      output = λ h. kept x h .2;
-      work-kept = λ h i j. absurd (neither x h i j);
+      no-result = λ h. spared x h .no-values;
+      marks = λ h. spared x h .same-marks;
+      output = λ h. spared x h .same-output;
+      second = λ h. spared x h .same-second;
+      work-kept = λ h i j. absurd (⊎-elim i j (spared x h .number));
       work-cleared = λ w h. refl;
     }
   where
-    kept : (n ≡ 0) ⊎ Spared b n v marks output → n ≢ 0 → (v ≡ noValues) × (marks ≡ b .marks) × (output ≡ b .output)
-    kept (inl z) h = absurd (h z)
-    kept (inr y) h = (y .1, y .2, y .3)
+    spared : (n ≡ 0) ⊎ Spared b n v marks output second → n ≢ 0 → Spared b n v marks output second
+    spared (inl z) h = absurd (h z)
+    spared (inr y) h = y
 
-    neither : (n ≡ 0) ⊎ Spared b n v marks output → n ≢ 0 → n ≢ 17 → n ≢ 22 → ⊥
-    neither (inl z) h i j = h z
-    neither (inr y) h i j = ⊎-elim i j (y .0)
+-- 17 or 22 leaves the buffers but the working one
+spares : {b : Lent} {n : ℕ} → (n ≡ 17) ⊎ (n ≡ 22) → Spared b n noValues (b .marks) (b .output) (b .second)
+spares h = record { number = h; no-values = refl; same-marks = refl; same-output = refl; same-second = refl }
 
 -- ---- the checks, one after another
 
@@ -138,36 +159,43 @@ file-judged e b = go (readFile (b .file) .verdict) refl (file-told (b .file))
           returned = of-the-file t;
           some-number = faulty-number t;
           before-17 = λ z. ⊎-elim (λ y. absurd (omega arith)) (λ y. absurd (omega arith)) (x .3);
-          below-22 = omega arith;
+          before-22 = x .5;
         }
 
 -- the file and the lengths, whatever was asked, and whatever comes after them
-pub checked-judged : (e : Entry) (b : Lent) (marks output work : Length) (final : List Row) → rows e b ≡ bufferRows marks output work ++ final
+pub checked-judged : (e : Entry) (b : Lent) (marks output work : Length) (final : List Row) → rows e b ≡ bufferRows (marksLength b) marks output work ++ final
     → Judged e b final (checked (b .file) marks output work)
 checked-judged e b marks output work final h = go (checked (b .file) marks output work) (checked-file (b .file) marks output work)
   where
     by : (v : Verdict) → readFile (b .file) .verdict ≡ v → Judged e b (rows e b) v
     by v a = subst (Judged e b (rows e b)) a (file-judged e b)
 
-    left : {n : ℕ} → readFile (b .file) .verdict ≡ Accepted → firstMet (bufferRows marks output work ++ final) ≡ n → Returned e b n 0
+    left : {n : ℕ} → readFile (b .file) .verdict ≡ Accepted → firstMet (bufferRows (marksLength b) marks output work ++ final) ≡ n → Returned e b n 0
     left a f = subst (λ n. Returned e b n 0) (ap firstMet h ∙ f) (by Accepted a)
 
-    go : (v : Verdict) → CheckedAs (readFile (b .file) .verdict) marks output work v → Judged e b final v
+    go : (v : Verdict) → CheckedAs (readFile (b .file) .verdict) (marksLength b) marks output work v → Judged e b final v
     go v (passed a s f) = left a (f final)
     go v (by-file a) = by v a
-    go v (by-length a low high f) =
-        record { returned = left a (f final); some-number = λ z. absurd (omega arith); before-17 = λ z. absurd (omega arith); below-22 = omega arith }
+    go v (by-length a low high f) = length-early low high (left a (f final))
 
 not-equal : {n m : ℕ} → eqb n m ≡ false → n ≢ m
 not-equal {n} {m} e = eqb-false n m e
 
--- ---- read and write
+-- ---- read, sizes and write
 
 read-good : (b : Lent) → Demand1 reads b (readBack b (readFile (b .file) .verdict))
 unfolding firstMet
 read-good b = go (readFile (b .file) .verdict) (file-judged reads b)
   where
     go : (v : Verdict) → Judged reads b [] v → Demand1 reads b (readBack b v)
+    go Accepted r = done refl r
+    go (Refused n line) x = early x
+
+sizes-good : (b : Lent) → Demand1 sizes b (sizesBack b (readFile (b .file) .verdict) (sizesOf (programIn b)))
+unfolding firstMet
+sizes-good b = go (readFile (b .file) .verdict) (file-judged sizes b)
+  where
+    go : (v : Verdict) → Judged sizes b [] v → Demand1 sizes b (sizesBack b v (sizesOf (programIn b)))
     go Accepted r = done refl r
     go (Refused n line) x = early x
 
@@ -185,95 +213,138 @@ marks-judged : (e : Entry) (b : Lent) (final : List Row) → rows e b ≡ marksR
     → Judged e b final (checkedMarks (b .file) (b .marks) (b .work))
 marks-judged e b = checked-judged e b (Of (length (b .marks))) NotAsked (Of (length (b .work)))
 
+-- a working buffer that passes has as many bytes as there are numbers
+pub work-zeroed : (file marks work : List ℕ) → workAfter file marks work ≡ onSuccess (checkedMarks file marks work) (zeroed work) work
+unfolding workAfter none-set
+work-zeroed file marks work = go (checkedMarks file marks work) refl
+  where
+    go : (v : Verdict) → checkedMarks file marks work ≡ v → onSuccess v (none-set (sizesOf (readFile file .program))) work ≡ onSuccess v (zeroed work) work
+    go Accepted h = ap (λ (n : ℕ). replicate n 0) (sym (passes file (Of (length marks)) NotAsked (Of (length work)) h .sized .work-length))
+    go (Refused n line) h = refl
+
 analyze-good : (b : Lent)
     → Demand1 analyze b (analyzeBack b (analyzeAnswer (b .file) (b .marks) (b .work) (b .limit)) (marksAfter (b .file) (b .marks) (b .work) (b .limit)) (workAfter (b .file) (b .marks) (b .work)))
-unfolding analyzeAnswer marksAfter workAfter firstMet
-analyze-good b = go (checkedMarks (b .file) (b .marks) (b .work)) (marks-judged analyze b (limitRow (programIn b) (b .limit) ∷ []) refl)
+unfolding analyzeAnswer marksAfter firstMet
+analyze-good b = rw (work-zeroed (b .file) (b .marks) (b .work)) (go (checkedMarks (b .file) (b .marks) (b .work)) (marks-judged analyze b (limitRow (programIn b) (b .limit) ∷ []) refl))
   where
     p : Program
     p = programIn b
 
     within : (t : Bool) → Returned analyze b (cond t 22 0) 0
-        → Demand1 analyze b (analyzeBack b (analyzeBy (verdictOf (cond t 22 0)) p) (onSuccess (verdictOf (cond t 22 0)) (freshMarks p) (b .marks)) none-set)
-    within true r = late r (inr (inr refl, refl, refl, refl))
+        → Demand1 analyze b (analyzeBack b (analyzeBy (verdictOf (cond t 22 0)) p) (onSuccess (verdictOf (cond t 22 0)) (freshMarks p) (b .marks)) (zeroed (b .work)))
+    within true r = late r (inr (spares (inr refl)))
     within false r = late r (inl refl)
 
     go : (v : Verdict) → Judged analyze b (limitRow p (b .limit) ∷ []) v
         → let w = followedBy v (limited p (b .limit)) in
-        Demand1 analyze b (analyzeBack b (analyzeBy w p) (onSuccess w (freshMarks p) (b .marks)) (onSuccess v none-set (b .work)))
+        Demand1 analyze b (analyzeBack b (analyzeBy w p) (onSuccess w (freshMarks p) (b .marks)) (onSuccess v (zeroed (b .work)) (b .work)))
     go Accepted r = within (ltb (b .limit) (analysis p .iterations)) r
     go (Refused n line) x = early x
 
 prune-good : (b : Lent) (marks : List ℕ) → Pruned (checkedMarks (b .file) (b .marks) (b .work)) (programIn b) (b .marks) marks
     → Demand1 prune b (pruneBack b (checkedMarks (b .file) (b .marks) (b .work)) marks (workAfter (b .file) (b .marks) (b .work)))
-unfolding workAfter firstMet
-prune-good b marks = go (checkedMarks (b .file) (b .marks) (b .work)) (marks-judged prune b [] refl)
+unfolding firstMet
+prune-good b marks = rw (work-zeroed (b .file) (b .marks) (b .work)) (go (checkedMarks (b .file) (b .marks) (b .work)) (marks-judged prune b [] refl))
   where
-    go : (v : Verdict) → Judged prune b [] v → Pruned v (programIn b) (b .marks) marks → Demand1 prune b (pruneBack b v marks (onSuccess v none-set (b .work)))
+    go : (v : Verdict) → Judged prune b [] v → Pruned v (programIn b) (b .marks) marks → Demand1 prune b (pruneBack b v marks (onSuccess v (zeroed (b .work)) (b .work)))
     go Accepted r k = late r (inl refl)
     go (Refused n line) x k = subst (λ m. Demand1 prune b (pruneBack b (Refused n line) m (b .work))) (sym k) (early x)
 
 next-good : (b : Lent) → Demand1 next-violation b (nextBack b (nextAnswer (b .file) (b .marks) (b .work) (b .from)) (workAfter (b .file) (b .marks) (b .work)))
-unfolding nextAnswer workAfter firstMet
-next-good b = go (checkedMarks (b .file) (b .marks) (b .work)) (marks-judged next-violation b (foreignRow (programIn b) (b .marks) ∷ []) refl)
+unfolding nextAnswer firstMet
+next-good b =
+    rw (work-zeroed (b .file) (b .marks) (b .work))
+    (go (checkedMarks (b .file) (b .marks) (b .work)) (marks-judged next-violation b (foreignRow (programIn b) (b .marks) ∷ []) refl))
   where
-    found : (o : Option ℕ) → Returned next-violation b 0 0 → Demand1 next-violation b (nextBack b (foundOf o) none-set)
+    found : (o : Option ℕ) → Returned next-violation b 0 0 → Demand1 next-violation b (nextBack b (foundOf o) (zeroed (b .work)))
     found none r = late r (inl refl)
     found (some i) r = late r (inl refl)
 
-    own : (t : Bool) (o : Option ℕ) → Returned next-violation b (cond (not t) 17 0) 0 → Demand1 next-violation b (nextBack b (foundBy (verdictOf (cond (not t) 17 0)) o) none-set)
+    own : (t : Bool) (o : Option ℕ) → Returned next-violation b (cond (not t) 17 0) 0 → Demand1 next-violation b (nextBack b (foundBy (verdictOf (cond (not t) 17 0)) o) (zeroed (b .work)))
     own true o r = found o r
-    own false o r = late r (inr (inl refl, refl, refl, refl))
+    own false o r = late r (inr (spares (inl refl)))
 
     go : (v : Verdict) → Judged next-violation b (foreignRow (programIn b) (b .marks) ∷ []) v
-        → Demand1 next-violation b (nextBack b (nextBy v (programIn b) (b .marks) (b .from)) (onSuccess v none-set (b .work)))
+        → Demand1 next-violation b (nextBack b (nextBy v (programIn b) (b .marks) (b .from)) (onSuccess v (zeroed (b .work)) (b .work)))
     go Accepted r = own (same (b .marks) (freshMarks (programIn b))) (firstFrom (b .from) (violations (programIn b))) r
+    go (Refused n line) x = early x
+
+-- ---- exchange_sizes
+
+room-good : (b : Lent) → Demand1 exchange-sizes b (roomBack b (roomAnswer (b .file) (b .text)))
+unfolding roomAnswer roomWanted wantedExchange exchangeFrom
+room-good b = go (readFile (b .file) .verdict) (file-judged exchange-sizes b)
+  where
+    p : Program
+    p = programIn b
+
+    ls : List Line
+    ls = textLines (b .text)
+
+    wanted : (t : Bool) → eqb (firstMet (exchangeRows p ls)) 0 ≡ t → Returned exchange-sizes b (firstMet (exchangeRows p ls)) 0
+        → Demand1 exchange-sizes b (roomBack b (cond t (roomOf (exchangeIn ls) p) (room.Refused (firstMet (exchangeRows p ls)) 0)))
+    wanted true h r = done refl (subst (λ n. Returned exchange-sizes b n 0) (eqb-true _ 0 h) r)
+    wanted false h r = early (change-early ExchangeText p (ap (λ (t : Bool). cond t (change.Read (change.whole (exchangeIn ls))) (change.Refused (firstMet (exchangeRows p ls)))) h) r)
+
+    go : (v : Verdict) → Judged exchange-sizes b (exchangeRows p ls) v → Demand1 exchange-sizes b (roomBack b (roomBy v p (b .text)))
+    go Accepted r = wanted (eqb (firstMet (exchangeRows p ls)) 0) refl r
     go (Refused n line) x = early x
 
 -- ---- the repairs
 
 module _ (k : Form) (e : Entry) (b : Lent) (h : rows e b ≡ repairRows k b) where
-  -- what is left to check after the lengths
+  -- what is left to check after the line or text, and after the first lengths
+  abbrev last : List Row
+  last = laterRows k (programIn b) (b .text) (length (b .second)) (length (b .work)) ++ foreignRow (programIn b) (b .marks) ∷ []
+
   abbrev left : List Row
-  left = changeRows k (programIn b) (b .text) ++ foreignRow (programIn b) (b .marks) ∷ []
+  left = changeRows k (programIn b) (b .text) ++ last
 
   -- whatever routines are answered, if none are on a refusal
   repair-good : (routines : ℕ) → (writeRefusal (repairedIn k b .answer) ≢ 0 → routines ≡ 0) → Demand1 e b (repairBack (repairedIn k b) routines)
   unfolding repaired firstMet
   repair-good routines =
-      go (checkedRepair (b .file) (b .marks) (b .output) (b .work))
-      (checked-judged e b (Of (length (b .marks))) (Of (length (b .output))) (Of (length (b .work))) left h)
+      go (checkedRepair k (b .file) (b .marks) (b .output) (b .work))
+      (checked-judged e b (Of (length (b .marks))) (Of (length (b .output))) (workFirst k (length (b .work))) left h)
     where
-      no-routines : routines ≡ 0 → repairing 0 routines ≡ noValues
-      no-routines z = ap (repairing 0) z
+      p : Program
+      p = programIn b
 
-      refuses : {n line : ℕ} → Early e b n line → (n ≢ 0 → routines ≡ 0)
-          → Demand1 e b (record { refusal = n; line = line; values = repairing 0 routines; marks = b .marks; output = b .output; work = b .work })
-      refuses {n} {line} x z =
-          subst (λ v. Demand1 e b (record { refusal = n; line = line; values = v; marks = b .marks; output = b .output; work = b .work }))
-          (sym (no-routines (z (x .some-number)))) (early x)
+      -- what is to be shown of an answer
+      Good : After → Type 0
+      Good a = (writeRefusal (a .answer) ≢ 0 → routines ≡ 0) → Demand1 e b (repairBack a routines)
 
-      changed : (p : Program) (t : Bool) → Returned e b (cond (not t) 17 0) 0
-          → (writeRefusal (ownedBy (verdictOf (cond (not t) 17 0)) p (b .marks) (b .output) .answer) ≢ 0 → routines ≡ 0)
-          → Demand1 e b (repairBack (ownedBy (verdictOf (cond (not t) 17 0)) p (b .marks) (b .output)) routines)
-      changed p true r z = late r (inl refl)
-      changed p false r z = late r (inr (inl refl, no-routines (z (not-equal refl)), refl, refl))
+      refuses : {n line : ℕ} → Early e b n line → Good (untouched n line (b .marks) (b .output) (b .work) (b .second))
+      refuses {n} {line} x z = subst (λ m. Demand1 e b (repairBack (untouched n line (b .marks) (b .output) (b .work) (b .second)) m)) (sym (z (x .some-number))) (early x)
 
-      wanted : (w : ChangeRead) → wantedChange k (programIn b) (b .text) ≡ w → Returned e b (numberThen w (firstMet (foreignRow (programIn b) (b .marks) ∷ []))) 0
-          → (writeRefusal (wantedBy w (programIn b) (b .marks) (b .output) (b .work) .answer) ≢ 0 → routines ≡ 0)
-          → Demand1 e b (repairBack (wantedBy w (programIn b) (b .marks) (b .output) (b .work)) routines)
-      wanted (change.Read c) i r z = changed (changedProgram c (programIn b)) (same (b .marks) (freshMarks (programIn b))) r z
-      wanted (change.Refused n) i r z =
-          let x = change-number k (programIn b) (b .text) n i in
-          refuses (record { returned = r; some-number = λ y. absurd (omega (arith, x .0)); before-17 = x .2; below-22 = omega (arith, x .1) }) z
+      mended : (c : Change) (q : Program) → Returned e b 0 0 → Good (repairedTo c q (b .marks) (b .output) (b .work) (b .second))
+      mended (change.step x) q r z = late r (inl refl)
+      mended (change.whole x) q r z = late r (inl refl)
 
-      go : (v : Verdict) → Judged e b left v
-          → (writeRefusal (repairedBy k v (programIn b) (b .marks) (b .text) (b .output) (b .work) .answer) ≢ 0 → routines ≡ 0)
-          → Demand1 e b (repairBack (repairedBy k v (programIn b) (b .marks) (b .text) (b .output) (b .work)) routines)
-      go Accepted r z =
-          wanted (wantedChange k (programIn b) (b .text)) refl
-          (subst (λ n. Returned e b n 0) (change-told k (programIn b) (b .text) (foreignRow (programIn b) (b .marks))) r) z
-      go (Refused n line) x z = refuses x z
+      changed : (c : Change) (q : Program) (t : Bool) → Returned e b (cond (not t) 17 0) 0
+          → Good (ownedBy (verdictOf (cond (not t) 17 0)) c q (b .marks) (b .output) (b .work) (b .second))
+      changed c q true r z = mended c q r z
+      changed c q false r z =
+          subst (λ m. Demand1 e b (repairBack (foreign 17 0 (b .marks) (b .output) (b .work) (b .second)) m)) (sym (z (not-equal refl))) (late r (inr (spares (inl refl))))
+
+      measures : (c : Change) (rs : List Row) (v : Verdict) → MeasuredAs rs v → Returned e b (firstMet (rs ++ foreignRow p (b .marks) ∷ [])) 0
+          → Good (measuredBy v c p (b .marks) (b .output) (b .work) (b .second))
+      measures c rs v (fitting f) r z =
+          changed c (changedProgram c p) (same (b .marks) (freshMarks p)) (subst (λ n. Returned e b n 0) (f (foreignRow p (b .marks) ∷ [])) r) z
+      measures c rs v (unfit low high f) r z =
+          refuses (length-early low high (subst (λ n. Returned e b n 0) (f (foreignRow p (b .marks) ∷ [])) r)) z
+
+      wanted : (w : ChangeRead) → wantedChange k p (b .text) ≡ w → Returned e b (numberThen w (firstMet last)) 0
+          → Good (wantedBy w p (b .marks) (b .output) (b .work) (b .second))
+      wanted (change.Read c) i r =
+          let rs = measuredRows c p (length (b .second)) (length (b .work)) in
+          measures c rs (verdictOf (firstMet rs)) (measured-told c p (length (b .second)) (length (b .work)))
+          (subst (λ (l : List Row). Returned e b (firstMet (l ++ foreignRow p (b .marks) ∷ [])) 0) (later-told (form-read k p (b .text) c i) p (length (b .second)) (length (b .work))) r)
+      wanted (change.Refused n) i r = refuses (change-early k p i r)
+
+      go : (v : Verdict) → Judged e b left v → Good (repairedBy k v p (b .marks) (b .text) (b .output) (b .work) (b .second))
+      go Accepted r = wanted (wantedChange k p (b .text)) refl (subst (λ n. Returned e b n 0) (change-told k p (b .text) last) r)
+      go (Refused n line) x = refuses x
 
   forward-good : (a : Back) → RepairGives k b a → Demand1 e b a
   forward-good a g = subst (Demand1 e b) (sym g) (repair-good 0 (λ x. refl))
@@ -291,11 +362,38 @@ module _ (k : Form) (e : Entry) (b : Lent) (h : rows e b ≡ repairRows k b) whe
 
 pub gives-demanded : (e : Entry) (b : Lent) (a : Back) → Gives e b a → Demand1 e b a
 gives-demanded reads b a g = subst (Demand1 reads b) (sym g) (read-good b)
+gives-demanded sizes b a g = subst (Demand1 sizes b) (sym g) (sizes-good b)
 gives-demanded write b a g = subst (Demand1 write b) (sym g) (write-good b)
 gives-demanded analyze b a g = subst (Demand1 analyze b) (sym g) (analyze-good b)
 gives-demanded next-violation b a g = subst (Demand1 next-violation b) (sym g) (next-good b)
 gives-demanded prune b a g = subst (Demand1 prune b) (sym (g .0)) (prune-good b (a .marks) (g .1))
 gives-demanded repair-forward b a g = forward-good EditLine repair-forward b refl a g
 gives-demanded repair-inside-out b a g = inside-out-good EditLine repair-inside-out b refl a g
+gives-demanded exchange-sizes b a g = subst (Demand1 exchange-sizes b) (sym g) (room-good b)
 gives-demanded exchange-forward b a g = forward-good ExchangeText exchange-forward b refl a g
 gives-demanded exchange-inside-out b a g = inside-out-good ExchangeText exchange-inside-out b refl a g
+
+-- ---- a call that is not refused
+
+-- it meets no row, and neither does its file
+pub record Unrefused (e : Entry) (b : Lent) : Type 0 where
+  pub good-file : (n line : ℕ) → ¬ (FaultyFile (b .file) n line)
+  pub no-row : firstMet (rows e b) ≡ 0
+
+pub unrefused : (e : Entry) (b : Lent) (a : Back) → Gives e b a → a .refusal ≡ 0 → Unrefused e b
+unrefused e b a g z = go (gives-demanded e b a g .returned) z
+  where
+    go : {n line : ℕ} → Returned e b n line → n ≡ 0 → Unrefused e b
+    go (of-the-file f) h = absurd (faulty-number f h)
+    go (of-the-rest f) h = record { good-file = f; no-row = h }
+
+pub accepted-file : {e : Entry} {b : Lent} → Unrefused e b → readFile (b .file) .verdict ≡ Accepted
+accepted-file {e} {b} u = go (readFile (b .file) .verdict) (file-told (b .file))
+  where
+    go : (v : Verdict) → SaysFile (b .file) v → v ≡ Accepted
+    go Accepted t = refl
+    go (Refused n line) t = absurd (u .good-file n line t)
+
+-- where a file is good, another function's number is that of its rows
+pub number-of-rows : {e : Entry} {b : Lent} → Unrefused e b → (f : Entry) (a : Back) → Gives f b a → a .refusal ≡ firstMet (rows f b)
+number-of-rows {b = b} u f a g = sym (gives-demanded f b a g .no-other (firstMet (rows f b)) 0 (of-the-rest (u .good-file)) .0)

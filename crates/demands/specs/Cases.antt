@@ -1,5 +1,6 @@
 -- The paper's cases P1 to P10, E1 to E4 for exchanges of a routine, H1 to H6 for calls and returns that the rule hears,
--- and L1 to L4 for a limit, each from the bytes of its file, and of its edit line or text where it has one: one table.
+-- L1 to L4 for a limit, and S1 to S8 for the sizes that a program chooses, each from the bytes of its file, and of its
+-- edit line or text where it has one: one table.
 use mathlib.Core.Path.{_≡_}
 use mathlib.Core.Option.{Option, none, some}
 use mathlib.Core.List.{List, [], _∷_, _++_}
@@ -8,96 +9,128 @@ use Prim.Native.String.{String}
 use lib.ListN.{length, drop, set, replicate}
 use Rattle.program.specs.Sample.{bytes, header, edges, transitions, F}
 use Rattle.program.specs.Sizes.{outputSize}
-use Rattle.reach.specs.Configurations.{none-set}
 use Rattle.reach.specs.Marks.{violations}
-use Rattle.exchange.specs.declared.Form.{Form}
-use Rattle.exchange.specs.declared.Form.the-variants.{EditLine, ExchangeText}
-use Rattle.desk.specs.Entries.{analyze, Lent, Back, programIn, Gives}
+use Rattle.exchange.specs.Changes.{Form, EditLine, ExchangeText}
+use Rattle.exchange.specs.Lengths.{longer}
+use Rattle.desk.specs.Entries.{Entry, sizes, analyze, exchange-sizes, Lent, Room, Back, programIn, Gives}
 use Rattle.demands.specs.Demands.{noLimit}
 use Rattle.demands.specs.Lists.{entry}
 use Rattle.demands.specs.Lists as repair
 
 -- ---- what a row says
 
--- a file, by its lines, that is analyzed in full, and what is expected: these configurations and no others are marked,
--- these are the violations, and so many iterations are made; none where the row says nothing of it
+-- a file, by its lines, that is analyzed in full with so many bytes of marks, and what is expected: these
+-- configurations and no others are marked, these are the violations, and so many iterations are made; none where the
+-- row says nothing of it
 pub record Fresh : Type 0 where
   pub file : List String
+  pub size : ℕ
   pub configurations : Option (List ℕ)
   pub violating : Option (List ℕ)
   pub iterations : Option ℕ
 
--- a file, by its lines, the configurations of its own marks, and an edit line or the lines of an exchange's text; and
--- what is expected: the refusal's number, 0 for none, the configurations that are marked afterwards, the lines that are
--- written, and the reanalyzed routines, a bit each; none where the row says nothing of them
+-- a file, by its lines, so many bytes of marks, the configurations of its own marks, an edit line or the lines of an
+-- exchange's text, and the length of an exchange's second buffer; and what is expected: the refusal's number, 0 for
+-- none, the configurations that are marked afterwards, those that the second buffer marks, the lines that are written,
+-- and the reanalyzed routines, a bit each; none where the second buffer stays, and where the row says nothing of the
+-- routines
 pub record Changed : Type 0 where
   pub file : List String
+  pub size : ℕ
   pub before : List ℕ
   pub form : Form
   pub text : List String
+  pub room : ℕ
   pub refused : ℕ
   pub after : List ℕ
+  pub second : Option (List ℕ)
   pub wrote : List String
   pub reanalyzed : Option ℕ
 
--- a file, by its lines, that is analyzed with a limit, and the configurations that are marked before; and what is
--- expected: the refusal's number, 0 for none, the configurations that are marked afterwards, and the iterations told
+-- a file, by its lines, that is analyzed with a limit and so many bytes of marks, and the configurations that are
+-- marked before; and what is expected: the refusal's number, 0 for none, the configurations that are marked afterwards,
+-- and the iterations told
 pub record Limited : Type 0 where
   pub file : List String
+  pub size : ℕ
   pub limit : ℕ
   pub before : List ℕ
   pub refused : ℕ
   pub after : List ℕ
   pub iterations : ℕ
 
+-- a file, by its lines, whose sizes are asked for, or with the lines of a text what this exchange has to be lent; and
+-- what is expected: the refusal's number, 0 for none, its line, and the sizes and lengths told
+pub record Asked : Type 0 where
+  pub file : List String
+  pub text : Option (List String)
+  pub refused : ℕ
+  pub line : ℕ
+  pub room : Room
+
 pub data Case : Type 0 where
   fresh : Fresh → Case
   changed : Changed → Case
   limited : Limited → Case
+  asked : Asked → Case
 
 -- ---- what it means
 
--- the marks with a 1 at these numbers and 0 elsewhere
-abbrev pub marksAt : List ℕ → List ℕ
-marksAt [] = none-set
-marksAt (i ∷ is) = set (marksAt is) i 1
+-- so many marks with a 1 at these numbers and 0 elsewhere
+abbrev pub marksAt : ℕ → List ℕ → List ℕ
+marksAt size [] = replicate size 0
+marksAt size (i ∷ is) = set (marksAt size is) i 1
+
+-- a second buffer as it is lent, with anything in it
+abbrev pub anything : ℕ → List ℕ
+anything room = replicate room 7
+
+-- and as it is afterwards
+abbrev pub secondAfter : ℕ → Option (List ℕ) → List ℕ
+secondAfter room none = anything room
+secondAfter room (some is) = marksAt room is
 
 -- what is expected holds; nothing is asked where nothing is expected
 abbrev pub Said : {A : Type 0} → (A → Type 0) → Option A → Type 0
 Said P none = Unit {0}
 Said P (some x) = P x
 
--- what is lent: a file by its lines, marks, an edit line or a text, an output and a working buffer of zeros, a limit
-abbrev pub lentWith : List String → List ℕ → List ℕ → ℕ → Lent
-lentWith file marks text limit = record {
+-- what is lent: a file by its lines, marks, an edit line or a text, an output of zeros, a working buffer of so many
+-- zeros, a second buffer of so many bytes, a limit
+abbrev pub lentWith : List String → List ℕ → List ℕ → ℕ → ℕ → ℕ → Lent
+lentWith file marks text work second limit = record {
   file = bytes file;
   marks = marks;
   text = text;
   output = replicate outputSize 0;
-  work = none-set;
+  work = replicate work 0;
+  second = anything second;
   limit = limit;
   from = 0;
 }
 
 abbrev pub lentFresh : Fresh → Lent
-lentFresh c = lentWith (c .file) none-set [] noLimit
+lentFresh c = lentWith (c .file) (marksAt (c .size) []) [] (c .size) 0 noLimit
 
 -- what a full analysis gives back is as expected: the file is accepted, and so on
 pub record Analyzed (c : Fresh) (a : Back) : Type 0 where
   pub accepted : a .refusal ≡ 0
-  pub marks : Said (λ is. a .marks ≡ marksAt is) (c .configurations)
+  pub marks : Said (λ is. a .marks ≡ marksAt (c .size) is) (c .configurations)
   pub violating : Said (λ is. (violations (programIn (lentFresh c)) ≡ is)
       × (a .values .violations ≡ length is)) (c .violating)
   pub iterations : Said (λ n. a .values .iterations ≡ n) (c .iterations)
 
+-- the working buffer has the longer of the two lengths
 abbrev pub lentChange : Changed → Lent
-lentChange c = lentWith (c .file) (marksAt (c .before)) (bytes (c .text)) 0
+lentChange c =
+    lentWith (c .file) (marksAt (c .size) (c .before)) (bytes (c .text)) (longer (c .size) (c .room)) (c .room) 0
 
--- what a repair gives back is as expected: the refusal and the marks; the lines that are written stand at the start of
--- the output, whose other bytes stay
+-- what a repair gives back is as expected: the refusal, the marks and the second buffer; the lines that are written
+-- stand at the start of the output, whose other bytes stay
 pub record Repaired (c : Changed) (a : Back) : Type 0 where
   pub refused : a .refusal ≡ c .refused
-  pub marks : a .marks ≡ marksAt (c .after)
+  pub marks : a .marks ≡ marksAt (c .size) (c .after)
+  pub second : a .second ≡ secondAfter (c .room) (c .second)
   pub size : a .values .written ≡ length (bytes (c .wrote))
   pub output : a .output ≡ bytes (c .wrote) ++ drop (length (bytes (c .wrote))) (lentChange c .output)
 
@@ -109,18 +142,37 @@ pub record RepairedBoth (c : Changed) : Type 0 where
       → Said (λ n. a .values .reanalyzed ≡ n) (c .reanalyzed)
 
 abbrev pub lentLimited : Limited → Lent
-lentLimited c = lentWith (c .file) (marksAt (c .before)) [] (c .limit)
+lentLimited c = lentWith (c .file) (marksAt (c .size) (c .before)) [] (c .size) 0 (c .limit)
 
 -- what an analysis with a limit gives back is as expected
 pub record Tried (c : Limited) (a : Back) : Type 0 where
   pub refused : a .refusal ≡ c .refused
-  pub marks : a .marks ≡ marksAt (c .after)
+  pub marks : a .marks ≡ marksAt (c .size) (c .after)
   pub iterations : a .values .iterations ≡ c .iterations
+
+-- no buffer is lent to a call that asks
+abbrev pub textOf : Option (List String) → List String
+textOf none = []
+textOf (some ls) = ls
+
+abbrev pub lentAsked : Asked → Lent
+lentAsked c = lentWith (c .file) [] (bytes (textOf (c .text))) 0 0 0
+
+-- what is told is as expected
+pub record Told (c : Asked) (a : Back) : Type 0 where
+  pub refused : a .refusal ≡ c .refused
+  pub line : a .line ≡ c .line
+  pub room : a .values .room ≡ c .room
+
+abbrev pub asking : Option (List String) → Entry
+asking none = sizes
+asking (some ls) = exchange-sizes
 
 abbrev pub Holds : Case → Type 0
 Holds (fresh c) = (a : Back) → Gives analyze (lentFresh c) a → Analyzed c a
 Holds (changed c) = RepairedBoth c
 Holds (limited c) = (a : Back) → Gives analyze (lentLimited c) a → Tried c a
+Holds (asked c) = (a : Back) → Gives (asking (c .text)) (lentAsked c) a → Told c a
 
 -- ---- the rows
 
@@ -130,45 +182,50 @@ with steps rest = header ++ steps ++ transitions ++ rest
 
 -- the configurations of F
 abbrev pub ofF : List ℕ
-ofF = 0 ∷ 65 ∷ 129 ∷ 1024 ∷ 1089 ∷ []
+ofF = 0 ∷ 10 ∷ 19 ∷ 27 ∷ 37 ∷ []
 
--- P1: F has configurations 0, 65, 129, 1024, 1089
+-- P1: F has configurations 0, 10, 19, 27, 37
 abbrev pub P1 : Fresh
-P1 = record { file = F; configurations = some ofF; violating = some []; iterations = none }
+P1 = record { file = F; size = 54; configurations = some ofF; violating = some []; iterations = none }
 
 -- P2: it takes 6 iterations
 abbrev pub P2 : Fresh
-P2 = record { file = F; configurations = none; violating = none; iterations = some 6 }
+P2 = record { file = F; size = 54; configurations = none; violating = none; iterations = some 6 }
 
 -- P3: F with no initial state: no mark, 0 iterations
 abbrev pub P3 : Fresh
 P3 = record {
   file = with edges ("4602" ∷ "45000B" ∷ []);
+  size = 54;
   configurations = some [];
   violating = some [];
   iterations = some 0;
 }
 
--- P4: F with state 0 rejecting too: the violations are 0 and 1024 only
+-- P4: F with state 0 rejecting too: the violations are 0 and 27 only
 abbrev pub P4 : Fresh
 P4 =
     record {
       file = with edges ("4900" ∷ "4600" ∷ "4602" ∷ "45000D" ∷ []);
+      size = 54;
       configurations = some ofF;
-      violating = some (0 ∷ 1024 ∷ []);
+      violating = some (0 ∷ 27 ∷ []);
       iterations = some 6;
     }
 
--- P5: dropping 01 00 00 01 from F leaves 0 and 1024; reanalyzed are 0 and 1
+-- P5: dropping 01 00 00 01 from F leaves 0 and 27; reanalyzed are 0 and 1
 abbrev pub P5 : Changed
 P5 =
     record {
       file = F;
+      size = 54;
       before = ofF;
       form = EditLine;
       text = "2D01000001" ∷ [];
+      room = 0;
       refused = 0;
-      after = 0 ∷ 1024 ∷ [];
+      after = 0 ∷ 27 ∷ [];
+      second = none;
       wrote = with ("5300004102" ∷ "5300020101" ∷ []) ("4900" ∷ "4602" ∷ "45000B" ∷ []);
       reanalyzed = some 3;
     }
@@ -178,11 +235,14 @@ abbrev pub P6 : Changed
 P6 =
     record {
       file = F;
+      size = 54;
       before = ofF;
       form = EditLine;
       text = "2D00004102" ∷ [];
+      room = 0;
       refused = 0;
       after = 0 ∷ [];
+      second = none;
       wrote = with ("5300020101" ∷ "5301000001" ∷ []) ("4900" ∷ "4602" ∷ "45000B" ∷ []);
       reanalyzed = some 1;
     }
@@ -191,6 +251,7 @@ P6 =
 abbrev pub P7 : Fresh
 P7 = record {
   file = with ("5300004001" ∷ []) ("4900" ∷ "4602" ∷ "45000A" ∷ []);
+  size = 54;
   configurations = some (0 ∷ []);
   violating = some [];
   iterations = some 1;
@@ -201,11 +262,14 @@ abbrev pub P8 : Changed
 P8 =
     record {
       file = P6 .wrote;
+      size = 54;
       before = P6 .after;
       form = EditLine;
       text = "2B01000101" ∷ [];
+      room = 0;
       refused = 0;
       after = P6 .after;
+      second = none;
       wrote = with ("5300020101" ∷ "5301000001" ∷ "5301000101" ∷ []) ("4900" ∷ "4602" ∷ "45000C" ∷ []);
       reanalyzed = none;
     }
@@ -214,11 +278,14 @@ P8 =
 abbrev pub P9 : Changed
 P9 = record {
   file = F;
+  size = 54;
   before = ofF;
   form = EditLine;
   text = "3D0000410241" ∷ [];
+  room = 0;
   refused = 15;
   after = ofF;
+  second = none;
   wrote = [];
   reanalyzed = none;
 }
@@ -227,26 +294,33 @@ P9 = record {
 abbrev pub P10 : Changed
 P10 = record {
   file = F;
+  size = 54;
   before = ofF;
   form = EditLine;
   text = "2D00000102" ∷ [];
+  room = 0;
   refused = 14;
   after = ofF;
+  second = none;
   wrote = [];
   reanalyzed = none;
 }
 
 -- ---- exchanges of a routine of F
 
--- E1: routine 1 exchanged for itself changes no byte; reanalyzed are 0 and 1
+-- E1: routine 1 exchanged for itself gives the same file and, in the second buffer, the same marks; reanalyzed are 0
+-- and 1
 abbrev pub E1 : Changed
 E1 = record {
   file = F;
+  size = 54;
   before = ofF;
   form = ExchangeText;
   text = "520102" ∷ "5301000001" ∷ [];
+  room = 54;
   refused = 0;
   after = ofF;
+  second = some ofF;
   wrote = F;
   reanalyzed = some 3;
 }
@@ -256,11 +330,14 @@ abbrev pub E2 : Changed
 E2 =
     record {
       file = F;
+      size = 54;
       before = ofF;
       form = ExchangeText;
       text = "520103" ∷ "5301000002" ∷ "5301020001" ∷ [];
+      room = 54;
       refused = 0;
-      after = 0 ∷ 65 ∷ 129 ∷ 1024 ∷ 1089 ∷ 1153 ∷ [];
+      after = ofF;
+      second = some (0 ∷ 10 ∷ 19 ∷ 27 ∷ 37 ∷ 46 ∷ []);
       wrote =
           "50020302" ∷ "520003" ∷ "520103" ∷ "5300004102" ∷ "5300020101" ∷ "5301000002" ∷ "5301020001"
           ∷ transitions ++ "4900" ∷ "4602" ∷ "45000D" ∷ [];
@@ -271,11 +348,14 @@ E2 =
 abbrev pub E3 : Changed
 E3 = record {
   file = F;
+  size = 54;
   before = ofF;
   form = ExchangeText;
   text = "520002" ∷ "5300004102" ∷ [];
+  room = 54;
   refused = 13;
   after = ofF;
+  second = none;
   wrote = [];
   reanalyzed = none;
 }
@@ -284,11 +364,14 @@ E3 = record {
 abbrev pub E4 : Changed
 E4 = record {
   file = F;
+  size = 54;
   before = ofF;
   form = ExchangeText;
   text = "520003" ∷ "520102" ∷ [];
+  room = 54;
   refused = 21;
   after = ofF;
+  second = none;
   wrote = [];
   reanalyzed = none;
 }
@@ -304,7 +387,8 @@ abbrev pub H1 : Fresh
 H1 =
     record {
       file = hearing ("54000001" ∷ "54000102" ∷ "54004101" ∷ "54010001" ∷ "54010101" ∷ []) "45000D";
-      configurations = some (0 ∷ 65 ∷ 129 ∷ 1033 ∷ 1097 ∷ []);
+      size = 54;
+      configurations = some (0 ∷ 10 ∷ 19 ∷ 31 ∷ 40 ∷ []);
       violating = some [];
       iterations = some 6;
     }
@@ -314,6 +398,7 @@ abbrev pub H2 : Fresh
 H2 =
     record {
       file = hearing ("54000001" ∷ "54000102" ∷ "54010001" ∷ "54010101" ∷ "54014101" ∷ []) "45000D";
+      size = 54;
       configurations = some (0 ∷ []);
       violating = some [];
       iterations = some 1;
@@ -324,8 +409,9 @@ abbrev pub H3 : Fresh
 H3 =
     record {
       file = hearing ("54000001" ∷ "54000102" ∷ "54010001" ∷ "54010101" ∷ "54016100" ∷ "54016102" ∷ []) "45000E";
-      configurations = some (0 ∷ 66 ∷ 128 ∷ 130 ∷ 1024 ∷ 1089 ∷ []);
-      violating = some (66 ∷ 130 ∷ []);
+      size = 54;
+      configurations = some (0 ∷ 11 ∷ 18 ∷ 20 ∷ 27 ∷ 37 ∷ []);
+      violating = some (11 ∷ 20 ∷ []);
       iterations = some 7;
     }
 
@@ -334,7 +420,8 @@ abbrev pub H4 : Fresh
 H4 =
     record {
       file = hearing ("54000001" ∷ "54000102" ∷ "54006100" ∷ "54010001" ∷ "54010101" ∷ []) "45000D";
-      configurations = some (0 ∷ 1024 ∷ 1089 ∷ []);
+      size = 54;
+      configurations = some (0 ∷ 27 ∷ 37 ∷ []);
       violating = some [];
       iterations = some 4;
     }
@@ -344,11 +431,14 @@ abbrev pub H5 : Changed
 H5 =
     record {
       file = H1 .file;
-      before = 0 ∷ 65 ∷ 129 ∷ 1033 ∷ 1097 ∷ [];
+      size = 54;
+      before = 0 ∷ 10 ∷ 19 ∷ 31 ∷ 40 ∷ [];
       form = EditLine;
       text = "2D01000001" ∷ [];
+      room = 0;
       refused = 0;
-      after = 0 ∷ 1033 ∷ [];
+      after = 0 ∷ 31 ∷ [];
+      second = none;
       wrote =
           header ++ "5300004102" ∷ "5300020101" ∷ "54000001" ∷ "54000102" ∷ "54004101" ∷ "54010001" ∷ "54010101"
           ∷ "4900" ∷ "4602" ∷ "45000C" ∷ [];
@@ -359,11 +449,14 @@ H5 =
 abbrev pub H6 : Changed
 H6 = record {
   file = F;
+  size = 54;
   before = ofF;
   form = EditLine;
   text = "2B00026101" ∷ [];
+  room = 0;
   refused = 13;
   after = ofF;
+  second = none;
   wrote = [];
   reanalyzed = none;
 }
@@ -372,19 +465,138 @@ H6 = record {
 
 -- L1: F takes 6 iterations, and a limit of 6 is enough
 abbrev pub L1 : Limited
-L1 = record { file = F; limit = 6; before = 7 ∷ []; refused = 0; after = ofF; iterations = 6 }
+L1 = record { file = F; size = 54; limit = 6; before = 7 ∷ []; refused = 0; after = ofF; iterations = 6 }
 
 -- L2: 5 are too few: the marks are as they were, and no count is told
 abbrev pub L2 : Limited
-L2 = record { file = F; limit = 5; before = 7 ∷ []; refused = 22; after = 7 ∷ []; iterations = 0 }
+L2 = record { file = F; size = 54; limit = 5; before = 7 ∷ []; refused = 22; after = 7 ∷ []; iterations = 0 }
 
 -- L3: with no initial state nothing is taken, and 0 is enough
 abbrev pub L3 : Limited
-L3 = record { file = P3 .file; limit = 0; before = 7 ∷ []; refused = 0; after = []; iterations = 0 }
+L3 = record { file = P3 .file; size = 54; limit = 0; before = 7 ∷ []; refused = 0; after = []; iterations = 0 }
 
 -- L4: P7's one iteration is one too many for 0
 abbrev pub L4 : Limited
-L4 = record { file = P7 .file; limit = 0; before = []; refused = 22; after = []; iterations = 0 }
+L4 = record { file = P7 .file; size = 54; limit = 0; before = []; refused = 22; after = []; iterations = 0 }
+
+-- ---- sizes
+
+-- S1: routine 1 with four nodes: the new marks are longer, and the old ones stay
+abbrev pub S1 : Changed
+S1 =
+    record {
+      file = F;
+      size = 54;
+      before = ofF;
+      form = ExchangeText;
+      text = "520104" ∷ "5301000002" ∷ "5301020003" ∷ "5301030001" ∷ [];
+      room = 72;
+      refused = 0;
+      after = ofF;
+      second = some (0 ∷ 10 ∷ 19 ∷ 36 ∷ 46 ∷ 55 ∷ 64 ∷ []);
+      wrote =
+          "50020302" ∷ "520003" ∷ "520104" ∷ "5300004102" ∷ "5300020101" ∷ "5301000002" ∷ "5301020003" ∷ "5301030001"
+          ∷ transitions ++ "4900" ∷ "4602" ∷ "45000E" ∷ [];
+      reanalyzed = none;
+    }
+
+-- S2: routine 0 with two nodes: the new marks are shorter, and the working buffer is as long as the old ones
+abbrev pub S2 : Changed
+S2 =
+    record {
+      file = F;
+      size = 54;
+      before = ofF;
+      form = ExchangeText;
+      text = "520002" ∷ "5300004101" ∷ [];
+      room = 36;
+      refused = 0;
+      after = ofF;
+      second = some (0 ∷ 10 ∷ 18 ∷ 28 ∷ []);
+      wrote =
+          "50020302" ∷ "520002" ∷ "520102" ∷ "5300004101" ∷ "5301000001" ∷ transitions ++ "4900" ∷ "4602" ∷ "45000B"
+          ∷ [];
+      reanalyzed = none;
+    }
+
+-- two routines of two nodes, and 16 states
+abbrev manyStates : List String
+manyStates = "50021001" ∷ "520002" ∷ "520102" ∷ "450003" ∷ []
+
+-- S3: with 33 nodes for routine 1 the product would be 2 times 33 times 16 times 16, above 16,384: 23
+abbrev pub S3 : Changed
+S3 = record {
+  file = manyStates;
+  size = 1024;
+  before = [];
+  form = ExchangeText;
+  text = "520121" ∷ [];
+  room = 0;
+  refused = 23;
+  after = [];
+  second = none;
+  wrote = [];
+  reanalyzed = none;
+}
+
+-- S4: nine states, and a row has two numbers of state bits, high first: from state 0 to 8, from each other to 1
+abbrev pub S4 : Fresh
+S4 =
+    record {
+      file =
+          "50010901" ∷ "520002" ∷ "5300000001" ∷ "5500010000000108" ∷ "5501FE0000000101" ∷ "4900" ∷ "4608" ∷ "450007"
+          ∷ [];
+      size = 162;
+      configurations = some (0 ∷ 89 ∷ []);
+      violating = some (89 ∷ []);
+      iterations = some 2;
+    }
+
+-- S5: F has 2 routines, at most 3 nodes, 3 states and marks of 54 bytes
+abbrev pub S5 : Asked
+S5 = record {
+  file = F;
+  text = none;
+  refused = 0;
+  line = 0;
+  room = record { routines = 2; nodes = 3; states = 3; marks = 54; work = 0 };
+}
+
+-- S6: a file with a product above 16,384, as S3's would be: 23 with line 0, and no size is told
+abbrev pub S6 : Asked
+S6 = record {
+  file = "50021001" ∷ "520002" ∷ "520121" ∷ "450003" ∷ [];
+  text = none;
+  refused = 23;
+  line = 0;
+  room = record { routines = 0; nodes = 0; states = 0; marks = 0; work = 0 };
+}
+
+-- S7: what S2's exchange has to be lent
+abbrev pub S7 : Asked
+S7 = record {
+  file = F;
+  text = some (S2 .text);
+  refused = 0;
+  line = 0;
+  room = record { routines = 0; nodes = 2; states = 0; marks = 36; work = 54 };
+}
+
+-- S8: S1's exchange with a second buffer that is a byte short: 9
+abbrev pub S8 : Changed
+S8 = record {
+  file = F;
+  size = 54;
+  before = ofF;
+  form = ExchangeText;
+  text = S1 .text;
+  room = 71;
+  refused = 9;
+  after = ofF;
+  second = none;
+  wrote = [];
+  reanalyzed = none;
+}
 
 -- ---- the table
 
@@ -392,4 +604,5 @@ abbrev pub table : List Case
 table = fresh P1 ∷ fresh P2 ∷ fresh P3 ∷ fresh P4 ∷ changed P5 ∷ changed P6 ∷ fresh P7 ∷ changed P8
     ∷ changed P9 ∷ changed P10 ∷ changed E1 ∷ changed E2 ∷ changed E3 ∷ changed E4
     ∷ fresh H1 ∷ fresh H2 ∷ fresh H3 ∷ fresh H4 ∷ changed H5 ∷ changed H6
-    ∷ limited L1 ∷ limited L2 ∷ limited L3 ∷ limited L4 ∷ []
+    ∷ limited L1 ∷ limited L2 ∷ limited L3 ∷ limited L4
+    ∷ changed S1 ∷ changed S2 ∷ changed S3 ∷ fresh S4 ∷ asked S5 ∷ asked S6 ∷ asked S7 ∷ changed S8 ∷ []

@@ -3,11 +3,13 @@
 use mathlib.Core.Path.{_≡_}
 use mathlib.Core.Logic.{_↔_, _≢_, _⊎_}
 use mathlib.Core.Bool.{Bool, true, false, _&&_}
-use mathlib.Core.List.{List, [], map, List·Memᴰ}
-use Prim.Native.Nat.{ℕ, _≤_, _<_}
+use mathlib.Core.List.{List, [], List·Memᴰ}
+use Prim.Native.Nat.{ℕ, _+_, _*_, _≤_, _<_}
 use lib.Dec.{ltb, eqb}
 use lib.ListN.{getD, length}
-use Rattle.program.specs.Sizes.{marksSize, outputSize}
+use Rattle.program.specs.Sizes.{marksMost, outputSize}
+use Rattle.program.specs.declared.sizes.Sizes.{Sizes}
+use Rattle.program.specs.Chosen.{sizesOf, numbers}
 use Rattle.automaton.specs.Sizes.{firstCall}
 use Rattle.automaton.specs.Automaton.{Transition, Automaton, labelOf, listed, moves, isRejecting}
 use Rattle.automaton.specs.NextStates.{EventOf}
@@ -18,7 +20,7 @@ use Rattle.program.specs.Program.{Program}
 use Rattle.program.specs.WellFormed.{WellFormed}
 use Rattle.program.specs.Writing.{written}
 use Rattle.program.specs.Reading.{readFile, rowsIn}
-use Rattle.reach.specs.Configurations.{InRange, number, routineOf, nodeOf, rootOf, stateOf, none-set}
+use Rattle.reach.specs.Configurations.{Earlier, InRange, number, routineOf, nodeOf, rootOf, stateOf, none-set, PartsOf}
 use Rattle.reach.specs.Runs.{Activation, Run, Occurs}
 use Rattle.reach.specs.Worklist.{analysis}
 use Rattle.reach.specs.Takings.{takenIn, times}
@@ -26,13 +28,13 @@ use Rattle.reach.specs.Marks.{violations}
 use Rattle.base.specs.Bits.{bit}
 use Rattle.base.specs.Flags.{countSet}
 use Rattle.reach.specs.Violations.{Violation, Ascends}
-use Rattle.exchange.specs.Changes.{Change, Read}
+use Rattle.exchange.specs.Changes.{Change, Read, Form}
 use Rattle.exchange.specs.Changing.{changedProgram}
 use Rattle.exchange.specs.Wanted.{wantedChange}
-use Rattle.exchange.specs.declared.Form.{Form}
-use Rattle.desk.specs.Entries.{Entry, Lent, Back, hasWork, noValues, programIn}
+use Rattle.desk.specs.Entries.{Entry, Lent, Room, Back, hasWork, noValues, programIn}
 use Rattle.demands.specs.Refusals.{Returned}
-use Rattle.demands.specs.Lists.{Call, wrote, seen, bookPlayed, BookRoutines, BookLeaves}
+use Rattle.repair.specs.Repairs.{zeroed}
+use Rattle.demands.specs.Lists.{Call, wrote, seenOf, bookPlayed, BookRoutines, BookLeaves}
 
 -- ---- demand 1: every file, edit line, text of an exchange and lent buffer gets a result or one numbered refusal; a
 -- refusal changes nothing
@@ -45,13 +47,15 @@ pub record Demand1 (e : Entry) (b : Lent) (a : Back) : Type 0 where
   pub no-other : (n line : ℕ) → Returned e b n line → (n ≡ a .refusal) × (line ≡ a .line)
   -- a refusal has no result: every other number is 0
   pub no-result : a .refusal ≢ 0 → a .values ≡ noValues
-  -- a refusal leaves the marks and the output unchanged
+  -- a refusal leaves the marks, the output and the second buffer unchanged
   pub marks : a .refusal ≢ 0 → a .marks ≡ b .marks
   pub output : a .refusal ≢ 0 → a .output ≡ b .output
+  pub second : a .refusal ≢ 0 → a .second ≡ b .second
   -- the working buffer is unchanged after a refusal that is checked before 17 and 22
   pub work-kept : a .refusal ≢ 0 → a .refusal ≢ 17 → a .refusal ≢ 22 → a .work ≡ b .work
-  -- and all zero after 17, 22 or success
-  pub work-cleared : hasWork e ≡ true → (a .refusal ≡ 0) ⊎ ((a .refusal ≡ 17) ⊎ (a .refusal ≡ 22)) → a .work ≡ none-set
+  -- and all zero, over its own length, after 17, 22 or success
+  pub work-cleared : hasWork e ≡ true → (a .refusal ≡ 0) ⊎ ((a .refusal ≡ 17) ⊎ (a .refusal ≡ 22))
+      → a .work ≡ zeroed (b .work)
 
 -- a file is what is written of a well-formed program
 pub record FileOf (p : Program) (file : List ℕ) : Type 0 where
@@ -59,7 +63,7 @@ pub record FileOf (p : Program) (file : List ℕ) : Type 0 where
   pub is-written : file ≡ written p
 
 -- a file is accepted and has no row exactly when it is that of some program; this is then its program, and it has at
--- most 5,328 bytes
+-- most 7,712 bytes
 pub record Acceptance (b : Lent) (a : Back) : Type 0 where
   pub accepted : ((a .refusal ≡ 0) × (rowsIn (b .file) ≡ [])) ↔ ((p : Program) × FileOf p (b .file))
   pub its-program : (p : Program) → FileOf p (b .file) → programIn b ≡ p
@@ -79,6 +83,23 @@ pub record Tabulated (p : Program) (rs : List TableRow) : Type 0 where
       → (s : ℕ) × (listed q a s (p .automaton .transitions) ≡ true)
       × ((s′ : ℕ) → listed q a s′ (p .automaton .transitions) ≡ true → s′ ≡ s)
 
+-- the sizes that are told of an accepted file (paper: R, P and Q): the counts of its program's routines and states, the
+-- largest count of nodes, and how many bytes its marks have (paper: the sheet), at most 16,384
+pub record SizesTold (p : Program) (room : Room) : Type 0 where
+  pub routines : room .routines ≡ p .routines
+  pub states : room .states ≡ p .automaton .states
+  -- no routine has more nodes (paper: places), and some routine has as many
+  pub at-most : (f : ℕ) → f < p .routines → getD (p .nodes) f 0 ≤ room .nodes
+  pub attained : (f : ℕ) × (f < p .routines) × (getD (p .nodes) f 0 ≡ room .nodes)
+  pub marks : room .marks ≡ room .routines * room .nodes * room .states * room .states
+  pub limited : room .marks ≤ marksMost
+
+-- what an exchange has to be lent, as asked for beforehand: with these lengths the call is not refused for one, by 9 or 11
+-- after its text
+pub record Needed (b : Lent) (a : Back) : Type 0 where
+  pub second : length (b .second) ≡ a .values .room .marks
+  pub work : length (b .work) ≡ a .values .room .work
+
 -- what is lent, with what was written in the place of the file
 abbrev pub withWritten : Lent → Back → Lent
 withWritten b a = record {
@@ -87,12 +108,13 @@ withWritten b a = record {
   text = b .text;
   output = b .output;
   work = b .work;
+  second = b .second;
   limit = b .limit;
   from = b .from;
 }
 
 -- what is written of a file, and what reading that gives back: it is accepted, has no row, is read as the file's
--- program and has at most 5,328 bytes
+-- program and has at most 7,712 bytes
 pub record WrittenFile (b : Lent) (a c : Back) : Type 0 where
   pub accepted : c .refusal ≡ 0
   pub no-row : rowsIn (wrote a) ≡ []
@@ -106,27 +128,41 @@ pub record ChangedFile (k : Form) (b : Lent) (a : Back) : Type 0 where
   pub wanted : wantedChange k (programIn b) (b .text) ≡ Read change
   pub file : FileOf (changedProgram change (programIn b)) (wrote a)
 
+-- ---- the numbers of configurations (paper: standings), for all sizes together
+
+pub record Numbering (z : Sizes) : Type 0 where
+  -- each configuration within the sizes has a number below the length of the marks
+  pub below : {f n r q : ℕ} → InRange z f n r q → number z f n r q < numbers z
+  -- no two have the same
+  pub one-to-one : {f n r q g m s t : ℕ} → InRange z f n r q → InRange z g m s t → number z f n r q ≡ number z g m s t
+      → (f ≡ g) × (n ≡ m) × (r ≡ s) × (q ≡ t)
+  -- and each number below that length is one's: that of these parts
+  pub parts : (i : ℕ) → i < numbers z → PartsOf z i (routineOf z i) (nodeOf z i) (rootOf z i) (stateOf z i)
+  -- the order of the numbers is the order of the parts, compared left to right, whatever the sizes
+  pub order : {f n r q g m s t : ℕ} → InRange z f n r q → InRange z g m s t → Earlier f n r q g m s t
+      → number z f n r q < number z g m s t
+
 -- ---- demand 2: the sheet marks a standing exactly when some run, each return going back to its own call, arrives
 -- there
 
--- of a program, and what a full analysis of its file gives back
-pub record Demand2 (p : Program) (a : Back) : Type 0 where
+-- of a program, its sizes, and what a full analysis of its file gives back
+pub record Demand2 (z : Sizes) (p : Program) (a : Back) : Type 0 where
   -- there is a byte for each number
-  pub bytes : length (a .marks) ≡ marksSize
+  pub bytes : length (a .marks) ≡ numbers z
   -- at the number of a configuration there is a 1 exactly when some run of the program arrives there
-  pub marked : {f n r q : ℕ} → InRange f n r q → (getD (a .marks) (number f n r q) 0 ≡ 1) ↔ Occurs p f n r q
+  pub marked : {f n r q : ℕ} → InRange z f n r q → (getD (a .marks) (number z f n r q) 0 ≡ 1) ↔ Occurs p f n r q
   -- no run arrives at a configuration that has no number
-  pub numbered : {f n r q : ℕ} → Occurs p f n r q → InRange f n r q
+  pub numbered : {f n r q : ℕ} → Occurs p f n r q → InRange z f n r q
   -- every other byte is 0
-  pub others : (i : ℕ) → i < marksSize
-      → ((getD (a .marks) i 0 ≡ 1) × Occurs p (routineOf i) (nodeOf i) (rootOf i) (stateOf i))
-      ⊎ ((getD (a .marks) i 0 ≡ 0) × (¬ (Occurs p (routineOf i) (nodeOf i) (rootOf i) (stateOf i))))
+  pub others : (i : ℕ) → i < numbers z
+      → ((getD (a .marks) i 0 ≡ 1) × Occurs p (routineOf z i) (nodeOf z i) (rootOf z i) (stateOf z i))
+      ⊎ ((getD (a .marks) i 0 ≡ 0) × (¬ (Occurs p (routineOf z i) (nodeOf z i) (rootOf z i) (stateOf z i))))
   -- so many configurations are marked
   pub configurations : a .values .configurations ≡ countSet (a .marks)
   -- and so many violations are there: exactly the configurations that occur with a state that is rejecting now,
   -- ascending
   pub violation-count : a .values .violations ≡ length (violations p)
-  pub violating : (i : ℕ) → List·Memᴰ i (violations p) ↔ Violation p i
+  pub violating : (i : ℕ) → List·Memᴰ i (violations p) ↔ Violation z p i
   pub ascending : Ascends 0 (violations p)
 
 -- the sentence that the user cares about: no run arrives in a rejecting state (paper: a forbidden state)
@@ -134,16 +170,16 @@ abbrev pub Safe : Program → Type 0
 Safe p = (f n r q : ℕ) (below : List Activation) → Run p f n r below q → isRejecting (p .automaton) q ≡ false
 
 -- the violation that is given for a number: the least one not below it, or 4294967295 where there is none
-pub data Next (p : Program) (low : ℕ) : ℕ → Type 0 where
-  least : {v : ℕ} → Violation p v → low ≤ v → ((w : ℕ) → Violation p w → low ≤ w → v ≤ w) → Next p low v
-  nothing : ((w : ℕ) → Violation p w → w < low) → Next p low 4294967295
+pub data Next (z : Sizes) (p : Program) (low : ℕ) : ℕ → Type 0 where
+  least : {v : ℕ} → Violation z p v → low ≤ v → ((w : ℕ) → Violation z p w → low ≤ w → v ≤ w) → Next z p low v
+  nothing : ((w : ℕ) → Violation z p w → w < low) → Next z p low 4294967295
 
 -- the full analysis ends with nothing pending, its iterations are the takings of the procedure, and no configuration is
--- taken more than 1,025 times
+-- taken more often than 1 + R Q Q times, for R routines and Q states
 pub record Procedure (p : Program) (a : Back) : Type 0 where
-  pub ends : analysis p .pending ≡ none-set
+  pub ends : analysis p .pending ≡ none-set (sizesOf p)
   pub iterations : a .values .iterations ≡ length (takenIn p)
-  pub at-most : (i : ℕ) → times i (takenIn p) ≤ 1025
+  pub at-most : (i : ℕ) → times i (takenIn p) ≤ 1 + p .routines * p .automaton .states * p .automaton .states
 
 -- ---- a limit on the iterations (paper: a ceiling on takings)
 
@@ -159,6 +195,7 @@ withLimit limit b = record {
   text = b .text;
   output = b .output;
   work = b .work;
+  second = b .second;
   limit = limit;
   from = b .from;
 }
@@ -171,7 +208,8 @@ givenUp b = record {
   values = noValues;
   marks = b .marks;
   output = b .output;
-  work = none-set;
+  work = zeroed (b .work);
+  second = b .second;
 }
 
 -- ---- the moves of a run, where the rule hears calls and returns
@@ -216,10 +254,10 @@ pub record OneLook (p : Program) (look : ℕ → ℕ → ℕ) : Type 0 where
 
 -- of a file that the list begins with, the calls, and what they gave back
 pub record Demand3 (file : List ℕ) (cs : List Call) (gs : List Back) : Type 0 where
-  -- after every call of the list the refusal's number, or that there is none, is the model's; the marks are the fresh
-  -- ones of the model's program; and an accepted call has that program, written, at the start of its output and the
-  -- length in its answer
-  pub seen : map seen gs ≡ bookPlayed cs (readFile file .program)
+  -- after every call of the list the refusal's number, or that there is none, is the model's; the marks, which an
+  -- accepted exchange has in its second buffer, are the fresh ones of the model's program; and an accepted call has that
+  -- program, written, at the start of its output and the length in its answer
+  pub seen : seenOf cs gs ≡ bookPlayed cs (readFile file .program)
   -- the routines that an inside-out call says it has reanalyzed are those that the rules give for this change of the
   -- program that the model had before the call
   pub reanalyzed : BookRoutines cs gs (readFile file .program)
@@ -236,6 +274,7 @@ keepingOf b a = record {
   text = [];
   output = [];
   work = b .work;
+  second = [];
   limit = 0;
   from = 0;
 }

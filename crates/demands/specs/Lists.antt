@@ -12,11 +12,9 @@ use Rattle.program.specs.Writing.{written}
 use Rattle.reach.specs.Runs.{Occurs}
 use Rattle.reach.specs.Reachable.{Calls}
 use Rattle.reach.specs.Marks.{freshMarks}
-use Rattle.exchange.specs.Changes.{ChangeRead, Read, Refused}
+use Rattle.exchange.specs.Changes.{ChangeRead, Read, Refused, Form, EditLine, ExchangeText}
 use Rattle.exchange.specs.Changing.{changedRoutine}
 use Rattle.exchange.specs.Wanted.{wantedChange}
-use Rattle.exchange.specs.declared.Form.{Form}
-use Rattle.exchange.specs.declared.Form.the-variants.{EditLine, ExchangeText}
 use Rattle.repair.specs.Desk.{Desk}
 use Rattle.repair.specs.Repairs.{InsideOutNumber}
 use Rattle.desk.specs.Entries.{Entry, repair-forward, repair-inside-out, exchange-forward, exchange-inside-out}
@@ -31,13 +29,14 @@ pub data Repair : Type 0 where
   inside-out : Repair
 
 -- a call: which repair it is, whether it is handed an edit line or the text of an exchange, and that line or text, the
--- output and the working buffer, which may be anything, of any length
+-- output, the working buffer and, if it is an exchange, the second buffer, which may be anything, of any length
 pub record Call : Type 0 where
   pub form : Form
   pub repair : Repair
   pub text : List ℕ
   pub output : List ℕ
   pub work : List ℕ
+  pub second : List ℕ
 
 -- the function that a call names
 abbrev pub entry : Form → Repair → Entry
@@ -54,6 +53,7 @@ lentTo d c = record {
   text = c .text;
   output = c .output;
   work = c .work;
+  second = c .second;
   limit = 0;
   from = 0;
 }
@@ -62,36 +62,50 @@ lentTo d c = record {
 abbrev pub wrote : Back → List ℕ
 wrote a = take (a .values .written) (a .output)
 
--- what is kept for the next call: the marks as this one left them, and as its file a copy of what an accepted call
--- wrote; a refused one leaves the file
-abbrev pub after : Desk → Back → Desk
-after d a = record { file = cond (eqb (a .refusal) 0) (wrote a) (d .file); marks = a .marks }
+-- the marks from a call on: what the second buffer holds after an accepted exchange, and else the marks as the call left
+-- them
+abbrev pub marksFrom : Form → Back → List ℕ
+marksFrom EditLine a = a .marks
+marksFrom ExchangeText a = cond (eqb (a .refusal) 0) (a .second) (a .marks)
+
+-- what is kept for the next call: these marks, and as its file a copy of what an accepted call wrote; a refused one
+-- leaves the file
+abbrev pub after : Form → Desk → Back → Desk
+after k d a = record { file = cond (eqb (a .refusal) 0) (wrote a) (d .file); marks = marksFrom k a }
 
 -- this is what the calls of a list gave back: each what its function promises for what was lent to it
 unfoldable pub Gave : List Call → List Back → Desk → Type 0
 Gave [] [] d = Unit
 Gave [] (a ∷ gs) d = ⊥
 Gave (c ∷ cs) [] d = ⊥
-Gave (c ∷ cs) (a ∷ gs) d = Gives (entry (c .form) (c .repair)) (lentTo d c) a × Gave cs gs (after d a)
+Gave (c ∷ cs) (a ∷ gs) d =
+    Gives (entry (c .form) (c .repair)) (lentTo d c) a × Gave cs gs (after (c .form) d a)
 
 -- ---- what is seen, and what the reference model says is seen
 
--- after a call: the refusal's number (0: none), the marks, how many bytes were written, and these bytes
+-- after a call: the refusal's number (0: none), the marks from there on, how many bytes were written, and these bytes
 pub record Seen : Type 0 where
   pub refused : ℕ
   pub marks : List ℕ
   pub size : ℕ
   pub wrote : List ℕ
 
-abbrev pub seen : Back → Seen
-seen a = record { refused = a .refusal; marks = a .marks; size = a .values .written; wrote = wrote a }
+abbrev pub seen : Form → Back → Seen
+seen k a = record { refused = a .refusal; marks = marksFrom k a; size = a .values .written; wrote = wrote a }
 
--- the model is told which calls are exchanges, and is fed the text and the lengths of output and working buffer
+-- of each call of a list
+unfoldable pub seenOf : List Call → List Back → List Seen
+seenOf [] gs = []
+seenOf (c ∷ cs) [] = []
+seenOf (c ∷ cs) (a ∷ gs) = seen (c .form) a ∷ seenOf cs gs
+
+-- the model is told which calls are exchanges, and is fed the text and the lengths of output, working buffer and second
+-- buffer
 abbrev pub bookCall : Program → Call → Program
-bookCall b c = bookAfter (c .form) b (c .text) (length (c .output)) (length (c .work))
+bookCall b c = bookAfter (c .form) b (c .text) (length (c .output)) (length (c .work)) (length (c .second))
 
 abbrev pub bookRefuses : Program → Call → ℕ
-bookRefuses b c = bookRefusal (c .form) b (c .text) (length (c .output)) (length (c .work))
+bookRefuses b c = bookRefusal (c .form) b (c .text) (length (c .output)) (length (c .work)) (length (c .second))
 
 -- the change that a call says for the program that the model has, or its refusal
 abbrev pub bookWanted : Program → Call → ChangeRead

@@ -1,6 +1,6 @@
 -- The table of refusals (paper: "Refusals by place"): for each row its case, for each function its rows in their order.
--- The rows of the lengths (`bufferRows`), of the text of an exchange (`exchangeRows`), of the marks (`foreignRow`) and
--- of the limit (`limitRow`) stand where the answers are defined.
+-- The rows of the lengths (`bufferRows`), of the text of an exchange (`exchangeRows`) and the lengths that depend on it
+-- (`lengthRows`), of the marks (`foreignRow`) and of the limit (`limitRow`) stand where the answers are defined.
 use Prim.Native.Nat.{ℕ, _+_}
 use mathlib.Core.Path.{_≡_}
 use mathlib.Core.Logic.{_≢_}
@@ -11,6 +11,7 @@ use lib.ListN.{length}
 use Rattle.text.specs.Lines.{lines, numbers, lineFrom}
 use Rattle.text.specs.declared.Line.{Line}
 use Rattle.program.specs.Program.{Program}
+use Rattle.program.specs.Chosen.{sizesOf, sizesFit, numbers as numbersIn}
 use Rattle.program.specs.Frames.{size, kind}
 use Rattle.rows.specs.Rows.{TableRow, Pair, timesMet}
 use Rattle.program.specs.Reading.{Progress, start, ordered, ranged, full, miscounted, after, pairsOf}
@@ -22,11 +23,11 @@ use Rattle.edit.specs.EditLines.{onlyLine, badLine, outOfRange, editIn}
 use Rattle.edit.specs.Editing.{hasEdge}
 use Rattle.edit.specs.declared.Edit.{Edit}
 use Rattle.edit.specs.declared.Edit.the-variants.{Add, Drop, Replace}
-use Rattle.exchange.specs.ExchangeText.{textLines, exchangeRows}
-use Rattle.exchange.specs.declared.Form.{Form}
-use Rattle.exchange.specs.declared.Form.the-variants.{EditLine, ExchangeText}
-use Rattle.desk.specs.Entries.{Entry, read, write, analyze, next-violation, prune, repair-forward, repair-inside-out}
-use Rattle.desk.specs.Entries.{exchange-forward, exchange-inside-out}
+use Rattle.exchange.specs.ExchangeText.{textLines, exchangeIn, exchangeRows}
+use Rattle.exchange.specs.Lengths.{sizesAfter, lengthsOf, lengthRows, workFirst}
+use Rattle.exchange.specs.Changes.{Form, EditLine, ExchangeText}
+use Rattle.desk.specs.Entries.{Entry, read, sizes, write, analyze, next-violation, prune, repair-forward}
+use Rattle.desk.specs.Entries.{repair-inside-out, exchange-sizes, exchange-forward, exchange-inside-out}
 use Rattle.desk.specs.Entries.{Lent, programIn}
 
 -- ---- a file
@@ -38,15 +39,15 @@ lineRows s l =
     row 1 (eqb (l .count) 0)
     -- unknown kind
     ∷ row 2 (eqb (kind l) 0)
-    -- wrong count of numbers for the kind
-    ∷ row 3 (not (eqb (l .count) (size (kind l))))
+    -- wrong count of numbers for the kind; a row's goes by the states that are known, 0 before the header
+    ∷ row 3 (not (eqb (l .count) (size (s .program .automaton .states) (kind l))))
     -- order broken; first frame not 50; a second 50; a routine frame left out
     -- transitions (paper: rule lines) and rows in one file
     ∷ row 4 (not (ordered (s .last) (s .frames) (s .program .routines) (length (s .program .nodes))
     (length (s .program .automaton .transitions)) (kind l) l))
     -- a number outside its range, or a step from the exit
     ∷ row 5 (not (ranged (s .program) (kind l) l))
-    -- the 257th step, rule line or row
+    -- the 257th step, the 513th rule line, the 257th row
     ∷ row 6 (full (length (s .program .edges)) (length (s .program .automaton .transitions)) (length (s .rows))
     (kind l))
     -- the end count is wrong
@@ -80,6 +81,9 @@ pub data Faulty : Progress → List (List ℕ) → ℕ → ℕ → Type 0 where
   unended : {s : Progress} → s .ended ≡ false → Faulty s [] 8 (s .frames + 1)
   -- every line is good, but not the table of a file with rows: the first faulty pair decides, and there is no line
   by-table : {s : Progress} → s .ended ≡ true → s .rows ≢ [] → tableNumber s ≢ 0 → Faulty s [] (tableNumber s) 0
+  -- every line is good, and the table of a file with rows, but the product of the sizes is above 16,384
+  by-sizes : {s : Progress} → s .ended ≡ true → (s .rows ≢ [] → tableNumber s ≡ 0) → sizesFit (s .program) ≡ false
+      → Faulty s [] 23 0
   -- a line follows the end frame
   after-end : {s : Progress} {l : List ℕ} {ls : List (List ℕ)} → s .ended ≡ true → Faulty s (l ∷ ls) 8 (s .frames + 1)
   -- this line meets a row
@@ -118,30 +122,44 @@ editRows p l =
     ∷ row 16 (adds (editIn l) && leb 256 (length (p .edges)))
     ∷ []
 
--- ---- what a function checks after the file: the lengths of its buffers (9 to 11), an edit line (12 to 16) or the text
--- of an exchange (12, 13, 21, 16), the marks (17) or the limit (22)
+-- ---- what a function checks after the file: the lengths of its buffers (9 to 11), an edit line (12 to 16), the marks
+-- (17) or the limit (22); an exchange has its text (12, 13, 21, 16, 23) before the lengths that depend on it (9, 11)
+
+-- how many bytes the marks of the file's program have
+abbrev pub marksLength : Lent → ℕ
+marksLength b = numbersIn (sizesOf (programIn b))
 
 abbrev pub changeRows : Form → Program → List ℕ → List Row
 changeRows EditLine p s = editRows p (onlyLine s)
 changeRows ExchangeText p s = exchangeRows p (textLines s)
 
+-- the second buffer and the working buffer of an exchange
+abbrev pub laterRows : Form → Program → List ℕ → ℕ → ℕ → List Row
+laterRows EditLine p s second work = []
+laterRows ExchangeText p s second work =
+    lengthRows (lengthsOf (sizesOf p) (sizesAfter (exchangeIn (textLines s)) p)) second work
+
 abbrev pub repairRows : Form → Lent → List Row
 repairRows k b =
-    bufferRows (Of (length (b .marks))) (Of (length (b .output))) (Of (length (b .work)))
-    ++ (changeRows k (programIn b) (b .text) ++ foreignRow (programIn b) (b .marks) ∷ [])
+    bufferRows (marksLength b) (Of (length (b .marks))) (Of (length (b .output))) (workFirst k (length (b .work)))
+    ++ (changeRows k (programIn b) (b .text)
+    ++ (laterRows k (programIn b) (b .text) (length (b .second)) (length (b .work))
+    ++ foreignRow (programIn b) (b .marks) ∷ []))
 
 -- of functions that are lent marks and a working buffer
 abbrev pub marksRows : Lent → List Row
-marksRows b = bufferRows (Of (length (b .marks))) NotAsked (Of (length (b .work)))
+marksRows b = bufferRows (marksLength b) (Of (length (b .marks))) NotAsked (Of (length (b .work)))
 
 abbrev pub rows : Entry → Lent → List Row
 rows read b = []
-rows write b = bufferRows NotAsked (Of (length (b .output))) NotAsked
+rows sizes b = []
+rows write b = bufferRows (marksLength b) NotAsked (Of (length (b .output))) NotAsked
 rows analyze b = marksRows b ++ limitRow (programIn b) (b .limit) ∷ []
 rows prune b = marksRows b
 rows next-violation b = marksRows b ++ foreignRow (programIn b) (b .marks) ∷ []
 rows repair-forward b = repairRows EditLine b
 rows repair-inside-out b = repairRows EditLine b
+rows exchange-sizes b = changeRows ExchangeText (programIn b) (b .text)
 rows exchange-forward b = repairRows ExchangeText b
 rows exchange-inside-out b = repairRows ExchangeText b
 
