@@ -47,18 +47,51 @@
  * Rows. A file has its transitions one by one, frames 54, or as a table of
  * rows, frames 55; or it has none. A row is
  *
- *     55 s a a a a q
+ *     55 s a a a a q      in a program of up to 8 states
+ *     55 s s a a a a q    in a program of 9 to 16 states
  *
- * s has a bit for each state that the row is for, bit i for state i; the four
- * numbers a have a bit for each action, the first of them actions 31 to 24 and
- * the last actions 7 to 0; q is the next state. A row meets a state-action
- * pair if it has the bit of its state and the bit of its action. In an
- * accepted file with rows every state-action pair, of a state and an action of
- * the program, is met by exactly one row, and the program has exactly one
- * transition for it, to that row's next state. Rows are for actions only: a
+ * s has a bit for each state that the row is for, bit i for state i, and of two
+ * numbers s the first is for states 15 to 8 and the second for states 7 to 0;
+ * the four numbers a have a bit for each action, the first of them actions 31
+ * to 24 and the last actions 7 to 0; q is the next state. A row meets a
+ * state-action pair if it has the bit of its state and the bit of its action.
+ * In an accepted file with rows every state-action pair, of a state and an
+ * action of the program, is met by exactly one row, and the program has exactly
+ * one transition for it, to that row's next state. Rows are for actions only: a
  * file with rows has no transition for a call or a return, and hears none.
  * What is written always has the transitions one by one. examples/README.md
- * has a table with its rows.
+ * has tables with their rows.
+ *
+ * Sizes. A program has sizes of its own:
+ *
+ *     routines    how many it has, 1 to 16
+ *     nodes       how many its longest routine has, 2 to 64: the largest count
+ *                 of nodes of all its routines
+ *     states      how many its automaton has, 1 to 16
+ *
+ * The marks (paper: the sheet) hold a byte for each configuration (paper:
+ * standing), and so have
+ *
+ *     routines * nodes * states * states
+ *
+ * bytes, which may not be more than PALTHRENNI_MARKS_MOST (23). Marks and
+ * working buffers have to be lent in exactly the length that a program needs,
+ * so ask for its sizes first, and then lend. Arrays of PALTHRENNI_MARKS_MOST
+ * bytes, of which as much is lent as the program needs, are enough for every
+ * program:
+ *
+ *     static uint8_t marks[PALTHRENNI_MARKS_MOST], work[PALTHRENNI_MARKS_MOST];
+ *
+ *     refusal = palthrenni_sizes(file, file_len, &line,
+ *                                &routines, &nodes, &states, &marks_size);
+ *     if (refusal == PALTHRENNI_OK)
+ *         refusal = palthrenni_analyze(file, file_len, marks, marks_size,
+ *                                      work, marks_size, PALTHRENNI_NO_LIMIT,
+ *                                      &line, &configurations, &violations,
+ *                                      &iterations);
+ *
+ * An edit leaves the sizes as they are. An exchange of a routine may change how
+ * many nodes there are; palthrenni_exchange_sizes says what it needs.
  *
  * Buffers. A buffer is a pointer and a length in bytes. The pointer has to be
  * valid for that many bytes during the call; with length 0 it is not looked
@@ -70,11 +103,29 @@
  * Answers. Each function returns the number of the refusal it met, or
  * PALTHRENNI_OK. Every pointer to a number has to be valid, and every number
  * is set on every call, to 0 where there is nothing to say. The number that is
- * returned says whether the file was accepted, and the line does not: 19 and
- * 20 are refusals of the file, with line 0.
+ * returned says whether the file was accepted, and the line does not: 19, 20
+ * and 23 are refusals of the file, with line 0. (Of an exchange 23 may also be
+ * a refusal of the text.)
  *
  * Threads. Nothing is kept between calls and no memory is allocated: two
  * threads may call at once, each with buffers and numbers of its own.
+ *
+ * Coming from the version whose marks always had 16384 bytes, a caller has to
+ * change this:
+ *
+ *     buffers      lend marks and working buffers of the length that
+ *                  palthrenni_sizes gives, and outputs of 7712 bytes or more
+ *                  (it was 5328)
+ *     numbers      of configurations go by the program's sizes, and the macros
+ *                  for their parts take the sizes. Marks that were kept go by
+ *                  the earlier numbers: analyze the file again
+ *     exchanges    ask palthrenni_exchange_sizes, lend a second buffer for the
+ *                  new marks, and go on with that one
+ *     states       may be 16: a caller that reads frames 46 itself meets the
+ *                  digits A to F there
+ *
+ * Every file that was accepted before still is, and is written as the same
+ * bytes; its configurations, violations and iterations are as many as before.
  */
 #ifndef PALTHRENNI_H
 #define PALTHRENNI_H
@@ -100,7 +151,9 @@ extern "C" {
 #define PALTHRENNI_BAD_LINE 1
 /* The first number of a line is no kind of frame. */
 #define PALTHRENNI_UNKNOWN_KIND 2
-/* The kind has another count of numbers. */
+/* The kind has another count of numbers. For a row that goes by the states of
+ * the program ("Rows", above); a row before the frame 50 is judged as one of
+ * up to 8 states. */
 #define PALTHRENNI_WRONG_COUNT 3
 /* The first frame is not 50, there is a second 50, the kinds or the numbers
  * within a kind do not ascend, there are both transitions and rows, or a
@@ -112,7 +165,7 @@ extern "C" {
  * program has. So a return's label, 60 + f, is refused in an edge, and any
  * label of a routine that is not there in both. */
 #define PALTHRENNI_RANGE 5
-/* The 257th edge, the 257th transition or the 257th row. Transitions are
+/* The 257th edge, the 513th transition or the 257th row. Transitions are
  * counted together, those for actions, for calls and for returns. */
 #define PALTHRENNI_TABLE_FULL 6
 /* The end frame does not say how many frames came before it. */
@@ -122,26 +175,38 @@ extern "C" {
 #define PALTHRENNI_FILE_END 8
 
 /*
- * Refusals of a file by its table as a whole, 19 and 20. They come with line
- * 0, since no one line is at fault, in every function that reads a file, and
- * before 9. Only a file with rows can meet them, and only where no line of it
- * is faulty. The first faulty state-action pair decides, by state, then by
- * action; which one it is, is not told.
+ * Refusals of a file as a whole, 19, 20 and 23. They come with line 0, since no
+ * one line is at fault, in every function that reads a file, only where no line
+ * of it is faulty, and before 9. Only a file with rows can meet 19 and 20: the
+ * first faulty state-action pair decides, by state, then by action; which one
+ * it is, is not told. 23 comes after them.
  */
 
 /* A state-action pair is met by no row. */
 #define PALTHRENNI_PAIR_NOT_MET 19
 /* A state-action pair is met by two rows or more. */
 #define PALTHRENNI_PAIR_MET_TWICE 20
+/* The program is too large: routines * nodes * states * states ("Sizes", above)
+ * is above PALTHRENNI_MARKS_MOST. Of an exchange also, judged after 16: so for
+ * the new program. The file is meant where palthrenni_read returns 23 for it,
+ * and else the new program. */
+#define PALTHRENNI_TOO_LARGE 23
 
-/* Refusals of buffers, of an edit, of an exchange and of marks (paper: the
- * sheet), and giving up. They come with line 0. */
+/* Refusals of buffers, of an edit, of an exchange and of marks, and giving up.
+ * They come with line 0. */
 
-/* The marks do not have exactly PALTHRENNI_MARKS_SIZE bytes. */
+/* The marks do not have exactly the length that palthrenni_sizes gives for the
+ * file. Of an exchange: so for the old marks; or, judged after 23, the new
+ * marks do not have exactly the length that palthrenni_exchange_sizes gives for
+ * them. The old ones are meant where their length is not the one that
+ * palthrenni_sizes gives, and else the new ones. */
 #define PALTHRENNI_MARKS_LENGTH 9
 /* The output has fewer than PALTHRENNI_OUTPUT_SIZE bytes. */
 #define PALTHRENNI_OUTPUT_SHORT 10
-/* The working buffer does not have exactly PALTHRENNI_MARKS_SIZE bytes. */
+/* The working buffer does not have exactly the length that palthrenni_sizes
+ * gives for the marks of the file. Of an exchange, judged after both marks: it
+ * does not have exactly the length that palthrenni_exchange_sizes gives for
+ * it. */
 #define PALTHRENNI_WORK_LENGTH 11
 /* The edit is not exactly one line of hexadecimal, its kind is none of 2B, 2D
  * and 3D, or the kind has another count of numbers. Of an exchange: the text
@@ -176,11 +241,11 @@ extern "C" {
 #define PALTHRENNI_GAVE_UP 22
 
 /* The most bytes that are ever written, and so the least length of an output.
- * An accepted file without rows is never longer. One with rows may be, up to
- * 6864 bytes. */
-#define PALTHRENNI_OUTPUT_SIZE 5328
-/* The length of the marks, and of the working buffer. */
-#define PALTHRENNI_MARKS_SIZE 16384
+ * No accepted file is longer; one with rows has at most 7456 bytes. */
+#define PALTHRENNI_OUTPUT_SIZE 7712
+/* The length of the longest marks that an accepted program has, and so of the
+ * longest working buffer. */
+#define PALTHRENNI_MARKS_MOST 16384
 
 /* The largest limit of palthrenni_analyze, by which it never gives up. */
 #define PALTHRENNI_NO_LIMIT UINT64_MAX
@@ -190,23 +255,33 @@ extern "C" {
 #define PALTHRENNI_NONE UINT32_MAX
 
 /*
- * A configuration (paper: standing) is where a program can be: in which
- * routine, at which node of it (0 is the entry, 1 the exit), with which root
- * and in which state of the automaton now. The root is the state in which the
- * routine began: an initial state where main began the run, else the state
- * after the move of the call that started it, which is the caller's state
- * where that call is not heard. A configuration has a number below
- * PALTHRENNI_MARKS_SIZE,
+ * A configuration is where a program can be: in which routine, at which node of
+ * it (0 is the entry, 1 the exit), with which root and in which state of the
+ * automaton now. The root is the state in which the routine began: an initial
+ * state where main began the run, else the state after the move of the call
+ * that started it, which is the caller's state where that call is not heard. A
+ * configuration has a number,
  *
- *     ((routine * 16 + node) * 8 + root) * 8 + state
+ *     ((routine * nodes + node) * states + root) * states + state
  *
- * and these are the parts of a number. The marks hold one byte for each
- * number, 1 if the configuration can occur and 0 if not.
+ * where nodes and states are the program's sizes, and these are the parts of a
+ * number in a program of these sizes. The marks hold one byte for each number,
+ * from 0 up to their length, 1 if the configuration can occur and 0 if not. So
+ * a number stands for other parts where the sizes are others, but in every
+ * program the numbers ascend with the parts, compared left to right: routine,
+ * node, root, state. A routine with fewer nodes than the longest one has
+ * numbers left over, of nodes that it does not have; nothing occurs there.
  */
-#define PALTHRENNI_ROUTINE(number) ((uint32_t)(number) / 1024)
-#define PALTHRENNI_NODE(number) ((uint32_t)(number) / 64 % 16)
-#define PALTHRENNI_ROOT(number) ((uint32_t)(number) / 8 % 8)
-#define PALTHRENNI_STATE(number) ((uint32_t)(number) % 8)
+#define PALTHRENNI_ROUTINE(number, nodes, states) \
+    ((uint32_t)(number) / (uint32_t)(states) / (uint32_t)(states) \
+     / (uint32_t)(nodes))
+#define PALTHRENNI_NODE(number, nodes, states) \
+    ((uint32_t)(number) / (uint32_t)(states) / (uint32_t)(states) \
+     % (uint32_t)(nodes))
+#define PALTHRENNI_ROOT(number, nodes, states) \
+    ((uint32_t)(number) / (uint32_t)(states) % (uint32_t)(states))
+#define PALTHRENNI_STATE(number, nodes, states) \
+    ((uint32_t)(number) % (uint32_t)(states))
 
 /*
  * Reads a program file and says whether it is accepted.
@@ -214,9 +289,27 @@ extern "C" {
  *   file, file_len  the file's bytes, of any length
  *   line            set to the line of a refusal 1 to 8, else to 0
  *
- * Returns 1 to 8; then 19 or 20; else PALTHRENNI_OK.
+ * Returns 1 to 8; then 19 or 20; then 23; else PALTHRENNI_OK.
  */
 uint32_t palthrenni_read(const uint8_t *file, size_t file_len, uint32_t *line);
+
+/*
+ * Reads a program file and gives the sizes of its program, and the length of
+ * its marks, which is also that of a working buffer for it.
+ *
+ *   file, file_len  the file's bytes, of any length
+ *   line            set to the line of a refusal 1 to 8, else to 0
+ *   routines        set to how many routines there are
+ *   nodes           set to how many nodes the longest of them has
+ *   states          set to how many states there are
+ *   marks_size      set to routines * nodes * states * states
+ *
+ * Returns 1 to 8; then 19 or 20; then 23; else PALTHRENNI_OK: the same as
+ * palthrenni_read. On a refusal the sizes and the length are 0.
+ */
+uint32_t palthrenni_sizes(const uint8_t *file, size_t file_len,
+                          uint32_t *line, uint32_t *routines, uint32_t *nodes,
+                          uint32_t *states, uint32_t *marks_size);
 
 /*
  * Reads a program file and writes its program back. The bytes written are
@@ -231,8 +324,8 @@ uint32_t palthrenni_read(const uint8_t *file, size_t file_len, uint32_t *line);
  *   written             set to how many bytes were written, or to 0 if the
  *                       call was refused
  *
- * Returns 1 to 8; then 19 or 20; then 10, if the file is accepted and the
- * output is too short; else PALTHRENNI_OK. On PALTHRENNI_OK the program's
+ * Returns 1 to 8; then 19 or 20; then 23; then 10, if the file is accepted and
+ * the output is too short; else PALTHRENNI_OK. On PALTHRENNI_OK the program's
  * bytes are at the start of the output and the rest of the output is
  * unchanged. On a refusal all of the output is unchanged.
  */
@@ -248,19 +341,21 @@ uint32_t palthrenni_write(const uint8_t *file, size_t file_len,
  *
  * The limit (paper: the ceiling on takings). In each iteration the analysis
  * takes one configuration, always the lowest that is pending (paper: waiting);
- * it takes none more than 1025 times. The limit says how many iterations it
- * may make in all. It makes none beyond that, so that a call returns within a
- * time that the limit bounds, beside the time for reading the file and for
- * clearing and copying the buffers. It gives up (22) if and only if it makes
- * more iterations where there is no limit. So a larger limit may turn giving
- * up into an answer, and never changes an answer already had: where n
- * iterations are made without a limit, each limit from n on gives that answer,
- * and each one below n gives up.
+ * it takes none more than 1 + routines * states * states times, which is 4097
+ * at most. The limit says how many iterations it may make in all. It makes none
+ * beyond that, so that a call returns within a time that the limit bounds,
+ * beside the time for reading the file and for clearing and copying the
+ * buffers. It gives up (22) if and only if it makes more iterations where there
+ * is no limit. So a larger limit may turn giving up into an answer, and never
+ * changes an answer already had: where n iterations are made without a limit,
+ * each limit from n on gives that answer, and each one below n gives up.
  *
  *     0                      gives up on every program with an initial state;
  *                            one without is answered, with 0 iterations
- *     16793600 or more       never gives up: it is 1025 times
- *                            PALTHRENNI_MARKS_SIZE
+ *     marks_size * (1 + routines * states * states) or more
+ *                            never gives up on a program of these sizes
+ *     67125248 or more       never gives up on any program: it is 4097 times
+ *                            PALTHRENNI_MARKS_MOST
  *     PALTHRENNI_NO_LIMIT    never gives up: it is the largest limit
  *
  * Nothing is kept of an analysis that gave up: the next call begins anew. This
@@ -280,9 +375,9 @@ uint32_t palthrenni_write(const uint8_t *file, size_t file_len,
  * return 22.
  *
  *   file, file_len    the file's bytes, of any length
- *   marks, marks_len  where the marks go: PALTHRENNI_MARKS_SIZE bytes, which
- *                     may hold anything before
- *   work, work_len    room to work in: PALTHRENNI_MARKS_SIZE bytes, which may
+ *   marks, marks_len  where the marks go: as many bytes as palthrenni_sizes
+ *                     gives, which may hold anything before
+ *   work, work_len    room to work in: as many bytes as the marks, which may
  *                     hold anything before
  *   limit             how many iterations may be made; any number
  *   line              set to the line of a refusal 1 to 8, else to 0
@@ -291,10 +386,10 @@ uint32_t palthrenni_write(const uint8_t *file, size_t file_len,
  *   iterations        set to how many iterations were made, which is never
  *                     above the limit
  *
- * Returns 1 to 8; then 19 or 20; then 9 or 11, the lower first, if the file is
- * accepted and a buffer has another length; then 22, if the analysis gave up;
- * else PALTHRENNI_OK. On PALTHRENNI_OK the marks are set, each to 0 or 1, and
- * the working buffer is all zero. On 22 the marks are unchanged and the
+ * Returns 1 to 8; then 19 or 20; then 23; then 9 or 11, the lower first, if the
+ * file is accepted and a buffer has another length; then 22, if the analysis
+ * gave up; else PALTHRENNI_OK. On PALTHRENNI_OK the marks are set, each to 0 or
+ * 1, and the working buffer is all zero. On 22 the marks are unchanged and the
  * working buffer is all zero, on every other refusal both buffers are
  * unchanged. On any refusal the three counts are 0.
  */
@@ -321,17 +416,17 @@ uint32_t palthrenni_analyze(const uint8_t *file, size_t file_len,
  *   file, file_len    the file's bytes, of any length
  *   marks, marks_len  the marks as palthrenni_analyze left them for this
  *                     file; they are lent for reading only
- *   work, work_len    room to work in: PALTHRENNI_MARKS_SIZE bytes, which may
+ *   work, work_len    room to work in: as many bytes as the marks, which may
  *                     hold anything before
  *   from              where to begin; any number
  *   line              set to the line of a refusal 1 to 8, else to 0
  *   found             set to the number of the violation, to PALTHRENNI_NONE
  *                     if there is none, or to 0 if the call was refused
  *
- * Returns 1 to 8; then 19 or 20; then 9 or 11, the lower first, if the file is
- * accepted and a buffer has another length; then 17, if the marks are not the
- * program's own; else PALTHRENNI_OK. On 17 and on PALTHRENNI_OK the working
- * buffer is all zero, on every other number it is unchanged.
+ * Returns 1 to 8; then 19 or 20; then 23; then 9 or 11, the lower first, if the
+ * file is accepted and a buffer has another length; then 17, if the marks are
+ * not the program's own; else PALTHRENNI_OK. On 17 and on PALTHRENNI_OK the
+ * working buffer is all zero, on every other number it is unchanged.
  */
 uint32_t palthrenni_next_violation(const uint8_t *file, size_t file_len,
                                    const uint8_t *marks, size_t marks_len,
@@ -350,15 +445,15 @@ uint32_t palthrenni_next_violation(const uint8_t *file, size_t file_len,
  * return can lead from the exit's state to the state of the configuration.
  *
  *   file, file_len    the file's bytes, of any length
- *   marks, marks_len  any marks, the program's own or not:
- *                     PALTHRENNI_MARKS_SIZE bytes, of which every byte other
- *                     than 0 is a mark
- *   work, work_len    room to work in: PALTHRENNI_MARKS_SIZE bytes, which may
+ *   marks, marks_len  any marks, the program's own or not: as many bytes as
+ *                     palthrenni_sizes gives, of which every byte other than 0
+ *                     is a mark
+ *   work, work_len    room to work in: as many bytes as the marks, which may
  *                     hold anything before
  *   line              set to the line of a refusal 1 to 8, else to 0
  *
- * Returns 1 to 8; then 19 or 20; then 9 or 11, the lower first, if the file is
- * accepted and a buffer has another length; else PALTHRENNI_OK. On
+ * Returns 1 to 8; then 19 or 20; then 23; then 9 or 11, the lower first, if the
+ * file is accepted and a buffer has another length; else PALTHRENNI_OK. On
  * PALTHRENNI_OK each mark that stays is 1, every other byte of the marks is 0,
  * and the working buffer is all zero. On a refusal both buffers are unchanged.
  */
@@ -381,9 +476,9 @@ uint32_t palthrenni_prune(const uint8_t *file, size_t file_len,
  * for files, one lent as the file and the other as the output, and swap them
  * after each accepted call: the next call's file is what this one wrote, the
  * first `written` bytes of its output. Each has PALTHRENNI_OUTPUT_SIZE bytes
- * or more; the one that holds the first file needs more where a file with rows
- * is longer. After a refusal lend the same file again. The marks go on as each
- * call leaves them.
+ * or more. After a refusal lend the same file again. The marks go on as each
+ * repair leaves them, in the same length; after an exchange its new marks go
+ * on.
  *
  * Each call costs at least one full analysis, without a limit, to see whether
  * the marks are the program's own (17); only a refusal before 17 costs less.
@@ -394,14 +489,14 @@ uint32_t palthrenni_prune(const uint8_t *file, size_t file_len,
  *   edit, edit_len      the edit line's bytes
  *   output, output_len  where the new file is written: PALTHRENNI_OUTPUT_SIZE
  *                       bytes or more
- *   work, work_len      room to work in: PALTHRENNI_MARKS_SIZE bytes, which
- *                       may hold anything before
+ *   work, work_len      room to work in: as many bytes as the marks, which may
+ *                       hold anything before
  *   line                set to the line of a refusal 1 to 8, else to 0
  *   written             set to how many bytes were written, or to 0 if the
  *                       call was refused
  *
- * Returns 1 to 8 for the file; then 19 or 20; then, if it is accepted, the
- * lowest of 9 to 17 that is met; else PALTHRENNI_OK. On PALTHRENNI_OK the
+ * Returns 1 to 8 for the file; then 19 or 20; then 23; then, if it is accepted,
+ * the lowest of 9 to 17 that is met; else PALTHRENNI_OK. On PALTHRENNI_OK the
  * marks are those that palthrenni_analyze would set for the new file, the new
  * file is at the start of the output and the rest of the output is unchanged,
  * and the working buffer is all zero. On a refusal the marks and the output
@@ -441,17 +536,44 @@ uint32_t palthrenni_repair_inside_out(const uint8_t *file, size_t file_len,
                                       uint32_t *reanalyzed);
 
 /*
+ * Reads a program file and the text of an exchange, which gives one routine
+ * other nodes and edges (palthrenni_exchange_forward, below, says how it is
+ * written), and gives the lengths that the exchange needs. It exchanges
+ * nothing.
+ *
+ *   file, file_len  the file's bytes, of any length
+ *   text, text_len  the text's bytes, of any length
+ *   line            set to the line of a refusal 1 to 8, else to 0: a refusal
+ *                   of the text has no line
+ *   nodes           set to how many nodes the longest routine of the new
+ *                   program has. Its routines and its states are as many as
+ *                   those of the file's program
+ *   marks_size      set to the length of the new program's marks
+ *   work_size       set to the length of the working buffer for the exchange:
+ *                   that of the old marks or of the new ones, the longer
+ *
+ * Returns 1 to 8 for the file; then 19 or 20; then 23; then, if it is accepted,
+ * the first that is met of 12, 13, 21, 16 and 23, in this order, each judged
+ * over the whole text before the next; else PALTHRENNI_OK. On a refusal the
+ * three numbers after the line are 0.
+ */
+uint32_t palthrenni_exchange_sizes(const uint8_t *file, size_t file_len,
+                                   const uint8_t *text, size_t text_len,
+                                   uint32_t *line, uint32_t *nodes,
+                                   uint32_t *marks_size, uint32_t *work_size);
+
+/*
  * Exchanges a whole routine, by the forward repair: reads a program file and
- * the text of an exchange, changes the marks to those of the new program, and
- * writes that program, its transitions one by one even where the file has
- * rows. In the new program the routine has another count of nodes, if the text
- * says so, and in the place of all its edges those of the text. Everything
- * else stays: the other routines, their calls of this one, and the automaton.
+ * the text of an exchange, sets the marks of the new program, and writes that
+ * program, its transitions one by one even where the file has rows. In the new
+ * program the routine has another count of nodes, if the text says so, and in
+ * the place of all its edges those of the text. Everything else stays: the
+ * other routines, their calls of this one, and the automaton.
  *
  * The text is lines of hexadecimal as in a file, two digits a number and a
  * byte 0A at the end of each line,
  *
- *     52 f p          first, and once: routine f has p nodes, 2 to 16
+ *     52 f p          first, and once: routine f has p nodes, 2 to 64
  *     53 f n a m      an edge of routine f from node n to m by label a
  *
  * with a frame 53 for each edge that the routine is to have, ascending,
@@ -465,63 +587,108 @@ uint32_t palthrenni_repair_inside_out(const uint8_t *file, size_t file_len,
  *
  * In C it is "520103\n5301000002\n5301020101\n", with its 29 bytes.
  *
+ * The marks of the new program may be longer or shorter than the old ones, so
+ * they go to a second buffer, which is one of its own even where the lengths
+ * are the same. The old ones are never changed.
+ *
  * A chain of calls is kept as for palthrenni_repair_forward, and repairs and
- * exchanges may take turns in it. Each call costs at least one full analysis,
- * without a limit, to see whether the marks are the program's own (17); only a
- * refusal before 17 costs less.
+ * exchanges may take turns in it. Where there are exchanges, keep two buffers
+ * for marks as well, of PALTHRENNI_MARKS_MOST bytes each, and swap them after
+ * each accepted exchange, as the files are. After a refusal lend the same file
+ * and the same marks again.
  *
- *   file, file_len      the file's bytes, of any length
- *   marks, marks_len    the marks as palthrenni_analyze, or the repair or
- *                       exchange before this one, left them for this file
- *   text, text_len      the text's bytes, of any length; they are lent for
- *                       reading only
- *   output, output_len  where the new file is written: PALTHRENNI_OUTPUT_SIZE
- *                       bytes or more
- *   work, work_len      room to work in: PALTHRENNI_MARKS_SIZE bytes, which
- *                       may hold anything before
- *   line                set to the line of a refusal 1 to 8, else to 0: a
- *                       refusal of the text has no line
- *   written             set to how many bytes were written, or to 0 if the
- *                       call was refused
+ *     refusal = palthrenni_exchange_sizes(file, file_len, text, text_len,
+ *                                         &line, &new_nodes, &new_size,
+ *                                         &work_size);
+ *     if (refusal == PALTHRENNI_OK)
+ *         refusal = palthrenni_exchange_forward(
+ *             file, file_len, marks, marks_size, text, text_len,
+ *             output, PALTHRENNI_OUTPUT_SIZE, work, work_size,
+ *             new_marks, new_size, &line, &written);
+ *     if (refusal == PALTHRENNI_OK) {
+ *         swap(&file, &output);
+ *         file_len = written;
+ *         swap(&marks, &new_marks);
+ *         marks_size = new_size;
+ *         nodes = new_nodes;
+ *     }
  *
- * Returns 1 to 8 for the file; then 19 or 20; then, if it is accepted, the
- * first that is met of 9, 10, 11, 12, 13, 21, 16 and 17, in this order, each
- * of 12, 13, 21 and 16 judged over the whole text before the next; else
- * PALTHRENNI_OK. (14 and 15 are never met.) On PALTHRENNI_OK the marks are
- * those that palthrenni_analyze would set for the new file, the new file is at
- * the start of the output and the rest of the output is unchanged, and the
- * working buffer is all zero. On a refusal the marks and the output are
- * unchanged; the working buffer is all zero on 17 and unchanged on every other
- * number.
+ * where swap lets two pointers to bytes change places.
+ *
+ * Each call costs at least one full analysis, without a limit, to see whether
+ * the marks are the program's own (17); only a refusal before 17 costs less.
+ *
+ *   file, file_len            the file's bytes, of any length
+ *   marks, marks_len          the marks as palthrenni_analyze, or the repair or
+ *                             exchange before this one, left them for this
+ *                             file; they are lent for reading only
+ *   text, text_len            the text's bytes, of any length; they are lent
+ *                             for reading only
+ *   output, output_len        where the new file is written:
+ *                             PALTHRENNI_OUTPUT_SIZE bytes or more
+ *   work, work_len            room to work in: as many bytes as
+ *                             palthrenni_exchange_sizes gives for it, which may
+ *                             hold anything before
+ *   new_marks, new_marks_len  where the new program's marks go: as many bytes
+ *                             as palthrenni_exchange_sizes gives for them,
+ *                             which may hold anything before
+ *   line                      set to the line of a refusal 1 to 8, else to 0: a
+ *                             refusal of the text has no line
+ *   written                   set to how many bytes were written, or to 0 if
+ *                             the call was refused
+ *
+ * Returns 1 to 8 for the file; then 19 or 20; then 23; then, if it is accepted,
+ * the first that is met of these, in this order, each of 12, 13, 21 and 16
+ * judged over the whole text before the next; else PALTHRENNI_OK:
+ *
+ *     9                   the old marks have another length
+ *     10                  the output is too short
+ *     12, 13, 21, 16      the text does not fit
+ *     23                  the new program is too large
+ *     9                   the new marks have another length
+ *     11                  the working buffer has another length
+ *     17                  the old marks are not those of the file's program
+ *
+ * (14 and 15 are never met.)
+ *
+ * On PALTHRENNI_OK the new marks are those that palthrenni_analyze would set
+ * for the new file, the new file is at the start of the output and the rest of
+ * the output is unchanged, and the working buffer is all zero. On a refusal the
+ * new marks and the output are unchanged; the working buffer is all zero on 17
+ * and unchanged on every other number.
  */
 uint32_t palthrenni_exchange_forward(const uint8_t *file, size_t file_len,
-                                     uint8_t *marks, size_t marks_len,
+                                     const uint8_t *marks, size_t marks_len,
                                      const uint8_t *text, size_t text_len,
                                      uint8_t *output, size_t output_len,
                                      uint8_t *work, size_t work_len,
+                                     uint8_t *new_marks, size_t new_marks_len,
                                      uint32_t *line, uint32_t *written);
 
 /*
- * As palthrenni_exchange_forward, by the inside-out repair. The marks, the
+ * As palthrenni_exchange_forward, by the inside-out repair. The new marks, the
  * output, the working buffer and the numbers are the same; one number more
  * says which routines were reanalyzed.
  *
- *   reanalyzed          set to a bit for each routine, bit f for routine f, or
- *                       to 0 if the call was refused
+ *   reanalyzed                set to a bit for each routine, bit f for routine
+ *                             f, or to 0 if the call was refused
  *
  * The reanalyzed routines are those of dropping all old edges of the routine
  * together, as for palthrenni_repair_inside_out, and then those that gain a
  * configuration when all new edges are added together. So the exchanged
  * routine is always one of them, and so is each routine that calls it, if it
  * could reach its exit before: in between, without an edge, it cannot. This
- * holds also where a routine is exchanged for itself, and no byte of the marks
- * changes.
+ * holds also where a routine is exchanged for itself, and the new marks are
+ * the old ones. A configuration is gained by its parts, and not by its number,
+ * which another count of nodes changes.
  */
 uint32_t palthrenni_exchange_inside_out(const uint8_t *file, size_t file_len,
-                                        uint8_t *marks, size_t marks_len,
+                                        const uint8_t *marks, size_t marks_len,
                                         const uint8_t *text, size_t text_len,
                                         uint8_t *output, size_t output_len,
                                         uint8_t *work, size_t work_len,
+                                        uint8_t *new_marks,
+                                        size_t new_marks_len,
                                         uint32_t *line, uint32_t *written,
                                         uint32_t *reanalyzed);
 
