@@ -4,8 +4,9 @@
  *
  *     check_file [--all] [--limit N] [--exchange TEXT [--output NEW]] [FILE]
  *
- * Without FILE it reads standard input. It prints the first 20 violations
- * (paper: findings) and how many more there are; with --all it prints each.
+ * Without FILE it reads standard input. It prints the program's sizes and the
+ * length of its marks (paper: the sheet), the first 20 violations (paper:
+ * findings), and how many more there are; with --all it prints each.
  *
  * With --limit the analysis (paper: working afresh) gives up where there are
  * more than N iterations (paper: takings), and then nothing is said of
@@ -40,10 +41,9 @@
 /* How many violations, or configurations, are printed without --all. */
 #define FIRST 20
 
-/* No accepted file has more than 6864 bytes, and one without rows no more than
- * PALTHRENNI_OUTPUT_SIZE; the text of an accepted exchange has fewer. A longer
- * one is handed over too, up to this length, so that the checker names its
- * fault. */
+/* No accepted file has more than PALTHRENNI_OUTPUT_SIZE bytes; the text of an
+ * accepted exchange has fewer. A longer one is handed over too, up to this
+ * length, so that the checker names its fault. */
 #define LONGEST 16384
 
 /* What is read: its name, which is NULL until one is given, and its bytes,
@@ -65,9 +65,22 @@ static const char *output_name;
 static const char *limit_given;
 static uint64_t limit = PALTHRENNI_NO_LIMIT;
 
-/* The marks (paper: the sheet), and room to work in. */
-static uint8_t marks[PALTHRENNI_MARKS_SIZE];
-static uint8_t work[PALTHRENNI_MARKS_SIZE];
+/* The sizes of a program: its routines, the nodes (paper: places) of the longest
+ * of them, and its states; and how many bytes its marks have. */
+struct sizes {
+    uint32_t routines, nodes, states, marks;
+};
+
+/* The marks of a program, with its sizes. There is room for any program; as
+ * many bytes are lent as this one has. */
+struct marks {
+    struct sizes sizes;
+    uint8_t bytes[PALTHRENNI_MARKS_MOST];
+};
+
+/* The marks of the program file, and room to work in. */
+static struct marks marks;
+static uint8_t work[PALTHRENNI_MARKS_MOST];
 
 /* Says on standard error what is wrong, and gives the status for it. */
 static int wrong(const char *where, const char *what)
@@ -111,7 +124,7 @@ static const char *meaning(uint32_t refusal)
     case PALTHRENNI_EDIT_RANGE:
         return "a number is outside its range, or an edge leaves the exit";
     case PALTHRENNI_TABLE_FULL:
-        return "more than 256 edges, transitions or rows";
+        return "more than 256 edges, 512 transitions or 256 rows";
     case PALTHRENNI_END_COUNT:
         return "the end count is wrong";
     case PALTHRENNI_FILE_END:
@@ -120,6 +133,8 @@ static const char *meaning(uint32_t refusal)
         return "a state and an action are met by no row";
     case PALTHRENNI_PAIR_MET_TWICE:
         return "a state and an action are met by more than one row";
+    case PALTHRENNI_TOO_LARGE:
+        return "routines x nodes x states x states would be more than 16384";
     case PALTHRENNI_EDIT_LINE:
         return "there is no line, or one that is not a frame 52 or 53";
     case PALTHRENNI_EXCHANGE_ORDER:
@@ -195,14 +210,28 @@ static int check_copy(void)
     return 0;
 }
 
+/* The parts of a configuration, which its number has by the sizes. */
+struct parts {
+    uint32_t routine, node, root, state;
+};
+
+static struct parts parts_of(uint32_t number, const struct sizes *sizes)
+{
+    struct parts parts = {
+        PALTHRENNI_ROUTINE(number, sizes->nodes, sizes->states),
+        PALTHRENNI_NODE(number, sizes->nodes, sizes->states),
+        PALTHRENNI_ROOT(number, sizes->nodes, sizes->states),
+        PALTHRENNI_STATE(number, sizes->nodes, sizes->states),
+    };
+    return parts;
+}
+
 /* Prints a configuration, after a word that says what is the matter with it. */
-static void print_configuration(const char *word, uint32_t number)
+static void print_configuration(const char *word, struct parts parts)
 {
     printf("%s: routine %lu, node %lu, root %lu, state %lu\n", word,
-           (unsigned long)PALTHRENNI_ROUTINE(number),
-           (unsigned long)PALTHRENNI_NODE(number),
-           (unsigned long)PALTHRENNI_ROOT(number),
-           (unsigned long)PALTHRENNI_STATE(number));
+           (unsigned long)parts.routine, (unsigned long)parts.node,
+           (unsigned long)parts.root, (unsigned long)parts.state);
 }
 
 /* Says how many were left out, if any were. */
@@ -223,28 +252,30 @@ static int print_first(uint32_t *printed)
     for (*printed = 0; *printed < FIRST; ++*printed) {
         uint32_t line, found;
         uint32_t refusal = palthrenni_next_violation(file.bytes, file.len,
-                                                     marks, sizeof marks,
-                                                     work, sizeof work,
+                                                     marks.bytes, marks.sizes.marks,
+                                                     work, marks.sizes.marks,
                                                      from, &line, &found);
         if (refusal != PALTHRENNI_OK)
             return wrong(file.name, "the marks of the analysis were refused");
         if (found == PALTHRENNI_NONE)
             break;
-        if (found < from || found >= PALTHRENNI_MARKS_SIZE)
+        if (found < from || found >= marks.sizes.marks)
             return wrong(file.name, "a violation was listed out of order");
-        print_configuration("violation", found);
+        print_configuration("violation", parts_of(found, &marks.sizes));
         from = found + 1;
     }
     return 0;
 }
 
 /* A frame 46 q says that state q is rejecting. The file is accepted: so q is
- * below 8 and the fourth digit of its line. */
-static void find_rejecting(int rejecting[8])
+ * below 16 and the fourth digit of its line. */
+static void find_rejecting(int rejecting[16])
 {
     for (size_t at = 0; at < file.len; at++) {
-        if (frame_at(file.bytes, at, "46"))
-            rejecting[file.bytes[at + 3] - '0'] = 1;
+        if (frame_at(file.bytes, at, "46")) {
+            uint8_t digit = file.bytes[at + 3];
+            rejecting[digit >= 'A' ? digit - 'A' + 10 : digit - '0'] = 1;
+        }
     }
 }
 
@@ -252,12 +283,13 @@ static void find_rejecting(int rejecting[8])
  * violation is a marked configuration whose state is rejecting. */
 static void print_all(uint32_t *printed)
 {
-    int rejecting[8] = {0};
+    int rejecting[16] = {0};
     find_rejecting(rejecting);
     *printed = 0;
-    for (uint32_t number = 0; number < PALTHRENNI_MARKS_SIZE; number++) {
-        if (marks[number] == 1 && rejecting[PALTHRENNI_STATE(number)]) {
-            print_configuration("violation", number);
+    for (uint32_t number = 0; number < marks.sizes.marks; number++) {
+        struct parts parts = parts_of(number, &marks.sizes);
+        if (marks.bytes[number] == 1 && rejecting[parts.state]) {
+            print_configuration("violation", parts);
             ++*printed;
         }
     }
@@ -287,13 +319,31 @@ static int gave_up(void)
     return 4;
 }
 
-/* Analyzes the accepted file, which sets the marks, and says what was counted,
- * or that it gave up. */
+/* Asks for the sizes of the accepted file's program, by which its marks and the
+ * room to work in are lent, and says them. */
+static int ask_sizes(struct sizes *sizes)
+{
+    uint32_t line;
+    uint32_t refusal = palthrenni_sizes(file.bytes, file.len, &line, &sizes->routines,
+                                        &sizes->nodes, &sizes->states, &sizes->marks);
+    if (refusal != PALTHRENNI_OK || sizes->marks > PALTHRENNI_MARKS_MOST)
+        return wrong(file.name, "accepted, but its sizes are refused");
+    printf("sizes: routines %lu, nodes %lu, states %lu; marks %lu bytes\n",
+           (unsigned long)sizes->routines, (unsigned long)sizes->nodes,
+           (unsigned long)sizes->states, (unsigned long)sizes->marks);
+    return 0;
+}
+
+/* Analyzes the accepted file, which sets the marks, and says its sizes and what
+ * was counted, or that it gave up. */
 static int analyze(uint32_t *violations)
 {
     uint32_t line, configurations, iterations;
-    uint32_t refusal = palthrenni_analyze(file.bytes, file.len, marks, sizeof marks,
-                                          work, sizeof work, limit, &line,
+    if (ask_sizes(&marks.sizes) != 0)
+        return 2;
+    uint32_t refusal = palthrenni_analyze(file.bytes, file.len,
+                                          marks.bytes, marks.sizes.marks,
+                                          work, marks.sizes.marks, limit, &line,
                                           &configurations, violations, &iterations);
     if (refusal == PALTHRENNI_GAVE_UP && limit != PALTHRENNI_NO_LIMIT)
         return gave_up();
@@ -327,8 +377,8 @@ static int check_runs(void)
     return status == 0 ? conclude(violations) : status;
 }
 
-/* Says what is refused and why; a refusal of the table, or of an exchange, has
- * no line. Gives the status for it. */
+/* Says what is refused and why; a refusal of the table, of the sizes, or of an
+ * exchange, has no line. Gives the status for it. */
 static int refused(const char *what, uint32_t refusal, uint32_t line)
 {
     printf("%s: %lu (%s)", what, (unsigned long)refusal, meaning(refusal));
@@ -338,54 +388,95 @@ static int refused(const char *what, uint32_t refusal, uint32_t line)
     return 1;
 }
 
-/* What an exchange gives back: its refusal, the marks, and the new file. */
+static int is_same_marks(const struct marks *one, const struct marks *other)
+{
+    return one->sizes.routines == other->sizes.routines
+        && one->sizes.nodes == other->sizes.nodes
+        && one->sizes.states == other->sizes.states
+        && one->sizes.marks == other->sizes.marks
+        && memcmp(one->bytes, other->bytes, one->sizes.marks) == 0;
+}
+
+/* What an exchange gives back: its refusal, the new marks, and the new file. */
 struct exchanged {
     uint32_t refusal;
-    uint8_t marks[PALTHRENNI_MARKS_SIZE];
+    struct marks marks;
     struct copy file;
 };
 
 static int is_same(const struct exchanged *one, const struct exchanged *other)
 {
     return one->refusal == other->refusal
-        && memcmp(one->marks, other->marks, sizeof one->marks) == 0
+        && is_same_marks(&one->marks, &other->marks)
         && is_copy(&one->file, other->file.bytes, other->file.len);
 }
 
-/* Makes the exchange by both repairs, each on marks and an output of its own.
- * Which routines were reanalyzed, only the inside-out repair says. */
+/* Asks for the sizes that the new program will have, and for the length of the
+ * room to work in; both lengths are 0 if the exchange is refused. An exchange
+ * leaves the routines and the states as many as they are. */
+static uint32_t ask_exchange_sizes(struct sizes *sizes, uint32_t *work_size)
+{
+    uint32_t line;
+    sizes->routines = marks.sizes.routines;
+    sizes->states = marks.sizes.states;
+    return palthrenni_exchange_sizes(file.bytes, file.len, text.bytes, text.len, &line,
+                                     &sizes->nodes, &sizes->marks, work_size);
+}
+
+/* Makes the exchange by both repairs, each with new marks and an output of its
+ * own. Which routines were reanalyzed, only the inside-out repair says. What
+ * the sizes are refused for, both refuse, before they look at the lengths. */
 static int exchange(struct exchanged *result, uint32_t *reanalyzed)
 {
     static struct exchanged inward;
-    uint32_t line;
-    memcpy(result->marks, marks, sizeof marks);
-    memcpy(inward.marks, marks, sizeof marks);
+    uint32_t line, work_size;
+    uint32_t refusal = ask_exchange_sizes(&result->marks.sizes, &work_size);
+    uint32_t size = result->marks.sizes.marks;
+    if (size > PALTHRENNI_MARKS_MOST || work_size > PALTHRENNI_MARKS_MOST)
+        return wrong(text.name, "the marks or the room to work in would be too long");
+    inward.marks.sizes = result->marks.sizes;
     result->refusal = palthrenni_exchange_forward(
-        file.bytes, file.len, result->marks, sizeof result->marks, text.bytes, text.len,
-        result->file.bytes, sizeof result->file.bytes, work, sizeof work,
-        &line, &result->file.len);
+        file.bytes, file.len, marks.bytes, marks.sizes.marks, text.bytes, text.len,
+        result->file.bytes, sizeof result->file.bytes, work, work_size,
+        result->marks.bytes, size, &line, &result->file.len);
     inward.refusal = palthrenni_exchange_inside_out(
-        file.bytes, file.len, inward.marks, sizeof inward.marks, text.bytes, text.len,
-        inward.file.bytes, sizeof inward.file.bytes, work, sizeof work,
-        &line, &inward.file.len, reanalyzed);
+        file.bytes, file.len, marks.bytes, marks.sizes.marks, text.bytes, text.len,
+        inward.file.bytes, sizeof inward.file.bytes, work, work_size,
+        inward.marks.bytes, size, &line, &inward.file.len, reanalyzed);
     if (result->file.len > sizeof result->file.bytes || !is_same(result, &inward))
         return wrong(text.name, "the two repairs do not come to the same");
-    if (result->refusal != PALTHRENNI_OK && memcmp(result->marks, marks, sizeof marks) != 0)
-        return wrong(text.name, "refused, but the marks were changed");
+    if (result->refusal != refusal)
+        return wrong(text.name, "the sizes and the exchange are not refused alike");
     return 0;
 }
 
+/* Whether these marks have a configuration. Its parts may be those of a program
+ * with more nodes. */
+static int has(const struct marks *there, struct parts parts)
+{
+    const struct sizes *sizes = &there->sizes;
+    if (parts.node >= sizes->nodes)
+        return 0;
+    uint32_t number = parts.routine * sizes->nodes + parts.node;
+    number = number * sizes->states + parts.root;
+    number = number * sizes->states + parts.state;
+    return there->bytes[number];
+}
+
 /* Prints the configurations that are marked here and not there, and says how
- * many they are. */
-static uint32_t print_only(const char *word, const uint8_t *here, const uint8_t *there)
+ * many they are. They are compared by their parts: where the sizes are others,
+ * the same number stands for other parts. */
+static uint32_t print_only(const char *word, const struct marks *here,
+                           const struct marks *there)
 {
     uint32_t count = 0, printed = 0;
-    for (uint32_t number = 0; number < PALTHRENNI_MARKS_SIZE; number++) {
-        if (here[number] == there[number] || here[number] == 0)
+    for (uint32_t number = 0; number < here->sizes.marks; number++) {
+        struct parts parts = parts_of(number, &here->sizes);
+        if (here->bytes[number] == 0 || has(there, parts))
             continue;
         count++;
         if (all || printed < FIRST) {
-            print_configuration(word, number);
+            print_configuration(word, parts);
             printed++;
         }
     }
@@ -402,8 +493,8 @@ static void print_changes(const struct exchanged *result, uint32_t reanalyzed)
             printf(" %d", routine);
     }
     printf("\n");
-    uint32_t new = print_only("new", result->marks, marks);
-    uint32_t gone = print_only("gone", marks, result->marks);
+    uint32_t new = print_only("new", &result->marks, &marks);
+    uint32_t gone = print_only("gone", &marks, &result->marks);
     if (new == 0 && gone == 0)
         printf("no configuration is new, and none is gone\n");
 }
@@ -421,8 +512,8 @@ static int write_output(void)
 }
 
 /* Exchanges a routine of the accepted file, says what has changed, and goes on
- * with the new file in the place of the old one. Its analysis has to set the
- * marks that the exchange left. */
+ * with the new file in the place of the old one. It has to have the sizes, and
+ * its analysis to set the marks, that the exchange left. */
 static int check_exchange(void)
 {
     static struct exchanged result;
@@ -440,7 +531,7 @@ static int check_exchange(void)
     status = analyze(&violations);
     if (status != 0)
         return status;
-    if (memcmp(result.marks, marks, sizeof marks) != 0)
+    if (!is_same_marks(&result.marks, &marks))
         return wrong(text.name, "the marks left are not those of the new program");
     if (output_name != NULL && write_output() != 0)
         return 2;
