@@ -5,6 +5,15 @@
 #[link(name = "desk", kind = "static", modifiers = "-bundle")]
 extern "C" {
     pub fn palthrenni_read(file: *const u8, file_len: usize, line: *mut u32) -> u32;
+    pub fn palthrenni_sizes(
+        file: *const u8,
+        file_len: usize,
+        line: *mut u32,
+        routines: *mut u32,
+        places: *mut u32,
+        states: *mut u32,
+        marks_size: *mut u32,
+    ) -> u32;
     pub fn palthrenni_write(
         file: *const u8,
         file_len: usize,
@@ -75,10 +84,20 @@ extern "C" {
         written: *mut u32,
         reanalyzed: *mut u32,
     ) -> u32;
+    pub fn palthrenni_exchange_sizes(
+        file: *const u8,
+        file_len: usize,
+        text: *const u8,
+        text_len: usize,
+        line: *mut u32,
+        places: *mut u32,
+        marks_size: *mut u32,
+        work_size: *mut u32,
+    ) -> u32;
     pub fn palthrenni_exchange_forward(
         file: *const u8,
         file_len: usize,
-        marks: *mut u8,
+        marks: *const u8,
         marks_len: usize,
         text: *const u8,
         text_len: usize,
@@ -86,13 +105,15 @@ extern "C" {
         output_len: usize,
         work: *mut u8,
         work_len: usize,
+        new_marks: *mut u8,
+        new_marks_len: usize,
         line: *mut u32,
         written: *mut u32,
     ) -> u32;
     pub fn palthrenni_exchange_inside_out(
         file: *const u8,
         file_len: usize,
-        marks: *mut u8,
+        marks: *const u8,
         marks_len: usize,
         text: *const u8,
         text_len: usize,
@@ -100,6 +121,8 @@ extern "C" {
         output_len: usize,
         work: *mut u8,
         work_len: usize,
+        new_marks: *mut u8,
+        new_marks_len: usize,
         line: *mut u32,
         written: *mut u32,
         reanalyzed: *mut u32,

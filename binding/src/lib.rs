@@ -87,6 +87,10 @@ pub fn read(file: Option<&[u8]>) -> Answer<0> {
     answer!(palthrenni_read(file;;))
 }
 
+pub fn sizes(file: Option<&[u8]>) -> Answer<4> {
+    answer!(palthrenni_sizes(file;; routines, places, states, marks_size))
+}
+
 pub fn write(file: Option<&[u8]>, output: Option<&mut [u8]>) -> Answer<1> {
     answer!(palthrenni_write(file, output;; written))
 }
@@ -133,22 +137,30 @@ pub fn repair_inside_out(
     answer!(palthrenni_repair_inside_out(file, marks, edit, output, work;; written, reanalyzed))
 }
 
+pub fn exchange_sizes(file: Option<&[u8]>, text: Option<&[u8]>) -> Answer<3> {
+    answer!(palthrenni_exchange_sizes(file, text;; places, marks_size, work_size))
+}
+
 pub fn exchange_forward(
     file: Option<&[u8]>,
-    marks: Option<&mut [u8]>,
+    marks: Option<&[u8]>,
     text: Option<&[u8]>,
     output: Option<&mut [u8]>,
     work: Option<&mut [u8]>,
+    new_marks: Option<&mut [u8]>,
 ) -> Answer<1> {
-    answer!(palthrenni_exchange_forward(file, marks, text, output, work;; written))
+    answer!(palthrenni_exchange_forward(file, marks, text, output, work, new_marks;; written))
 }
 
 pub fn exchange_inside_out(
     file: Option<&[u8]>,
-    marks: Option<&mut [u8]>,
+    marks: Option<&[u8]>,
     text: Option<&[u8]>,
     output: Option<&mut [u8]>,
     work: Option<&mut [u8]>,
+    new_marks: Option<&mut [u8]>,
 ) -> Answer<2> {
-    answer!(palthrenni_exchange_inside_out(file, marks, text, output, work;; written, reanalyzed))
+    answer!(palthrenni_exchange_inside_out(
+        file, marks, text, output, work, new_marks;; written, reanalyzed
+    ))
 }

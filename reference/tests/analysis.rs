@@ -14,20 +14,22 @@ use reference::generate::hearing::{Heard, MetHearing};
 use reference::generate::limits::{self, MetLimits};
 use reference::generate::met::Met;
 use reference::generate::programs::{
-    hub, hub_of_roots, hub_without_returns, program_of_seed, program_of_shape,
+    hub, hub_of_most_roots, hub_of_roots, hub_without_returns, program_of_seed, program_of_shape,
 };
 use reference::generate::random::Random;
 use reference::generate::shapes::SHAPES;
 use reference::generate::sheets::{foreign, wrong_lengths, FOREIGN};
+use reference::generate::size_classes::MetSizes;
 use reference::generate::tables::{complete_file, file_with_rows_of_seed};
 use reference::model::analysis::{self, Analysis, Analyzed, NONE};
 use reference::model::calls::sheets::{analyze_answer, next_answer, Counts, NO_LIMIT};
 use reference::model::calls::Answer;
 use reference::model::file::{self, Reading};
 use reference::model::refusals::{
-    BAD_LINE, FOREIGN_SHEET, GAVE_UP, PAIR_MET_TWICE, PAIR_NOT_MET, SHEET_LENGTH, WORK_LENGTH,
+    BAD_LINE, FOREIGN_SHEET, GAVE_UP, PAIR_MET_TWICE, PAIR_NOT_MET, SHEET_LENGTH, SHEET_TOO_LARGE,
+    WORK_LENGTH,
 };
-use reference::model::standing::SHEET_SIZE;
+use reference::model::standing::MOST_SHEET;
 use reference::model::write::{write, OUTPUT_SIZE};
 
 /// How often each refusal and each outcome has to be met, so that agreeing on it means something.
@@ -63,6 +65,8 @@ struct Tally {
     classes: MetClasses,
     /// Programs by what their rule hears.
     hearing: MetHearing,
+    /// Files by their sizes.
+    sizes: MetSizes,
     /// Limits by how they stand to the takings.
     limits: MetLimits,
 }
@@ -94,6 +98,20 @@ impl Case {
 
     fn analysis(&self) -> Option<&Analysis> {
         self.analyzed.as_ref().ok()
+    }
+
+    /// How long its buffers have to be. Where the file is refused, any length will do.
+    fn length(&mut self) -> usize {
+        match &self.analyzed {
+            Ok(analysis) => analysis.sheet.len(),
+            Err(_) => self.random.pick(&[2, 54, MOST_SHEET]),
+        }
+    }
+
+    /// A buffer of that length.
+    fn lent(&mut self) -> Lent {
+        let length = self.length();
+        Lent::of_length(&mut self.random, length)
     }
 
     /// The takings, 0 where the file is refused.
@@ -135,8 +153,7 @@ fn compare_limits(case: &mut Case, tally: &mut Tally) {
         _ => vec![limits::some(&mut case.random, takings)],
     };
     for limit in limits {
-        let marks = Lent::of_length(&mut case.random, SHEET_SIZE);
-        let work = Lent::of_length(&mut case.random, SHEET_SIZE);
+        let (marks, work) = (case.lent(), case.lent());
         compare_analyze(case, &marks, &work, limit, tally);
     }
 }
@@ -168,7 +185,8 @@ fn compare_next(
 
 /// Calls with buffers of any length, at least one of them a wrong one.
 fn compare_wrong_lengths(case: &mut Case, tally: &mut Tally) {
-    let (marks, work) = wrong_lengths(&mut case.random);
+    let right = case.length();
+    let (marks, work) = wrong_lengths(&mut case.random, right);
     let marks = Lent::of_length(&mut case.random, marks);
     let work = Lent::of_length(&mut case.random, work);
     let from = some_number(&mut case.random, &[]);
@@ -178,10 +196,10 @@ fn compare_wrong_lengths(case: &mut Case, tally: &mut Tally) {
     compare_next(case, &marks, &work, from, tally);
 }
 
-/// A number to ask from: the lowest, at a finding or beside it, at the end of the sheet and beyond.
+/// A number to ask from: the lowest, at a finding or beside it, at the end of a sheet and beyond.
 fn some_number(random: &mut Random, findings: &[u32]) -> u32 {
     let finding = match findings.len() {
-        0 => random.below(SHEET_SIZE) as u32,
+        0 => random.below(MOST_SHEET) as u32,
         count => findings[random.below(count)],
     };
     let last = findings.last().map_or(0, |&last| last + 1);
@@ -194,12 +212,13 @@ fn some_number(random: &mut Random, findings: &[u32]) -> u32 {
 
 /// Asks with a sheet that is not the program's own.
 fn compare_foreign(case: &mut Case, own: &[u8], way: usize, tally: &mut Tally) {
-    let sheet = match foreign(&mut case.random, own, way) {
+    let program = case.reading.as_ref().expect("the file is accepted");
+    let sheet = match foreign(&mut case.random, program, own, way) {
         Some(sheet) => sheet,
         None => return,
     };
     let marks = Lent::new(&mut case.random, &sheet);
-    let work = Lent::of_length(&mut case.random, SHEET_SIZE);
+    let work = case.lent();
     let from = some_number(&mut case.random, &[]);
     let answer = compare_next(case, &marks, &work, from, tally);
     assert_eq!(answer.refusal, FOREIGN_SHEET);
@@ -210,12 +229,12 @@ fn compare_foreign(case: &mut Case, own: &[u8], way: usize, tally: &mut Tally) {
 fn compare_own(case: &mut Case, analysis: &Analysis, times: usize, tally: &mut Tally) {
     let marks = Lent::new(&mut case.random, &analysis.sheet);
     for _ in 0..times {
-        let work = Lent::of_length(&mut case.random, SHEET_SIZE);
+        let work = case.lent();
         let from = some_number(&mut case.random, &analysis.findings);
         compare_next(case, &marks, &work, from, tally);
     }
     if analysis.standings() <= MANY_STANDINGS && analysis.findings.len() <= LONG_LIST {
-        let work = Lent::of_length(&mut case.random, SHEET_SIZE);
+        let work = case.lent();
         compare_list(case, &marks, &work, &analysis.findings, tally);
     }
 }
@@ -235,8 +254,7 @@ fn compare_list(case: &Case, marks: &Lent, work: &Lent, findings: &[u32], tally:
 
 /// Holds the library against the reference on one file.
 fn compare(case: &mut Case, tally: &mut Tally) {
-    let marks = Lent::of_length(&mut case.random, SHEET_SIZE);
-    let work = Lent::of_length(&mut case.random, SHEET_SIZE);
+    let (marks, work) = (case.lent(), case.lent());
     let answer = compare_analyze(case, &marks, &work, NO_LIMIT, tally);
     compare_limits(case, tally);
     compare_wrong_lengths(case, tally);
@@ -264,6 +282,7 @@ fn compare(case: &mut Case, tally: &mut Tally) {
         tally.hearing.note(program, &analysis.sheet);
     }
     tally.classes.note(&case.file, &case.reading);
+    tally.sizes.note(&case.file, &case.reading);
 }
 
 fn note(answer: &Answer<Counts>, tally: &mut Tally) {
@@ -310,6 +329,7 @@ fn programs_of_many_seeds_agree() {
     tally.limits.check_refused_before(&lengths, OFTEN);
     tally.hearing.check(150);
     assert!(tally.hearing.times(Heard::Nothing) >= 1_500, "{tally:?}");
+    tally.sizes.check_accepted(20);
 }
 
 #[test]
@@ -317,14 +337,16 @@ fn damaged_files_agree() {
     let tally = compare_seeds("file", FILE_SEEDS, file_of_seed);
     tally.limits.check(OFTEN);
     for met in [tally.analyzed, tally.asked] {
-        met.check((BAD_LINE..=SHEET_LENGTH).chain([WORK_LENGTH]), OFTEN);
+        let refusals = [WORK_LENGTH, SHEET_TOO_LARGE];
+        met.check((BAD_LINE..=SHEET_LENGTH).chain(refusals), OFTEN);
     }
 }
 
 #[test]
 fn files_with_rows_agree() {
     let tally = compare_seeds("file with rows", ROW_SEEDS, file_with_rows_of_seed);
-    let of_files = (0..=SHEET_LENGTH).chain([WORK_LENGTH, PAIR_NOT_MET, PAIR_MET_TWICE]);
+    let of_tables = [PAIR_NOT_MET, PAIR_MET_TWICE, SHEET_TOO_LARGE, WORK_LENGTH];
+    let of_files = (0..=SHEET_LENGTH).chain(of_tables);
     let analyzed = of_files.clone().chain([GAVE_UP]);
     tally.analyzed.check(analyzed, OFTEN);
     tally.limits.check(OFTEN);
@@ -370,6 +392,7 @@ fn every_shape_agrees() {
     for (name, hub) in [
         ("hub", hub()),
         ("hub of roots", hub_of_roots()),
+        ("hub of most roots", hub_of_most_roots()),
         ("hub without returns", hub_without_returns()),
     ] {
         let mut hub = Case::new(name.to_string(), write(&hub), 0);

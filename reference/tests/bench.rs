@@ -16,7 +16,8 @@ use reference::model::analysis::own_sheet;
 use reference::model::bench::{bench, file_and_edits, MOST_INPUT};
 use reference::model::file::read;
 use reference::model::refusals::{
-    BAD_EDIT, BAD_LINE, FILE_END, INPUT_LONG, PAIR_MET_TWICE, PAIR_NOT_MET, STEPS_FULL,
+    BAD_EDIT, BAD_LINE, FILE_END, INPUT_LONG, PAIR_MET_TWICE, PAIR_NOT_MET, SHEET_TOO_LARGE,
+    STEPS_FULL,
 };
 use std::env;
 use std::ffi::OsString;
@@ -132,7 +133,7 @@ fn inputs_of_many_seeds_agree() {
     println!("inputs of seeds: {tally:?}");
     tally.met.check(BAD_EDIT..=STEPS_FULL, OFTEN);
     tally.met.check(BAD_LINE..=FILE_END, AT_TIMES);
-    tally.met.check([INPUT_LONG], AT_TIMES);
+    tally.met.check([INPUT_LONG, SHEET_TOO_LARGE], AT_TIMES);
     assert!(
         tally.blocks >= 5_000 && tally.findings >= 5_000,
         "{tally:?}"
@@ -189,7 +190,7 @@ fn large_inputs_agree() {
     let random = &mut Random::new(0);
     let largest = read(&cases::files::largest()).expect("the largest file is accepted");
     for (name, home, edits, times) in [
-        ("the largest file", largest, 800, 3),
+        ("the largest file", largest, 700, 3),
         ("the sample", sample::program(), 1_600, 5),
     ] {
         for _ in 0..times {

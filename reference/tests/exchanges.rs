@@ -7,11 +7,15 @@
 
 mod desk;
 
+use desk::lent::{self, Lending};
 use desk::lists::{self, Lists};
 use desk::trial::{self, Tally};
+use reference::cases::exchanges::lengths;
 use reference::cases::sample;
 use reference::generate::damage::one_byte_wrong;
 use reference::generate::exchanges;
+use reference::generate::files::file_of_seed;
+use reference::generate::met::Met;
 use reference::generate::programs::program_of_shape;
 use reference::generate::random::Random;
 use reference::generate::shapes::{Shape, Shares};
@@ -20,25 +24,28 @@ use reference::generate::text_classes::JUDGED;
 use reference::generate::text_damage::{damaged, long};
 use reference::model::analysis::own_sheet;
 use reference::model::calls::repairs::Function::{self, *};
-use reference::model::calls::repairs::{EXCHANGES, FUNCTIONS, REPAIRS};
+use reference::model::calls::repairs::{Held, EXCHANGES, FUNCTIONS, REPAIRS};
+use reference::model::calls::sizes::{exchange_sizes_answer, SizesOfExchange};
 use reference::model::exchange::Exchange;
 use reference::model::file::read;
 use reference::model::program::Program;
 use reference::model::refusals::{
-    BAD_EDIT, EDIT_RANGE, EXCHANGE_ORDER, FOREIGN_SHEET, NOT_THERE, OUTPUT_SHORT, PAIR_MET_TWICE,
-    PAIR_NOT_MET, SHEET_LENGTH, STEPS_FULL, THERE_ALREADY, WORK_LENGTH,
+    BAD_EDIT, BAD_LINE, EDIT_RANGE, EXCHANGE_ORDER, FILE_END, FOREIGN_SHEET, NOT_THERE,
+    OUTPUT_SHORT, PAIR_MET_TWICE, PAIR_NOT_MET, RANGE, SHEET_LENGTH, SHEET_TOO_LARGE, STEPS_FULL,
+    THERE_ALREADY, WORK_LENGTH,
 };
-use reference::model::write::write;
+use reference::model::write::{write, OUTPUT_SIZE};
 use std::collections::BTreeSet;
 
 /// How often each refusal, and each class of texts, has to be met by each function.
 const OFTEN: usize = 20;
-const SINGLE_SEEDS: u64 = 2_000;
+const SINGLE_SEEDS: u64 = 2_800;
 const ROW_SEEDS: u64 = 700;
 const CALLS_A_SEED: usize = 3;
-const DAMAGED_SEEDS: u64 = 3_000;
+const DAMAGED_SEEDS: u64 = 4_000;
 const LONG_SEEDS: u64 = 400;
 const ROUTINE_SEEDS: u64 = 160;
+const SIZE_SEEDS: u64 = 1_500;
 
 /// The refusals that a call with an accepted file and its own sheet may get.
 const OF_REPAIRS: [u32; 7] = [
@@ -50,8 +57,10 @@ const OF_REPAIRS: [u32; 7] = [
     THERE_ALREADY,
     STEPS_FULL,
 ];
-const OF_EXCHANGES: [u32; 6] = [
+const OF_EXCHANGES: [u32; 8] = [
+    SHEET_LENGTH,
     OUTPUT_SHORT,
+    SHEET_TOO_LARGE,
     WORK_LENGTH,
     BAD_EDIT,
     EDIT_RANGE,
@@ -99,6 +108,8 @@ fn single_exchanges_of_many_seeds_agree() {
     let of_files: Vec<u32> = (1..=SHEET_LENGTH).chain([FOREIGN_SHEET]).collect();
     check_met(&tally, &EXCHANGES, &of_files, 15);
     tally.texts.check(&EXCHANGES, &JUDGED, OFTEN);
+    tally.lengths.check(10);
+    tally.sizes.check_accepted(OFTEN);
     tally.check_accepted(5_000, 2_500);
     tally.check_hearing(150);
     assert!(tally.reopened[1].min(tally.reopened[2]) >= 500, "{tally:?}");
@@ -124,6 +135,8 @@ const SHARES: &Shares = &[
     (5, Shape::Layered),
     (2, Shape::Mixed),
     (2, Shape::Crowded),
+    (1, Shape::Long),
+    (1, Shape::ManyStates),
 ];
 
 /// By all four functions, by the exchanges alone, and by those of one repair.
@@ -174,8 +187,12 @@ fn lists_of_repairs_and_exchanges_agree_with_the_book() {
     check_met(&tally, &FUNCTIONS, &[FOREIGN_SHEET], OFTEN);
     check_met(&tally, &REPAIRS, &OF_REPAIRS, OFTEN);
     check_met(&tally, &EXCHANGES, &OF_EXCHANGES, OFTEN);
-    tally.texts.check(&EXCHANGES, &[0], OFTEN);
-    tally.rows.check(OF_EXCHANGES.into_iter().chain([0]), 5);
+    tally.texts.check(&EXCHANGES, &[0], 5);
+    tally.lengths.check_lists(OFTEN);
+    let with_rows = OF_EXCHANGES.into_iter().chain([0]);
+    tally
+        .rows
+        .check(with_rows.filter(|&one| one != SHEET_TOO_LARGE), 5);
     tally.rows.check([0], 500);
     tally.check_accepted(12_000, 4_000);
     tally.check_edits(500);
@@ -226,6 +243,7 @@ fn a_forward_exchange_for_no_step_is_the_keeping_on_the_old_sheet() {
         let (answer, left, file) = trial::repaired(ExchangeForward, &before, &emptied.text());
         assert_eq!(answer.refusal, 0, "seed {seed}");
         let after = read(&file).expect("what is written is accepted");
+        // The routine keeps its places, so both programs have the same sizes.
         let kept = desk::kept(&after, &own_sheet(&before));
         assert_eq!(left, kept, "seed {seed}");
     }
@@ -253,6 +271,69 @@ fn a_text_with_any_one_byte_wrong_agrees() {
     println!("texts with a byte wrong: {tally:?}");
     let answers = [0, BAD_EDIT, EDIT_RANGE, EXCHANGE_ORDER];
     check_met(&tally, &EXCHANGES, &answers, 3);
+}
+
+#[test]
+fn sizes_of_exchanges_worked_out_by_hand() {
+    for case in lengths::all() {
+        let answer = desk::exchange_sizes(&case.file, case.text.as_bytes());
+        assert_eq!(answer, case.answer, "{}", case.name);
+    }
+}
+
+/// The sizes of an exchange, and the exchange made with buffers of these lengths.
+#[test]
+fn the_sizes_of_exchanges_agree() {
+    let mut met = Met::default();
+    for seed in 0..SIZE_SEEDS {
+        let random = &mut Random::new(seed);
+        let program = trial::home(random);
+        let own = own_sheet(&program);
+        let text = exchanges::text(random, &program, &program, &own);
+        let file = match random.percent(15) {
+            true => file_of_seed(seed),
+            false => write(&program),
+        };
+        let reading = read(&file);
+        let (answer, _) = lent::compare(
+            &format!("seed {seed}"),
+            &Lending::text(&file, &text),
+            |file, lent| desk::exchange_sizes(file, lent.text),
+            |_| exchange_sizes_answer(&reading, &text),
+        );
+        met.note(answer.refusal);
+        if answer.refusal == 0 {
+            let after = made_in(&file, &text, &answer.value);
+            assert_eq!(desk::sheet_length(&after), answer.value.second as usize);
+        }
+    }
+    println!("sizes of exchanges: {met:?}");
+    let of_files = [BAD_LINE, RANGE, FILE_END];
+    let of_texts = [
+        BAD_EDIT,
+        EDIT_RANGE,
+        EXCHANGE_ORDER,
+        STEPS_FULL,
+        SHEET_TOO_LARGE,
+    ];
+    met.check(of_files.into_iter().chain(of_texts), 10);
+    met.check([0], 800);
+}
+
+/// The file that an exchange writes which is made by the library in buffers of these lengths.
+fn made_in(file: &[u8], text: &[u8], sizes: &SizesOfExchange) -> Vec<u8> {
+    let program = read(file).expect("the file is accepted");
+    let mut held = Held {
+        sheet: own_sheet(&program),
+        text: text.to_vec(),
+        output: vec![7; OUTPUT_SIZE],
+        work: vec![7; sizes.work as usize],
+        second: vec![7; sizes.second as usize],
+    };
+    let answer = desk::call(ExchangeForward, file, &mut held.lend());
+    assert_eq!(answer.refusal, 0);
+    held.output.truncate(answer.value.written as usize);
+    held.output
 }
 
 #[test]

@@ -12,17 +12,21 @@ use reference::generate::damage::{lines_of, one_byte_wrong};
 use reference::generate::files::file_of_seed;
 use reference::generate::label_classes::MetLabels;
 use reference::generate::met::Met;
+use reference::generate::size_classes::MetSizes;
 use reference::generate::tables::{file_with_rows_of_seed, has_rows};
 use reference::model::calls::files::{read_answer, write_answer};
+use reference::model::calls::sizes::sizes_answer;
 use reference::model::calls::Answer;
 use reference::model::file::{self, Reading};
 use reference::model::kinds::{ROUTINE, RULE, SIZES, STEP};
 use reference::model::lines::text_of;
-use reference::model::refusals::{FILE_END, OUTPUT_SHORT, PAIR_MET_TWICE, PAIR_NOT_MET};
+use reference::model::refusals::{
+    FILE_END, OUTPUT_SHORT, PAIR_MET_TWICE, PAIR_NOT_MET, SHEET_TOO_LARGE,
+};
 use reference::model::write::{end, OUTPUT_SIZE};
 
 /// Lengths of outputs. Every file goes to one of the needed length, and to one of these.
-const LENGTHS: [usize; 7] = [0, 5327, 5329, 1, 5328, 6000, 16384];
+const LENGTHS: [usize; 7] = [0, 7711, 7713, 5328, 7712, 8000, 16384];
 /// How often each refusal has to be met, so that agreeing on it means something.
 const OFTEN: usize = 50;
 const SEEDS: u64 = 24_000;
@@ -39,6 +43,7 @@ struct Tally {
     classes: MetClasses,
     /// Labels of rule lines and steps.
     labels: MetLabels,
+    sizes: MetSizes,
 }
 
 /// Holds the library against the reference on one file.
@@ -51,6 +56,12 @@ fn compare(name: &str, file: &[u8], tally: &mut Tally) {
         |_| read_answer(&reading),
     );
     tally.met.note(answer.refusal);
+    lent::compare(
+        name,
+        &Lending::file(file),
+        |file, _| desk::sizes(file),
+        |_| sizes_answer(&reading),
+    );
     let other = LENGTHS[tally.files % LENGTHS.len()];
     for length in [OUTPUT_SIZE, other] {
         let answer = compare_writing(name, file, &reading, length);
@@ -62,6 +73,7 @@ fn compare(name: &str, file: &[u8], tally: &mut Tally) {
     tally.files += 1;
     tally.classes.note(file, &reading);
     tally.labels.note(file, &reading);
+    tally.sizes.note(file, &reading);
     let two_faults = matches!(reading, Err(refusal) if refusal.faults.len() > 1);
     tally.lines_with_two_faults += usize::from(two_faults);
 }
@@ -123,8 +135,10 @@ fn files_of_many_seeds_agree() {
         }
     }
     println!("files of seeds: {tally:?}");
-    tally.met.check((0..=FILE_END).chain([OUTPUT_SHORT]), OFTEN);
+    let refusals = [OUTPUT_SHORT, SHEET_TOO_LARGE];
+    tally.met.check((0..=FILE_END).chain(refusals), OFTEN);
     tally.labels.check(OFTEN);
+    tally.sizes.check(OFTEN);
     assert!(tally.lines_with_two_faults >= OFTEN, "{tally:?}");
 }
 
@@ -140,7 +154,7 @@ fn files_with_rows_of_many_seeds_agree() {
         }
     }
     println!("files with rows of seeds: {tally:?}");
-    let refusals = [OUTPUT_SHORT, PAIR_NOT_MET, PAIR_MET_TWICE];
+    let refusals = [OUTPUT_SHORT, PAIR_NOT_MET, PAIR_MET_TWICE, SHEET_TOO_LARGE];
     tally.met.check((0..=FILE_END).chain(refusals), OFTEN);
     tally.classes.check(30);
     assert!(tally.classes.files >= 10_000, "{tally:?}");
@@ -275,25 +289,30 @@ fn the_largest_file_fills_the_least_output() {
         compare("the largest file", &largest, &mut tally);
     }
     let mut output = vec![0; OUTPUT_SIZE];
-    assert_eq!(desk::write(&largest, &mut output).value, 5328);
+    assert_eq!(desk::write(&largest, &mut output).value, 7712);
     assert_eq!(output, largest);
 }
 
 #[test]
 fn the_largest_file_with_rows_fills_the_least_output_too() {
     let largest = cases::tables::full::largest();
-    assert!(largest.len() > OUTPUT_SIZE);
     let mut tally = Tally::default();
     for _ in LENGTHS {
         compare("the largest file with rows", &largest, &mut tally);
     }
-    assert_eq!(written("the largest file with rows", &largest).len(), 5328);
+    assert_eq!(
+        written("the largest file with rows", &largest).len(),
+        OUTPUT_SIZE
+    );
 }
 
 #[test]
 fn buffers_of_no_bytes_may_be_null() {
     assert_eq!(binding::read(None), desk::refused(8, 1));
+    assert_eq!(binding::sizes(None), desk::refused(8, 1));
+    assert_eq!(binding::exchange_sizes(None, None), desk::refused(8, 1));
     assert_eq!(binding::write(None, None), desk::refused(8, 1));
     let file = Some(sample::FILE);
     assert_eq!(binding::write(file, None), desk::refused(10, 0));
+    assert_eq!(binding::exchange_sizes(file, None), desk::refused(12, 0));
 }

@@ -9,7 +9,9 @@ use reference::model::calls::sheets::Counts;
 use reference::model::calls::Answer;
 use reference::model::file;
 use reference::model::refusals::FOREIGN_SHEET;
-use reference::model::standing::SHEET_SIZE;
+
+/// How long the sample's sheet is, and that of the others here.
+const LENGTH: usize = 54;
 
 /// A limit that no program with a start state is worked within, and one that all are.
 const LIMITS: [u64; 2] = [0, binding::NO_LIMIT];
@@ -31,8 +33,8 @@ fn cases_worked_out_by_hand() {
 #[test]
 fn each_byte_of_a_sheet_counts() {
     let own = own_sheet(&sample::program());
-    let mut work = vec![0xA5; SHEET_SIZE];
-    for at in 0..SHEET_SIZE {
+    let mut work = vec![0xA5; LENGTH];
+    for at in 0..LENGTH {
         let mut sheet = own.clone();
         sheet[at] = if at % 2 == 0 {
             1 - own[at]
@@ -50,9 +52,9 @@ fn each_byte_of_a_sheet_counts() {
 fn a_list_can_be_asked_from_any_number() {
     let file = cases::analyses::entry_forbidden();
     let analysis = analysis::analyze(&file::read(&file).expect("accepted"));
-    let mut work = vec![0; SHEET_SIZE];
-    let far = (14..32).map(|power| 1 << power).chain([NONE - 1, NONE]);
-    for from in (0..=1100).chain(far) {
+    let mut work = vec![0; LENGTH];
+    let far = (7..32).map(|power| 1 << power).chain([NONE - 1, NONE]);
+    for from in (0..=100).chain(far) {
         let answer = desk::next_violation(&file, &analysis.sheet, &mut work, from);
         let wanted = analysis.next_finding(from);
         assert_eq!((answer.refusal, answer.value), (0, wanted), "from {from}");
@@ -73,7 +75,7 @@ fn buffers_of_no_bytes_may_be_null() {
     for limit in LIMITS {
         let given = binding::analyze(file, None, None, limit);
         assert_eq!(given, desk::refused(9, 0));
-        let mut marks = vec![7; SHEET_SIZE];
+        let mut marks = vec![7; LENGTH];
         let given = binding::analyze(file, Some(&mut marks), None, limit);
         assert_eq!(given, desk::refused(11, 0));
         assert!(marks.iter().all(|&byte| byte == 7));

@@ -5,15 +5,18 @@ mod desk;
 
 use desk::lent::{self, Lending, Lent};
 use reference::generate::hearing::hears_nothing;
-use reference::generate::programs::{hub, hub_of_roots, program_of_seed, program_of_shape};
+use reference::generate::programs::{
+    hub, hub_of_most_roots, hub_of_roots, program_of_seed, program_of_shape,
+};
 use reference::generate::random::Random;
 use reference::generate::shapes::{Shape, SHAPES};
 use reference::model::analysis::{analysis_of, analyze, Analysis};
 use reference::model::calls::sheets::{analyze_answer, Counts, NO_LIMIT};
-use reference::model::former;
-use reference::model::fresh::MOST_TAKINGS;
-use reference::model::program::{Event, Program, RuleLine, TABLE_ROWS};
-use reference::model::standing::{marked, SHEET_SIZE};
+use reference::model::former::{self, is_former, FORMER_SIZES};
+use reference::model::fresh;
+use reference::model::fresh::most_takings;
+use reference::model::program::{Event, Program, RuleLine, MOST_RULE_LINES};
+use reference::model::standing::marked;
 use reference::model::write::write;
 
 const SEEDS: u64 = 3_000;
@@ -21,7 +24,7 @@ const SPELLED_SEEDS: u64 = 2_000;
 
 /// The analysis by the procedure that knew nothing of what a rule hears.
 fn formerly(program: &Program) -> Analysis {
-    analysis_of(program, &former::work_afresh(program))
+    analysis_of(program, &former::work_in(program.sizes(), program))
 }
 
 /// The program with no more than the actions of its rule.
@@ -38,8 +41,8 @@ fn deafened(program: Program) -> Program {
 fn compare_formerly(name: &str, program: &Program, random: &mut Random) {
     assert!(hears_nothing(program), "{name}");
     let (file, former) = (write(program), formerly(program));
-    let sheet = Lent::of_length(random, SHEET_SIZE);
-    let work = Lent::of_length(random, SHEET_SIZE);
+    let sheet = Lent::of_length(random, former.sheet.len());
+    let work = Lent::of_length(random, former.sheet.len());
     lent::compare(
         name,
         &Lending::sheet(&file, &sheet, &work),
@@ -86,7 +89,7 @@ fn spelled_out(program: &Program) -> Option<Program> {
             spelled.rule.extend((0..program.states).map(stays));
         }
     }
-    Some(spelled).filter(|spelled| spelled.rule.len() <= TABLE_ROWS)
+    Some(spelled).filter(|spelled| spelled.rule.len() <= MOST_RULE_LINES)
 }
 
 /// A call or a return that is not heard is the same as one that leaves each state alone by a line.
@@ -119,7 +122,7 @@ fn what_is_not_heard_may_be_put_down_for_keepings() {
             Some(all) => all,
             None => continue,
         };
-        let sheet: Vec<u8> = (0..SHEET_SIZE)
+        let sheet: Vec<u8> = (0..program.sizes().length())
             .map(|_| u8::from(random.percent(80)))
             .collect();
         let kept = desk::kept(&program, &sheet);
@@ -129,13 +132,36 @@ fn what_is_not_heard_may_be_put_down_for_keepings() {
     assert!(parted >= 50, "{parted}");
 }
 
-/// The most takings that there can be: one standing has 1,025 of them.
+/// The most takings that there can be: one standing has 1,025 of them, or 4,097 with 16 states.
 #[test]
-fn the_hub_of_roots_takes_as_many_takings_as_the_reference_says() {
-    let program = hub_of_roots();
-    let analysis = analyze(&program);
-    let (numbers, counts) = desk::worked(&write(&program));
-    assert_eq!(numbers, marked(&analysis.sheet));
-    assert_eq!(counts, Counts::of(&analysis));
-    assert!(counts.takings > MOST_TAKINGS);
+fn the_hubs_of_roots_take_as_many_takings_as_the_reference_says() {
+    for program in [hub_of_roots(), hub_of_most_roots()] {
+        let analysis = analyze(&program);
+        let (numbers, counts) = desk::worked(&write(&program));
+        assert_eq!(numbers, marked(&analysis.sheet));
+        assert_eq!(counts, Counts::of(&analysis));
+        assert!(counts.takings > most_takings(program.sizes()));
+    }
+}
+
+/// Programs that could be put down before they had sizes of their own keep their standings, their findings
+/// and their count of takings; only the numbers go by other sizes.
+#[test]
+fn former_programs_keep_all_but_their_numbers() {
+    let mut former = 0;
+    for seed in 0..1_500 {
+        let program = program_of_seed(seed);
+        if !is_former(&program) {
+            continue;
+        }
+        let worked = fresh::work_in(FORMER_SIZES, &program);
+        let wanted = analysis_of(&program, &worked);
+        let (numbers, counts) = desk::worked(&write(&program));
+        assert_eq!(counts, Counts::of(&wanted), "seed {seed}");
+        let own = program.sizes();
+        let given = numbers.into_iter().map(|number| own.standing(number));
+        assert!(given.eq(worked.by_parts().into_keys()), "seed {seed}");
+        former += 1;
+    }
+    assert!(former >= 1_000, "{former}");
 }

@@ -24,15 +24,15 @@ use reference::model::calls::sheets::keep_answer;
 use reference::model::file::{read, Reading};
 use reference::model::program::Program;
 use reference::model::refusals::{
-    BAD_LINE, PAIR_MET_TWICE, PAIR_NOT_MET, SHEET_LENGTH, WORK_LENGTH,
+    BAD_LINE, PAIR_MET_TWICE, PAIR_NOT_MET, SHEET_LENGTH, SHEET_TOO_LARGE, WORK_LENGTH,
 };
-use reference::model::standing::{marked, SHEET_SIZE};
+use reference::model::standing::marked;
 use reference::model::write::write;
 
 /// How often each refusal has to be met, so that agreeing on it means something.
 const OFTEN: usize = 20;
 const SEEDS: u64 = 2_000;
-const FILE_SEEDS: u64 = 1_500;
+const FILE_SEEDS: u64 = 2_500;
 const ROW_SEEDS: u64 = 11_000;
 
 /// What the keepings have met.
@@ -82,7 +82,7 @@ fn compare_sheet(
     let sheet = sheets::any(random, &own_sheet(program), way);
     let edited = at_times_dropped(random, program);
     let lent = Lent::new(random, &sheet);
-    let work = Lent::of_length(random, SHEET_SIZE);
+    let work = Lent::of_length(random, sheet.len());
     let (name, file) = (format!("{name}, way {way}"), write(&edited));
     let kept = compare(&name, &file, &Ok(edited.clone()), [&lent, &work], tally);
     let (stayed, were) = (marked(kept.content()).len(), marked(&sheet).len());
@@ -116,6 +116,9 @@ fn keepings_of_many_seeds_agree() {
         (25, Shape::Layered),
         (4, Shape::Mixed),
         (1, Shape::Crowded),
+        (2, Shape::Long),
+        (2, Shape::ManyStates),
+        (1, Shape::Largest),
     ];
     for seed in 0..SEEDS {
         let random = &mut Random::new(seed);
@@ -139,6 +142,9 @@ fn keepings_of_every_shape_agree() {
         Shape::Wide,
         Shape::Mixed,
         Shape::Full,
+        Shape::Long,
+        Shape::ManyStates,
+        Shape::Ruled,
     ];
     for (place, shape) in shapes.into_iter().enumerate() {
         for way in 0..sheets::ANY {
@@ -165,15 +171,22 @@ fn refused_keepings_agree() {
     for seed in 0..FILE_SEEDS {
         let random = &mut Random::new(seed);
         let file = file_of_seed(seed);
-        let (sheet, work) = sheets::wrong_lengths(random);
+        let reading = read(&file);
+        let (sheet, work) = sheets::wrong_lengths(random, length(&reading));
         let sheet = Lent::of_length(random, sheet);
         let work = Lent::of_length(random, work);
         let name = format!("file {seed}");
-        compare(&name, &file, &read(&file), [&sheet, &work], &mut tally);
+        compare(&name, &file, &reading, [&sheet, &work], &mut tally);
     }
     println!("refused keepings: {tally:?}");
-    let refusals = (BAD_LINE..=SHEET_LENGTH).chain([WORK_LENGTH]);
+    let refusals = (BAD_LINE..=SHEET_LENGTH).chain([WORK_LENGTH, SHEET_TOO_LARGE]);
     tally.met.check(refusals, OFTEN);
+}
+
+/// How long the buffers for a file of this reading have to be; where it is refused, any length.
+fn length(reading: &Reading) -> usize {
+    let sizes = reading.as_ref().map(Program::sizes);
+    sizes.map_or(54, |sizes| sizes.length())
 }
 
 /// The ways to make a sheet that go by the program's own. The others mark so much that they take long.
@@ -183,7 +196,7 @@ const NEAR_OWN: [usize; 4] = [0, 4, 5, 6];
 fn sheet_for(random: &mut Random, reading: &Reading) -> Vec<u8> {
     let program = match reading {
         Ok(program) => program,
-        Err(_) => return random.content(SHEET_SIZE),
+        Err(_) => return random.content(length(reading)),
     };
     let near = random.pick(&NEAR_OWN);
     let any = random.below(sheets::ANY);
@@ -200,9 +213,9 @@ fn keepings_with_rows_agree() {
         let reading = read(&file);
         tally.classes.note(&file, &reading);
         let sheet = sheet_for(random, &reading);
-        let (mut lent, mut work) = (Lent::new(random, &sheet), SHEET_SIZE);
+        let (mut lent, mut work) = (Lent::new(random, &sheet), sheet.len());
         if random.percent(10) {
-            let (sheet, wrong) = sheets::wrong_lengths(random);
+            let (sheet, wrong) = sheets::wrong_lengths(random, sheet.len());
             (lent, work) = (Lent::of_length(random, sheet), wrong);
         }
         let work = Lent::of_length(random, work);
@@ -212,7 +225,7 @@ fn keepings_with_rows_agree() {
         tally.parted += usize::from(!stayed.is_empty() && stayed.len() < were.len());
     }
     println!("keepings with rows: {tally:?}");
-    let refusals = [WORK_LENGTH, PAIR_NOT_MET, PAIR_MET_TWICE];
+    let refusals = [WORK_LENGTH, PAIR_NOT_MET, PAIR_MET_TWICE, SHEET_TOO_LARGE];
     tally.met.check((0..=SHEET_LENGTH).chain(refusals), OFTEN);
     tally.classes.check(OFTEN);
     assert!(tally.classes.files >= 10_000, "{tally:?}");
@@ -225,13 +238,13 @@ fn each_single_mark_and_each_single_gap_agrees() {
     let mut tally = Tally::default();
     let own = own_sheet(&sample::program());
     let random = &mut Random::new(1);
-    for at in (0..SHEET_SIZE).step_by(31).chain(marked(&own)) {
-        let (mut mark, mut gap) = (own.clone(), vec![1; SHEET_SIZE]);
+    for at in 0..own.len() {
+        let (mut mark, mut gap) = (own.clone(), vec![1; own.len()]);
         mark[at] = 1 - own[at];
         gap[at] = 0;
         for sheet in [mark, gap] {
             let sheet = Lent::new(random, &sheet);
-            let work = Lent::of_length(random, SHEET_SIZE);
+            let work = Lent::of_length(random, own.len());
             let (name, reading) = (format!("standing {at}"), Ok(sample::program()));
             compare(&name, sample::FILE, &reading, [&sheet, &work], &mut tally);
         }
@@ -275,10 +288,10 @@ fn buffers_of_no_bytes_may_be_null() {
     let file = Some(sample::FILE);
     assert_eq!(binding::prune(None, None, None), desk::refused(8, 1));
     assert_eq!(binding::prune(file, None, None), desk::refused(9, 0));
-    let sheet = &mut [1; SHEET_SIZE];
+    let sheet = &mut [1; 54];
     assert_eq!(
         binding::prune(file, Some(sheet), None),
         desk::refused(11, 0)
     );
-    assert_eq!(sheet, &[1; SHEET_SIZE]);
+    assert_eq!(sheet, &[1; 54]);
 }

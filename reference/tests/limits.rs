@@ -18,7 +18,7 @@ use reference::model::calls::sheets::{analyze_answer, Counts};
 use reference::model::calls::Answer;
 use reference::model::program::Program;
 use reference::model::refusals::GAVE_UP;
-use reference::model::standing::{marked, SHEET_SIZE};
+use reference::model::standing::marked;
 use reference::model::write::write;
 use std::collections::BTreeSet;
 
@@ -39,10 +39,11 @@ fn compare(
 ) {
     let (file, analysis) = (write(program), analyze(program));
     let limits = limits(random, analysis.takings);
+    let length = analysis.sheet.len();
     let analyzed = Ok(analysis);
     for limit in limits {
-        let sheet = Lent::of_length(random, SHEET_SIZE);
-        let work = Lent::of_length(random, SHEET_SIZE);
+        let sheet = Lent::of_length(random, length);
+        let work = Lent::of_length(random, length);
         let (answer, _) = lent::compare(
             &format!("{name}, limit {limit}"),
             &Lending::sheet(&file, &sheet, &work),
@@ -59,7 +60,8 @@ type Worked = Option<(Counts, Vec<u8>)>;
 /// A fresh working by the library alone, in buffers with any content. Where it gives up, it leaves the
 /// sheet as it was.
 fn worked_up_to(limit: u64, file: &[u8], random: &mut Random) -> Worked {
-    let (lent, mut work) = (random.content(SHEET_SIZE), random.content(SHEET_SIZE));
+    let length = desk::sheet_length(file);
+    let (lent, mut work) = (random.content(length), random.content(length));
     let mut sheet = lent.clone();
     let answer = desk::analyze(file, &mut sheet, &mut work, limit);
     assert!(work.iter().all(|&byte| byte == 0));
@@ -176,7 +178,7 @@ fn limit_0_is_enough_only_where_there_is_no_start_state() {
             };
             worked_up_to(0, &write(&program), random)
         };
-        let nothing = (Counts::default(), vec![0; SHEET_SIZE]);
+        let nothing = (Counts::default(), vec![0; program.sizes().length()]);
         let given = with_starts(BTreeSet::new());
         assert!(given == Some(nothing), "seed {seed}, no start state");
         let given = with_starts(BTreeSet::from([some_state]));

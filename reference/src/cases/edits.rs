@@ -6,7 +6,7 @@
 use crate::cases::files::{full_steps, largest};
 use crate::cases::sample;
 
-/// A file that is accepted, a line or the text of an exchange, and the refusal from 12 to 16, or 21,
+/// A file that is accepted, a line or the text of an exchange, and the refusal from 12 to 16, 21 or 23
 /// that it gets; 0 if none.
 pub struct EditCase {
     pub name: String,
@@ -143,13 +143,13 @@ fn full_tables() -> Vec<EditCase> {
         case(
             "the 257th of the largest file",
             largest(),
-            "2B0F0F4F0F\n",
+            "2B0F034F03\n",
             16,
         ),
         case(
             "replace in the largest file",
             largest(),
-            "3D00000F0F4F\n",
+            "3D00000F034F\n",
             0,
         ),
     ]

@@ -4,6 +4,7 @@
 
 use crate::cases::sample::{self, followed_by, inserted, removed, replaced, swapped};
 use crate::cases::{heard, tables};
+use crate::model::file::Frame;
 use crate::model::lines::text_of;
 use crate::model::write::end;
 
@@ -25,6 +26,8 @@ pub fn all() -> Vec<Case> {
     cases.extend(wrong_first_frames());
     cases.extend(routine_frames());
     cases.extend(sizes());
+    cases.extend(products());
+    cases.extend(products_after_all_else());
     cases.extend(step_ranges());
     cases.extend(labels());
     cases.extend(other_ranges());
@@ -158,6 +161,15 @@ fn wrong_first_frames() -> Vec<Case> {
         case("first a routine out of range", "52FFFF\n", 4, 1),
         case("first an end with a wrong count", "450001\n", 4, 1),
         case("first a step from the exit", "5300010000\n", 4, 1),
+        case("a row first, of seven", "5500010000000100\n", 3, 1),
+        case("a row first, of five", "550000000100\n", 3, 1),
+        case(
+            "a row first, Q 9 after it",
+            "55010000000100\n50010901\n",
+            4,
+            1,
+        ),
+        case("sizes out of range, a row after", "50011101\n55\n", 5, 1),
     ];
     for text in first {
         let name = format!("{text} first");
@@ -203,7 +215,9 @@ fn sizes() -> Vec<Case> {
         case("R 255", "50FF0101\n", 5, 1),
         case("Q 0", small("50010001"), 5, 1),
         case("Q 8", small("50010801"), 0, 0),
-        case("Q 9", small("50010901"), 5, 1),
+        case("Q 9", small("50010901"), 0, 0),
+        case("Q 16", small("50011001"), 0, 0),
+        case("Q 17", small("50011101"), 5, 1),
         case("A 0", small("50010100"), 5, 1),
         case("A 32", small("50010120"), 0, 0),
         case("A 33", small("50010121"), 5, 1),
@@ -211,17 +225,91 @@ fn sizes() -> Vec<Case> {
         case("P 1", replaced(2, "520001"), 5, 2),
         case("P 2", replaced(3, "520102"), 0, 0),
         case("P 16", replaced(2, "520010"), 0, 0),
-        case("P 17", replaced(2, "520011"), 5, 2),
+        case("P 17", replaced(2, "520011"), 0, 0),
+        case("P 64", replaced(2, "520040"), 0, 0),
+        case("P 65", replaced(2, "520041"), 5, 2),
         case("P 255", replaced(2, "5200FF"), 5, 2),
     ]
 }
 
-/// A program of so many routines and nothing else.
-pub fn with_routines(count: usize) -> Vec<u8> {
-    let mut frames = vec![vec![0x50, count as u8, 8, 32]];
-    frames.extend((0..count).map(|routine| vec![0x52, routine as u8, 16]));
+/// The sizes and the routines of a program: routine f has the f-th count of places.
+fn beginning(places: &[u8], states: u8) -> Vec<Frame> {
+    let mut frames = vec![vec![0x50, places.len() as u8, states, 32]];
+    let routines = places.iter().enumerate();
+    frames.extend(routines.map(|(routine, &places)| vec![0x52, routine as u8, places]));
+    frames
+}
+
+/// Frames as a file, with its end.
+fn ended(mut frames: Vec<Frame>) -> Vec<u8> {
     frames.push(end(frames.len()));
     text_of(&frames)
+}
+
+/// A program of routines with so many places each, with so many states, and nothing else.
+pub fn of_sizes(places: &[u8], states: u8) -> Vec<u8> {
+    ended(beginning(places, states))
+}
+
+/// A program of so many routines and nothing else.
+pub fn with_routines(count: usize) -> Vec<u8> {
+    of_sizes(&vec![16; count], 8)
+}
+
+/// Routines, places of the longest and states twice, multiplied: 16,384 and what lies about it. The next
+/// product above it that sizes can have is 16,400.
+fn products() -> Vec<Case> {
+    let of = |routines: usize, places: u8, states: u8| of_sizes(&vec![places; routines], states);
+    let one_long = |places| of_sizes(&[2, 2, places, 2], 10);
+    vec![
+        case("16 by 16 by 8", of(16, 16, 8), 0, 0),
+        case("16 by 17 by 8", of(16, 17, 8), 23, 0),
+        case("15 by 17 by 8", of(15, 17, 8), 0, 0),
+        case("16 by 16 by 9", of(16, 16, 9), 23, 0),
+        case("16 by 4 by 16", of(16, 4, 16), 0, 0),
+        case("16 by 5 by 16", of(16, 5, 16), 23, 0),
+        case("1 by 64 by 16", of(1, 64, 16), 0, 0),
+        case("2 by 64 by 16", of(2, 64, 16), 23, 0),
+        case("2 by 32 by 16", of(2, 32, 16), 0, 0),
+        case("2 by 33 by 16", of(2, 33, 16), 23, 0),
+        case("4 by 64 by 8", of(4, 64, 8), 0, 0),
+        case("5 by 64 by 8", of(5, 64, 8), 23, 0),
+        case("16 by 64 by 4", of(16, 64, 4), 0, 0),
+        case("16 by 64 by 5", of(16, 64, 5), 23, 0),
+        case("16 by 64 by 16", of(16, 64, 16), 23, 0),
+        case("16,400 by 10 states", of(4, 41, 10), 23, 0),
+        case("16,400 by 5 states", of(16, 41, 5), 23, 0),
+        case("16,000", of(4, 40, 10), 0, 0),
+        case("one long routine of 40", one_long(40), 0, 0),
+        case("one long routine of 41", one_long(41), 23, 0),
+    ]
+}
+
+/// A product that is too large is judged last, after every line and after a table.
+fn products_after_all_else() -> Vec<Case> {
+    let with = |lines: &str| tables::file(&format!("50021001 520002 520121 {lines}"));
+    let followed = [with("4900"), b"\n".to_vec()].concat();
+    vec![
+        case("too large, and a start", with("4900"), 23, 0),
+        case("too large, then state Q", with("4910"), 5, 4),
+        case("too large, then order", with("4901 4900"), 4, 5),
+        case("too large, then no end", "50021001\n520002\n520121\n", 8, 4),
+        case(
+            "too large, then a wrong end",
+            "50021001\n520002\n520121\n450004\n",
+            7,
+            4,
+        ),
+        case("too large, then a line", followed, 8, 6),
+        case("too large, a table", with("55FFFF0000000100"), 23, 0),
+        case("too large, not met", with("557FFF0000000100"), 19, 0),
+        case(
+            "too large, met twice",
+            with("5580000000000100 55FFFF0000000100"),
+            20,
+            0,
+        ),
+    ]
 }
 
 fn step_ranges() -> Vec<Case> {
@@ -282,30 +370,35 @@ fn other_ranges() -> Vec<Case> {
 
 /// A program of 16 routines with so many steps and rule lines, then these lines, then the end.
 pub fn large(steps: usize, rule: usize, last: &[Vec<u8>]) -> Vec<u8> {
-    let mut frames = vec![vec![0x50, 16, 8, 32]];
-    frames.extend((0..16).map(|routine| vec![0x52, routine, 16]));
-    let every_step = (0..16).flat_map(|to| (0..32).map(move |label| (label, to)));
-    let mut all_steps: Vec<_> = every_step
-        .map(|(label, to)| vec![0x53, 0, 0, label, to])
-        .collect();
-    all_steps.sort();
-    frames.extend(all_steps.into_iter().take(steps));
-    let every_rule_line = (0..32).flat_map(|action| (0..8).map(move |to| (action, to)));
-    let mut all_rule: Vec<_> = every_rule_line
-        .map(|(action, to)| vec![0x54, 3, action, to])
-        .collect();
-    all_rule.push(vec![0x54, 4, 0, 0]);
-    frames.extend(all_rule.into_iter().take(rule));
+    let mut frames = beginning(&[16; 16], 8);
+    let every_step = (0..32).flat_map(|label| (0..16).map(move |to| vec![0x53, 0, 0, label, to]));
+    frames.extend(every_step.take(steps));
+    let from_each = (3..6).flat_map(|from| (0..32).map(move |action| (from, action)));
+    let every_rule_line =
+        from_each.flat_map(|(from, action)| (0..8).map(move |to| vec![0x54, from, action, to]));
+    frames.extend(every_rule_line.take(rule));
     frames.extend_from_slice(last);
-    frames.push(end(frames.len()));
-    text_of(&frames)
+    ended(frames)
 }
 
-/// The largest file there is.
+/// A program of 16 routines, 4 places and 16 states with 256 steps, by actions from two places of main,
+/// and with this rule; all its states are starts and forbidden.
+pub fn with_most_states(rule: &[Frame]) -> Vec<u8> {
+    let mut frames = beginning(&[4; 16], 16);
+    for from in [0, 2] {
+        let steps = (0..32).flat_map(|label| (0..4).map(move |to| vec![0x53, 0, from, label, to]));
+        frames.extend(steps);
+    }
+    frames.extend_from_slice(rule);
+    frames.extend((0..16).map(|state| vec![0x49, state]));
+    frames.extend((0..16).map(|state| vec![0x46, state]));
+    ended(frames)
+}
+
+/// The largest file there is: 512 rule lines, and all else in full.
 pub fn largest() -> Vec<u8> {
-    let starts = (0..8).map(|state| vec![0x49, state]);
-    let forbidden = (0..8).map(|state| vec![0x46, state]);
-    large(256, 256, &starts.chain(forbidden).collect::<Vec<_>>())
+    let lines = (0..32).flat_map(|action| (0..16).map(move |to| vec![0x54, 3, action, to]));
+    with_most_states(&lines.collect::<Vec<_>>())
 }
 
 /// A program of 16 routines with so many steps, all from main's entry, and nothing else.
@@ -323,19 +416,21 @@ fn full_tables() -> Vec<Case> {
         case("257 steps", large(257, 0, &[]), 6, 274),
         case("257 steps, then rule lines", large(257, 9, &[]), 6, 274),
         case("300 steps", large(300, 0, &[]), 6, 274),
-        case("255 rule lines", large(0, 255, &[]), 0, 0),
-        case("256 rule lines", large(0, 256, &[]), 0, 0),
-        case("257 rule lines", large(0, 257, &[]), 6, 274),
-        case("256 steps, 257 rule lines", large(256, 257, &[]), 6, 530),
-        case("257 steps, 257 rule lines", large(257, 257, &[]), 6, 274),
-        case("a ninth start", large(256, 256, &ninth_start), 5, 538),
+        case("257 rule lines", large(0, 257, &[]), 0, 0),
+        case("511 rule lines", large(0, 511, &[]), 0, 0),
+        case("512 rule lines", large(0, 512, &[]), 0, 0),
+        case("513 rule lines", large(0, 513, &[]), 6, 530),
+        case("600 rule lines", large(0, 600, &[]), 6, 530),
+        case("256 steps, 513 rule lines", large(256, 513, &[]), 6, 786),
+        case("257 steps, 513 rule lines", large(257, 513, &[]), 6, 274),
+        case("a ninth start", large(256, 512, &ninth_start), 5, 794),
     ]
 }
 
-/// What the 257th line of a full table may also have wrong.
+/// What the first line past a full table may also have wrong.
 fn lines_past_full_tables() -> Vec<Case> {
     let steps = |last: &[u8]| large(256, 0, &[last.to_vec()]);
-    let rule = |last: &[u8]| large(0, 256, &[last.to_vec()]);
+    let rule = |last: &[u8]| large(0, 512, &[last.to_vec()]);
     vec![
         case("257th step fits", steps(&[0x53, 15, 15, 31, 15]), 6, 274),
         case("257th step calls", steps(&[0x53, 15, 15, 0x4F, 1]), 6, 274),
@@ -351,16 +446,16 @@ fn lines_past_full_tables() -> Vec<Case> {
         ),
         case("257th of no kind", steps(&[0x56, 0, 0, 0, 0]), 2, 274),
         case("257th too short", steps(&[0x53, 15, 15, 31]), 3, 274),
-        case("257th rule line", rule(&[0x54, 7, 31, 7]), 6, 274),
-        case("257th rule, state 8", rule(&[0x54, 8, 0, 0]), 5, 274),
-        case("257th rule, action 32", rule(&[0x54, 7, 32, 0]), 5, 274),
-        case("257th rule repeats", rule(&[0x54, 3, 31, 7]), 4, 274),
+        case("513th rule line", rule(&[0x54, 7, 31, 7]), 6, 530),
+        case("513th rule, state 8", rule(&[0x54, 8, 0, 0]), 5, 530),
+        case("513th rule, action 32", rule(&[0x54, 7, 32, 0]), 5, 530),
+        case("513th rule repeats", rule(&[0x54, 4, 31, 7]), 4, 530),
     ]
 }
 
 /// Lines with more than one fault: the lowest number decides.
 fn several_faults() -> Vec<Case> {
-    let two_wrong_lines = "50020302\n520003\n520111\n5300004\n";
+    let two_wrong_lines = "50020302\n520003\n520141\n5300004\n";
     vec![
         case("unknown and odd", replaced(4, "560"), 1, 4),
         case("unknown, a bad character", replaced(4, "56G0"), 1, 4),
@@ -398,7 +493,7 @@ mod tests {
     #[test]
     fn the_largest_file_has_the_length_of_an_output() {
         assert_eq!(largest().len(), OUTPUT_SIZE);
-        assert_eq!(OUTPUT_SIZE, 5328);
+        assert_eq!(OUTPUT_SIZE, 7712);
     }
 
     #[test]

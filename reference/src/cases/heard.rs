@@ -14,7 +14,6 @@ use crate::cases::tables::two_by_two;
 use crate::model::file::read;
 use crate::model::lines::{line_of, text_of};
 use crate::model::program::Program;
-use crate::model::standing::SHEET_SIZE;
 use crate::model::write::end;
 
 /// The sample with these rule lines more, which stand in order after those from state 0 by actions, or
@@ -32,7 +31,7 @@ fn program(file: &[u8]) -> Program {
 pub fn other_root() -> Vec<u8> {
     sample_with(&["54004101"])
 }
-const OTHER_ROOT: [usize; 5] = [0, 65, 129, 1033, 1097];
+const OTHER_ROOT: [usize; 5] = [0, 10, 19, 31, 40];
 
 /// The call of 1 in state 0 gives both roots.
 pub fn two_roots() -> Vec<u8> {
@@ -43,7 +42,7 @@ pub fn two_roots() -> Vec<u8> {
 pub fn two_returns() -> Vec<u8> {
     sample_with(&["54016100", "54016102"])
 }
-const TWO_RETURNS: [usize; 6] = [0, 66, 128, 130, 1024, 1089];
+const TWO_RETURNS: [usize; 6] = [0, 11, 18, 20, 27, 37];
 
 /// The call of 1 is heard in state 2 only, so main cannot make it.
 pub fn no_call() -> Vec<u8> {
@@ -78,30 +77,24 @@ pub fn analyses() -> Vec<AnalysisCase> {
         findings: findings.to_vec(),
         takings,
     };
-    let seven = &[0, 65, 129, 1024, 1033, 1089, 1097];
-    let moved = &[0, 130, 1033, 1097];
+    let seven = &[0, 10, 19, 27, 31, 37, 40];
+    let moved = &[0, 20, 31, 40];
     // The inner main returns to the outer one at place 2, in state 0, and to itself likewise.
-    let itself = &[0, 9, 65, 73, 128, 136];
+    let itself = &[0, 3, 5, 7, 8, 10];
     vec![
         case("another root", other_root(), &OTHER_ROOT, &[], 6),
         case("two roots", two_roots(), seven, &[], 9),
-        case("two returns", two_returns(), &TWO_RETURNS, &[66, 130], 7),
+        case("two returns", two_returns(), &TWO_RETURNS, &[11, 20], 7),
         case("a call nobody makes", no_call(), &[0], &[], 1),
-        case(
-            "a return nobody makes",
-            no_return(),
-            &[0, 1024, 1089],
-            &[],
-            4,
-        ),
-        case("everything is heard", everything(), moved, &[130], 5),
+        case("a return nobody makes", no_return(), &[0, 27, 37], &[], 4),
+        case("everything is heard", everything(), moved, &[20], 5),
         case("main hears itself", main_calls_itself(), itself, &[], 8),
     ]
 }
 
-/// A sheet of these marks, or of all.
+/// A sheet of the sample with these marks.
 fn marks(numbers: &[usize]) -> Vec<u8> {
-    let mut sheet = vec![0; SHEET_SIZE];
+    let mut sheet = vec![0; 54];
     for &number in numbers {
         sheet[number] = 1;
     }
@@ -115,24 +108,20 @@ pub fn keepings() -> Vec<KeepingCase> {
         sheet,
         left: left.to_vec(),
     };
-    let all = || vec![0xFF; SHEET_SIZE];
-    let with_former_root = [&OTHER_ROOT[..], &[1024, 1089]].concat();
-    let with_former_return = [&TWO_RETURNS[..], &[129, 65]].concat();
+    let all = || vec![0xFF; 54];
+    let with_former_root = [&OTHER_ROOT[..], &[27, 37]].concat();
+    let with_former_return = [&TWO_RETURNS[..], &[19, 10]].concat();
     vec![
         case(other_root(), all(), &OTHER_ROOT),
         case(other_root(), marks(&with_former_root), &OTHER_ROOT),
-        case(other_root(), marks(&[0, 65, 129, 1097]), &[0]),
-        case(other_root(), marks(&[0, 65, 129, 1033]), &[0, 1033]),
-        case(other_root(), marks(&[0, 129, 1024, 1089]), &[0]),
+        case(other_root(), marks(&[0, 10, 19, 40]), &[0]),
+        case(other_root(), marks(&[0, 10, 19, 31]), &[0, 31]),
+        case(other_root(), marks(&[0, 19, 27, 37]), &[0]),
         case(two_returns(), all(), &TWO_RETURNS),
         case(two_returns(), marks(&with_former_return), &TWO_RETURNS),
-        case(
-            two_returns(),
-            marks(&[0, 66, 130, 1024, 1089]),
-            &[0, 130, 1024, 1089],
-        ),
+        case(two_returns(), marks(&[0, 11, 20, 27, 37]), &[0, 20, 27, 37]),
         case(no_call(), all(), &[0]),
-        case(no_return(), all(), &[0, 1024, 1089]),
+        case(no_return(), all(), &[0, 27, 37]),
     ]
 }
 
@@ -145,16 +134,16 @@ pub fn repairs() -> Vec<RepairCase> {
     let no_call = &program(&no_call());
     let (step, call, fault) = (b"2D01000001\n", b"2D00004102\n", b"2B00000102\n");
     let label = b"3D0100000101\n";
-    let six = &[0, 65, 129, 130, 1033, 1097];
-    let eight = &[0, 65, 129, 130, 1024, 1033, 1090, 1097];
+    let six = &[0, 10, 19, 20, 31, 40];
+    let eight = &[0, 10, 19, 20, 27, 31, 38, 40];
     vec![
-        accepted("another root, a step", root, step, &[0, 1033], 0b11),
+        accepted("another root, a step", root, step, &[0, 31], 0b11),
         accepted("another root, the call", root, call, &[0], 0b01),
         accepted("another root, a fault", root, fault, six, 0b01),
         accepted("two roots, another label", roots, label, eight, 0b11),
-        accepted("no return, a step", no_return, step, &[0, 1024], 0b11),
+        accepted("no return, a step", no_return, step, &[0, 27], 0b11),
         accepted("no call, a step", no_call, step, &[0], 0b10),
-        accepted("no call, a fault", no_call, fault, &[0, 130], 0b01),
+        accepted("no call, a fault", no_call, fault, &[0, 20], 0b01),
     ]
 }
 
@@ -165,10 +154,10 @@ pub fn exchanges() -> Vec<RepairCase> {
     let five = &OTHER_ROOT;
     let itself = b"520102\n5301000001\n";
     let main = b"520003\n5300004102\n5300020101\n";
-    let three = &[0, 1024, 1089];
+    let three = &[0, 27, 37];
     vec![
         accepted("another root, for itself", root, itself, five, 0b11),
-        accepted("another root, no step", root, b"520102\n", &[0, 1033], 0b11),
+        accepted("another root, no step", root, b"520102\n", &[0, 31], 0b11),
         accepted("another root, main for itself", root, main, five, 0b11),
         accepted("no call, for itself", no_call, itself, &[0], 0b10),
         accepted("no return, for itself", no_return, itself, three, 0b11),
@@ -239,16 +228,16 @@ fn files_by_order() -> Vec<Case> {
     ]
 }
 
-/// Lines for calls and returns count towards the 256.
+/// Lines for calls and returns count towards the 512.
 fn full_rules() -> Vec<Case> {
     let with = |count, last: [u8; 4]| large(0, count, &[last.to_vec()]);
     vec![
-        case("256th, on a call", with(255, [0x54, 7, 0x4F, 7]), 0, 0),
-        case("256th, on a return", with(255, [0x54, 7, 0x6F, 7]), 0, 0),
-        case("257th, on a call", with(256, [0x54, 7, 0x4F, 7]), 6, 274),
-        case("257th, on a return", with(256, [0x54, 7, 0x6F, 7]), 6, 274),
-        case("257th, on label 50", with(256, [0x54, 7, 0x50, 7]), 5, 274),
-        case("257th, on label 70", with(256, [0x54, 7, 0x70, 7]), 5, 274),
+        case("512th, on a call", with(511, [0x54, 7, 0x4F, 7]), 0, 0),
+        case("512th, on a return", with(511, [0x54, 7, 0x6F, 7]), 0, 0),
+        case("513th, on a call", with(512, [0x54, 7, 0x4F, 7]), 6, 530),
+        case("513th, on a return", with(512, [0x54, 7, 0x6F, 7]), 6, 530),
+        case("513th, on label 50", with(512, [0x54, 7, 0x50, 7]), 5, 530),
+        case("513th, on label 70", with(512, [0x54, 7, 0x70, 7]), 5, 530),
     ]
 }
 

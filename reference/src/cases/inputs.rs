@@ -1,6 +1,6 @@
 //! Inputs of `bench` that are known by name, with all that is printed for them.
 
-use crate::cases::files::{full_steps, with_routines};
+use crate::cases::files::{full_steps, large, of_sizes, with_routines};
 use crate::cases::heard;
 use crate::cases::keepings::main_calls_itself;
 use crate::cases::sample::{self, followed_by, removed, replaced};
@@ -35,7 +35,46 @@ pub fn all() -> Vec<InputCase> {
     cases.extend(states_and_labels());
     cases.extend(files_with_rows());
     cases.extend(rules_that_hear());
+    cases.extend(places_and_products());
+    cases.extend(rows_by_states());
     cases
+}
+
+/// 64 and 65 places, 512 and 513 rule lines, a product of 16,384 and the next above it. A file whose
+/// sizes are refused has line 0, and its edits are not looked at.
+fn places_and_products() -> Vec<InputCase> {
+    let with = |file: Vec<u8>| [&file[..], EDIT].concat();
+    let far = "2B0000003F\n2B003F0101\n";
+    let longest = replaced(2, "520040");
+    let longest = [&longest[..], far.as_bytes()].concat();
+    let printed = [BLOCK, "5A00060000\n", "5A00060000\n"].concat();
+    vec![
+        case("64 places", longest, printed),
+        case("65 places", replaced(2, "520041"), "21050002\n"),
+        case("512 rule lines", large(0, 512, &[]), EMPTY),
+        case("513 rule lines", large(0, 513, &[]), "21060212\n"),
+        case("16,384 by 16 states", of_sizes(&[4; 16], 16), EMPTY),
+        case("16,384 by 64 places", of_sizes(&[64; 16], 4), EMPTY),
+        case("16,400", with(of_sizes(&[41; 4], 10)), "21170000\n"),
+        case("the largest product", of_sizes(&[64; 16], 16), "21170000\n"),
+    ]
+}
+
+/// Rows with Q 8 and Q 9, of six and of seven numbers, and one before the sizes.
+fn rows_by_states() -> Vec<InputCase> {
+    let of = |sizes: &str, row: &str| {
+        let lines = format!("{sizes}\n520002\n5300000001\n{row}\n");
+        format!("{lines}4900\n450005\n")
+    };
+    let (six, seven) = ("55FF0000000107", "5501FF0000000108");
+    vec![
+        case("Q 8, six", of("50010801", six), "5A00020000\n"),
+        case("Q 8, seven", of("50010801", seven), "21030004\n"),
+        case("Q 9, six", of("50010901", six), "21030004\n"),
+        case("Q 9, seven", of("50010901", seven), "5A00020000\n"),
+        case("a row first", format!("{six}\n"), "21040001\n"),
+        case("a row first, of seven", format!("{seven}\n"), "21030001\n"),
+    ]
 }
 
 fn case(name: &'static str, input: impl Into<Vec<u8>>, printed: impl Into<String>) -> InputCase {
@@ -151,7 +190,7 @@ fn routines_and_steps() -> Vec<InputCase> {
     ]
 }
 
-/// Q 8 and 9, label 1F and 20.
+/// Q 16 and 17, label 1F and 20.
 fn states_and_labels() -> Vec<InputCase> {
     let small = |sizes: &str, step: &str, edit: &str| {
         format!("{sizes}\n520002\n{step}\n4900\n450004\n{edit}")
@@ -161,8 +200,8 @@ fn states_and_labels() -> Vec<InputCase> {
     let edit = |edit: &str| small("50010120", "5300001E01", edit);
     let one = "5A00010000\n";
     vec![
-        case("Q 8", states("50010801"), one),
-        case("Q 9", states("50010901"), "21050001\n"),
+        case("Q 16", states("50011001"), one),
+        case("Q 17", states("50011101"), "21050001\n"),
         case("label 1F", label("5300001F01"), one),
         case("label 20", label("5300002001"), "21050003\n"),
         case("edit to label 1F", edit("2B00001F01\n"), one.repeat(2)),
@@ -186,7 +225,7 @@ fn files_with_rows() -> Vec<InputCase> {
     let not_met_first = table("55010000000200\n55010000000201");
     let (in_lines, in_rows) = (completed::in_lines(), completed::in_rows());
     let all_of_main = (0..1024).map(|number| {
-        let (place, root, state) = (number / 64, number / 8 % 8, number % 8);
+        let (place, root, state) = (number / 256, number / 16 % 16, number % 16);
         format!("5800{place:02X}{root:02X}{state:02X}\n")
     });
     let all_of_main = all_of_main.collect::<String>() + "5A04000400\n";
@@ -196,7 +235,7 @@ fn files_with_rows() -> Vec<InputCase> {
         case("a pair not met", not_met, "21130000\n"),
         case("a pair met twice", twice, "21140000\n"),
         case("a pair not met first", not_met_first, "21130000\n"),
-        case("more than is written", full::largest(), all_of_main),
+        case("the largest with rows", full::largest(), all_of_main),
     ]
 }
 

@@ -5,7 +5,6 @@ use crate::cases::sample;
 use crate::cases::small::{dropped, program};
 use crate::model::analysis::own_sheet;
 use crate::model::program::Program;
-use crate::model::standing::SHEET_SIZE;
 
 /// A program, a sheet, and the numbers of the marks that stay.
 pub struct KeepingCase {
@@ -31,10 +30,10 @@ pub fn gaps() -> Vec<KeepingCase> {
     };
     vec![
         without(0, &[]),
-        without(65, &[0, 129, 1024, 1089]),
-        without(129, &[0, 1024, 1089]),
-        without(1024, &[0]),
-        without(1089, &[0, 1024]),
+        without(10, &[0, 19, 27, 37]),
+        without(19, &[0, 27, 37]),
+        without(27, &[0]),
+        without(37, &[0, 27]),
     ]
 }
 
@@ -44,8 +43,8 @@ pub fn unreturned_call() -> Vec<KeepingCase> {
     let never_returns = dropped(&returns, "01000001");
     let further = dropped(&never_returns, "00020101");
     vec![
-        case(&never_returns, own_sheet(&returns), &[0, 1024]),
-        case(&further, own_sheet(&never_returns), &[0, 1024]),
+        case(&never_returns, own_sheet(&returns), &[0, 27]),
+        case(&further, own_sheet(&never_returns), &[0, 27]),
     ]
 }
 
@@ -58,7 +57,7 @@ pub fn main_calls_itself() -> Program {
 pub fn main_called_in_another_state() -> Vec<KeepingCase> {
     let called = main_calls_itself();
     let uncalled = dropped(&called, "00024001");
-    vec![case(&uncalled, own_sheet(&called), &[0, 129])]
+    vec![case(&uncalled, own_sheet(&called), &[0, 9])]
 }
 
 /// Routines 1 and 2 call each other, and main calls the first of them.
@@ -76,6 +75,6 @@ pub fn no_outside_call() -> Vec<KeepingCase> {
     let uncalled = dropped(&called, "00004101");
     vec![
         case(&uncalled, own_sheet(&called), &[0]),
-        case(&uncalled, vec![0xFF; SHEET_SIZE], &[0]),
+        case(&uncalled, vec![0xFF; 36], &[0]),
     ]
 }

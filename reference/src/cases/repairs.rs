@@ -58,7 +58,7 @@ fn drops() -> Vec<RepairCase> {
     let calls_itself = &after(&main_alone(), "2B00004001");
     let (step, call, own_call) = (b"2D01000001\n", b"2D00004102\n", b"2D00004001\n");
     vec![
-        accepted("P5, a step", sample, step, &[0, 1024], 0b11),
+        accepted("P5, a step", sample, step, &[0, 27], 0b11),
         accepted("P6, a call", sample, call, &[0], 0b01),
         accepted("the call after the step", never_returns, call, &[0], 0b01),
         accepted("main's call of itself", calls_itself, own_call, &[0], 0b01),
@@ -70,8 +70,8 @@ fn adds_and_replaces() -> Vec<RepairCase> {
     let uncalled = &dropped(sample, "00004102");
     let bare = &dropped(uncalled, "01000001");
     let main_alone = &main_alone();
-    let (five, six) = (&sample::STANDINGS, &[0, 65, 129, 130, 1024, 1089]);
-    let other = &[0, 130, 1024, 1090];
+    let (five, six) = (&sample::STANDINGS, &[0, 10, 19, 20, 27, 37]);
+    let other = &[0, 20, 27, 38];
     let (unseen, call, fault) = (b"2B01000101\n", b"2B00004102\n", b"2B00000102\n");
     let (own_call, label) = (b"2B00004001\n", b"3D0100000101\n");
     vec![

@@ -18,8 +18,8 @@ use crate::model::write::end;
 /// The sample program file.
 pub const FILE: &[u8] = include_bytes!("../../../examples/F.txt");
 
-/// The numbers of its standings.
-pub const STANDINGS: [usize; 5] = [0, 65, 129, 1024, 1089];
+/// The numbers of its standings: it has two routines, three places in the longer one and three states.
+pub const STANDINGS: [usize; 5] = [0, 10, 19, 27, 37];
 
 /// The program that it says.
 pub fn program() -> Program {

@@ -4,16 +4,16 @@
 
 use crate::generate::met::Times;
 use crate::model::file::Reading;
-use crate::model::kinds::{FRAMES, ROW, RULE, SIZES};
+use crate::model::kinds::{frames, ROW, RULE, SIZES};
 use crate::model::lines::{lines, numbers_of_kind, numbers_of_line, starts_with_kind};
-use crate::model::program::{Program, TABLE_ROWS};
+use crate::model::program::{Program, MOST_ROWS};
 use crate::model::ranges::sizes_in_range;
 use crate::model::refusals::{
     FileRefusal, BAD_LINE, END_COUNT, FILE_END, ORDER, PAIR_MET_TWICE, PAIR_NOT_MET, RANGE,
-    TABLE_FULL, WRONG_COUNT,
+    SHEET_TOO_LARGE, TABLE_FULL, WRONG_COUNT,
 };
 use crate::model::table::{line_of_pair, pairs, Row};
-use crate::model::write::OUTPUT_SIZE;
+use crate::model::write::{write, OUTPUT_SIZE};
 
 /// What a file with rows can be like.
 #[derive(Clone, Copy, Debug, PartialEq, Eq, PartialOrd, Ord)]
@@ -24,12 +24,16 @@ pub enum Class {
     Grouped,
     /// 256 rows, which are all that there may be.
     MostRows,
-    /// 8 states and 32 actions.
+    /// 16 states and 32 actions.
     MostPairs,
+    /// More than 8 states, so that a row has two numbers of state bits.
+    TwoNumbers,
     NoStateBit,
     NoActionBit,
-    /// More bytes than are ever written.
-    Long,
+    /// More bytes than are written for it, and fewer.
+    Longer,
+    Shorter,
+    /// More bytes than any file has that is accepted.
     LongAndRefused,
     /// 19 and 20.
     NotMet,
@@ -60,6 +64,11 @@ pub enum Class {
     /// 1 and 3 at a row.
     BadRow,
     WrongCountRow,
+    /// 3: seven numbers up to 8 states, and six above.
+    SevenNumbers,
+    SixNumbers,
+    /// 23.
+    TooLarge,
     /// 7 and 8 after rows.
     EndCount,
     FileEnd,
@@ -68,15 +77,17 @@ pub enum Class {
 use Class::*;
 
 /// All that have to be met.
-const ALL: [Class; 32] = [
+const ALL: [Class; 37] = [
     Accepted,
     OneRow,
     Grouped,
     MostRows,
     MostPairs,
+    TwoNumbers,
     NoStateBit,
     NoActionBit,
-    Long,
+    Longer,
+    Shorter,
     LongAndRefused,
     NotMet,
     MetTwice,
@@ -99,6 +110,9 @@ const ALL: [Class; 32] = [
     Row257AndOrder,
     BadRow,
     WrongCountRow,
+    SevenNumbers,
+    SixNumbers,
+    TooLarge,
     EndCount,
     FileEnd,
 ];
@@ -119,7 +133,7 @@ impl MetClasses {
         }
         self.files += 1;
         self.times.note(match reading {
-            Ok(program) => accepted(file, program, &rows(&judged)),
+            Ok(program) => accepted(file, program, &rows(&judged, program.states)),
             Err(refusal) => refused(file, refusal, &judged),
         });
     }
@@ -144,9 +158,10 @@ fn judged_lines<'a>(file: &'a [u8], reading: &Reading) -> Vec<&'a [u8]> {
     judged
 }
 
-/// The rows among these lines, as far as they are well-formed.
-fn rows(lines: &[&[u8]]) -> Vec<Row> {
-    let frames = lines.iter().flat_map(|line| numbers_of_kind(&FRAMES, line));
+/// The rows among these lines of a file with so many states, as far as they are well-formed.
+fn rows(lines: &[&[u8]], states: u8) -> Vec<Row> {
+    let kinds = frames(states);
+    let frames = lines.iter().flat_map(|line| numbers_of_kind(&kinds, line));
     let rows = frames.filter(|frame| frame[0] == ROW);
     rows.map(|frame| Row::of_numbers(&frame[1..])).collect()
 }
@@ -159,15 +174,18 @@ fn holding(classes: &[(bool, Class)]) -> Vec<Class> {
 
 fn accepted(file: &[u8], program: &Program, rows: &[Row]) -> Vec<Class> {
     let pairs = program.rule.len();
+    let written = write(program).len();
     holding(&[
         (true, Accepted),
         (rows.len() == 1, OneRow),
         (rows.len() > 1 && rows.len() < pairs, Grouped),
-        (rows.len() == TABLE_ROWS, MostRows),
-        (pairs == 256, MostPairs),
+        (rows.len() == MOST_ROWS, MostRows),
+        (pairs == 512, MostPairs),
+        (program.states > 8, TwoNumbers),
         (rows.iter().any(|row| row.state_bits == 0), NoStateBit),
         (rows.iter().any(|row| row.action_bits == 0), NoActionBit),
-        (file.len() > OUTPUT_SIZE, Long),
+        (file.len() > written, Longer),
+        (file.len() < written, Shorter),
     ])
 }
 
@@ -183,16 +201,22 @@ fn refused(file: &[u8], refusal: &FileRefusal, judged: &[&[u8]]) -> Vec<Class> {
     }
     let (states, actions) = (sizes[2], sizes[3]);
     let last = judged[judged.len() - 1];
-    let (at_row, rows) = (starts_with_kind(last, ROW), rows(judged));
-    let is_257th = at_row && rows.len() == TABLE_ROWS + 1;
+    let (at_row, rows) = (starts_with_kind(last, ROW), rows(judged, states));
+    let count = last.len() / 2;
+    let is_257th = at_row && rows.len() == MOST_ROWS + 1;
     classes.extend(match refusal.number() {
         BAD_LINE => holding(&[(at_row, BadRow)]),
-        WRONG_COUNT => holding(&[(at_row, WrongCountRow)]),
+        WRONG_COUNT => holding(&[
+            (at_row, WrongCountRow),
+            (at_row && count == 1 + 7, SevenNumbers),
+            (at_row && count == 1 + 6, SixNumbers),
+        ]),
         ORDER if is_257th => vec![Row257AndOrder],
         ORDER => out_of_order(judged),
         RANGE if is_257th => vec![Row257AndRange],
         RANGE if at_row => out_of_range(rows[rows.len() - 1], states, actions),
         TABLE_FULL => holding(&[(is_257th, Row257)]),
+        SHEET_TOO_LARGE => vec![TooLarge],
         END_COUNT => vec![EndCount],
         FILE_END => vec![FileEnd],
         PAIR_NOT_MET | PAIR_MET_TWICE => faulty_pairs(&rows, states, actions),

@@ -4,7 +4,7 @@
 //! that the fault which remains is one that is judged late.
 
 use crate::generate::random::Random;
-use crate::model::kinds::{count_of_numbers, END, FRAMES, ROUTINE, SIZES};
+use crate::model::kinds::{count_of_numbers, frames, END, FRAMES, ROUTINE, SIZES};
 use crate::model::lines::{line_of, lines, starts_with_kind};
 use crate::model::program::{FIRST_CALL, FIRST_RETURN};
 use crate::model::write::end;
@@ -173,7 +173,7 @@ fn telling_number(random: &mut Random, lines: &Lines) -> u8 {
     };
     let (routines, states, actions) = (size(1), size(2), size(3));
     let about = random.pick(&[routines, states, actions]);
-    let fixed = random.pick(&[0, 1, 2, 8, 9, 16, 17, 31, 32, 33, 255]);
+    let fixed = random.pick(&[0, 1, 2, 8, 9, 16, 17, 31, 32, 33, 64, 65, 255]);
     let label = edge_label(random, routines, actions);
     let below = about.wrapping_sub(1);
     random.pick(&[about, below, fixed, label])
@@ -201,12 +201,13 @@ fn damage_frames(random: &mut Random, mut lines: Lines) -> Lines {
 /// A routine frame for a routine that is there, or for one above it.
 fn extra_routine(random: &mut Random, there: usize) -> Vec<u8> {
     let routine = random.between(there.saturating_sub(2), there + 1) as u8;
-    line_of(&[ROUTINE, routine, random.between(1, 17) as u8])
+    let places = random.between(1, 17) as u8;
+    line_of(&[ROUTINE, routine, random.pick(&[places, places, 64, 65])])
 }
 
 fn sizes_at_random(random: &mut Random) -> Vec<u8> {
     let routines = random.between(0, 17) as u8;
-    let states = random.between(0, 9) as u8;
+    let states = random.between(0, 17) as u8;
     line_of(&[SIZES, routines, states, random.between(0, 33) as u8])
 }
 
@@ -216,7 +217,8 @@ pub fn frame_at_random(random: &mut Random) -> Vec<u8> {
     let known = random.pick(&FRAMES).number;
     let any = random.byte();
     let kind = random.pick(&[known, known, known, known, known, known, known, any]);
-    let count = count_of_numbers(&FRAMES, kind).unwrap_or(2);
+    let kinds = frames(random.pick(&[8, 9]));
+    let count = count_of_numbers(&kinds, kind).unwrap_or(2);
     let most = random.pick(&[1, 3, 8, 20, 255]);
     let numbers = (0..count).map(|_| random.between(0, most) as u8);
     std::iter::once(kind).chain(numbers).collect()

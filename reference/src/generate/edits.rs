@@ -9,7 +9,6 @@ use crate::model::edit::Edit;
 use crate::model::lines::{line_of, numbers_of_line};
 use crate::model::program::{Label, Program, Step, EXIT, FIRST_CALL, FIRST_RETURN};
 use crate::model::ranges::Ranges;
-use crate::model::standing::numbers_at;
 
 /// A line for a program as it is now, with its sheet. What it had at home, before any edit, comes
 /// back at times.
@@ -63,7 +62,8 @@ fn some_step(random: &mut Random, program: &Program) -> Step {
 
 /// The steps that begin where something is marked.
 pub fn steps_that_act(program: &Program, sheet: &[u8]) -> Vec<Step> {
-    let acts = |step: &&Step| sheet[numbers_at(step.routine, step.from)].contains(&1);
+    let sizes = program.sizes();
+    let acts = |step: &&Step| sheet[sizes.numbers_at(step.routine, step.from)].contains(&1);
     program.steps.iter().filter(acts).copied().collect()
 }
 
@@ -202,11 +202,12 @@ pub fn past_range(random: &mut Random, program: &Program, places: u8, at: usize)
     let routines = program.routines();
     let first_past = FIRST_CALL + routines;
     let a_return = FIRST_RETURN + random.below(routines.into()) as u8;
-    let labels = [program.actions, first_past, 0x20, 0x3F, 0x50, 0x5F, 255];
+    let edge = random.pick(&[program.actions, first_past]);
+    let labels = [edge, edge, edge, edge, 0x20, 0x3F, 0x50, 0x5F, 255];
     match at {
         1 => random.pick(&[routines, 16, 255]),
-        2 => random.pick(&[EXIT, EXIT, places, 16, 255]),
-        4 => random.pick(&[places, 16, 255]),
+        2 => random.pick(&[EXIT, EXIT, places, 64, 255]),
+        4 => random.pick(&[places, 64, 255]),
         _ if random.percent(40) => a_return,
         _ => random.pick(&labels),
     }

@@ -8,7 +8,7 @@ use crate::generate::met::Times;
 use crate::model::groups::calls;
 use crate::model::moves::Moves;
 use crate::model::program::{Event, Program, EXIT};
-use crate::model::standing::{standings, Standing};
+use crate::model::standing::Standing;
 use std::collections::BTreeSet;
 
 #[derive(Clone, Copy, Debug, PartialEq, Eq, PartialOrd, Ord)]
@@ -93,7 +93,7 @@ pub fn classes(program: &Program, own: &[u8]) -> BTreeSet<Heard> {
         return BTreeSet::from([Nothing]);
     }
     let moves = Moves::of(program);
-    let occurring = standings(own);
+    let occurring = program.sizes().standings(own);
     let mut classes = by_labels(program, &moves);
     for callee in 0..program.routines() {
         let states = called_in(program, &occurring, callee);

@@ -7,12 +7,12 @@ use crate::generate::met::Times;
 use crate::model::file::Reading;
 use crate::model::kinds::{FRAMES, RULE, SIZES, STEP};
 use crate::model::lines::{lines, numbers_of_kind};
-use crate::model::program::{Event, Program, FIRST_CALL, FIRST_RETURN, TABLE_ROWS};
+use crate::model::program::{Event, Program, FIRST_CALL, FIRST_RETURN, MOST_RULE_LINES};
 use crate::model::refusals::{FileRefusal, ORDER, RANGE, TABLE_FULL};
 
 #[derive(Clone, Copy, Debug, PartialEq, Eq, PartialOrd, Ord)]
 pub enum LabelClass {
-    /// Accepted, with a line for a call, for a return, for that of the last routine, and with 256
+    /// Accepted, with a line for a call, for a return, for that of the last routine, and with 512
     /// lines of which some are for these.
     CallLine,
     ReturnLine,
@@ -34,7 +34,7 @@ pub enum LabelClass {
     Repeated,
     Descending,
     /// 6 at a rule line for a call or a return.
-    Line257,
+    Line513,
 }
 
 use LabelClass::*;
@@ -56,7 +56,7 @@ const ALL: [LabelClass; 16] = [
     StepReturnOther,
     Repeated,
     Descending,
-    Line257,
+    Line513,
 ];
 
 /// How many files of each class were met.
@@ -94,7 +94,7 @@ fn accepted(program: &Program) -> Vec<LabelClass> {
         (has(&|event| matches!(event, Event::Return(_))), ReturnLine),
         (has(&|event| event == Event::Call(last)), LastCall),
         (has(&|event| event == Event::Return(last)), LastReturn),
-        (has_heard && program.rule.len() == TABLE_ROWS, FullRule),
+        (has_heard && program.rule.len() == MOST_RULE_LINES, FullRule),
     ])
 }
 
@@ -149,7 +149,7 @@ fn of_rule_line(
             ]),
             None => Vec::new(),
         },
-        TABLE_FULL if is_heard => vec![Line257],
+        TABLE_FULL if is_heard => vec![Line513],
         _ => Vec::new(),
     }
 }

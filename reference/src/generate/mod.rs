@@ -11,8 +11,9 @@
 //!   damage to these.
 //! - `sheets` makes sheets, `limits` makes limits of fresh workings, `calls` makes the calls of a list,
 //!   and `inputs` makes inputs of `bench`.
-//! - `met` counts what they have met: refusals, the `classes` of files with rows, the `label_classes`
-//!   of rule lines and steps, the `hearing` of rules, and the `text_classes` of exchanges.
+//! - `met` counts what they have met: refusals, the `classes` of files with rows, the `size_classes` of
+//!   files, the `label_classes` of rule lines and steps, the `hearing` of rules, and of exchanges the
+//!   `text_classes` and the `length_classes` of what is lent to them.
 
 pub mod calls;
 pub mod classes;
@@ -23,6 +24,7 @@ pub mod files;
 pub mod hearing;
 pub mod inputs;
 pub mod label_classes;
+pub mod length_classes;
 pub mod limits;
 pub mod met;
 pub mod programs;
@@ -31,6 +33,7 @@ pub mod row_damage;
 pub mod rules;
 pub mod shapes;
 pub mod sheets;
+pub mod size_classes;
 pub mod tables;
 pub mod text_classes;
 pub mod text_damage;

@@ -11,14 +11,18 @@ use crate::generate::shapes::{plan, shape_by_shares, Callees, Plan, Shape, Share
 use crate::model::program::{Event, Label, Program, RuleLine, Step, EXIT};
 use std::collections::BTreeSet;
 
-/// The program that belongs to a seed. Few are full, as these take long.
+/// The program that belongs to a seed. Few are full or have the longest sheet, as these take long.
 pub fn program_of_seed(seed: u64) -> Program {
     let shares = [
-        (37, Shape::Tiny),
-        (33, Shape::Recursive),
-        (7, Shape::Wide),
-        (21, Shape::Mixed),
-        (2, Shape::Full),
+        (360, Shape::Tiny),
+        (300, Shape::Recursive),
+        (60, Shape::Wide),
+        (175, Shape::Mixed),
+        (20, Shape::Full),
+        (40, Shape::Long),
+        (30, Shape::ManyStates),
+        (10, Shape::Ruled),
+        (5, Shape::Largest),
     ];
     program_by_shares(&mut Random::new(seed), &shares)
 }
@@ -169,9 +173,14 @@ fn callee(random: &mut Random, plan: &Plan, caller: usize) -> Option<u8> {
     Some(callee as u8)
 }
 
-/// The program that takes one standing as often as any could be taken while a call left the state
-/// alone: main's entry calls all 16 routines, main among them, and each of these ends in all 8 states.
+/// The program of 8 states that takes one standing as often as any could be taken while a call left the
+/// state alone: main's entry calls all 16 routines, main among them, and each of these ends in all states.
 pub fn hub() -> Program {
+    hub_of(8)
+}
+
+/// The same with so many states.
+fn hub_of(states: u8) -> Program {
     let step = |routine, label, to| Step {
         routine,
         from: 0,
@@ -180,31 +189,37 @@ pub fn hub() -> Program {
     };
     let ends = (0..16).map(|routine| step(routine, Label::Action(0), EXIT));
     let calls = (0..16).map(|callee| step(0, Label::Call(callee), 2));
-    let line = |number: u8| RuleLine {
-        from: number / 8,
-        event: Event::Action(0),
-        to: number % 8,
-    };
+    let lines = (0..states).flat_map(|from| leading_to_all(from, Event::Action(0), states));
     Program {
         places: [vec![3], vec![2; 15]].concat(),
-        states: 8,
+        states,
         actions: 1,
         steps: ends.chain(calls).collect(),
-        rule: (0..64).map(line).collect(),
+        rule: lines.collect(),
         starts: BTreeSet::from([0]),
         forbidden: BTreeSet::from([7]),
     }
 }
 
-/// The program that takes one standing as often as any can be taken: as the hub, and each call leads
-/// from state 0 to all 8 roots. From other states nothing can be called.
+/// The lines by which an event leads from a state to each of so many.
+fn leading_to_all(from: u8, event: Event, states: u8) -> impl Iterator<Item = RuleLine> {
+    (0..states).map(move |to| RuleLine { from, event, to })
+}
+
+/// The program of 8 states that takes one standing as often as any can be taken: as the hub, and each
+/// call leads from state 0 to all roots. From other states nothing can be called.
 pub fn hub_of_roots() -> Program {
-    let mut program = hub();
-    let heard = (0..128).map(|number: u8| RuleLine {
-        from: 0,
-        event: Event::Call(number / 8),
-        to: number % 8,
-    });
+    hub_of_roots_of(8)
+}
+
+/// The same with 16 states. It has 512 rule lines.
+pub fn hub_of_most_roots() -> Program {
+    hub_of_roots_of(16)
+}
+
+fn hub_of_roots_of(states: u8) -> Program {
+    let mut program = hub_of(states);
+    let heard = (0..16).flat_map(|routine| leading_to_all(0, Event::Call(routine), states));
     program.rule.extend(heard);
     program
 }
@@ -229,7 +244,8 @@ mod tests {
     use super::*;
     use crate::model::file::read;
     use crate::model::least::least_set;
-    use crate::model::standing::{Standing, MOST_STATES};
+    use crate::model::program::MOST_STATES;
+    use crate::model::standing::{Standing, MOST_SHEET};
     use crate::model::write::write;
 
     const SEEDS: u64 = 1500;
@@ -248,10 +264,18 @@ mod tests {
         for seed in 0..20 {
             let program = program_of_shape(&mut Random::new(seed), Shape::Full);
             assert_eq!((program.places.len(), program.states), (16, 8));
-            assert_eq!((program.steps.len(), program.rule.len()), (256, 256));
+            assert!(program.steps.len() == 256 && program.rule.len() >= 256);
             largest = largest.max(least_set(&program).len());
         }
         assert!(largest > 10_000, "{largest}");
+    }
+
+    #[test]
+    fn the_largest_programs_have_the_longest_sheet() {
+        for seed in 0..30 {
+            let program = program_of_shape(&mut Random::new(seed), Shape::Largest);
+            assert_eq!(program.sizes().length(), MOST_SHEET);
+        }
     }
 
     /// What the programs of the seeds do.

@@ -17,16 +17,16 @@ pub fn damage_rows(random: &mut Random, file: &[u8]) -> Vec<u8> {
     let rows = places_of_rows(&lines);
     let at = random.pick(&rows);
     let other = random.pick(&rows);
-    match random.below(15) {
+    match random.below(19) {
         0..=5 => lines[at] = out_of_range(random, &lines, at),
         6 => lines.swap(at, other),
         7 => lines.swap(at, random.pick(&[at - 1, at + 1])),
         8 => lines.insert(at, lines[at].clone()),
         9 => lines.insert(other, lines[at].clone()),
-        10 => lines[at] = other_count(random, &lines[at]),
-        11 => lines[at] = other_kind(random, &lines[at]),
-        12 => drop(lines.remove(at)),
-        13 => lines.push(lines[at].clone()),
+        10..=12 => lines[at] = other_count(random, &lines[at]),
+        13..=15 => lines[at] = other_kind(random, &lines[at]),
+        16 => drop(lines.remove(at)),
+        17 => lines.push(lines[at].clone()),
         _ => return with_other_end_count(random, lines, rows.len()),
     }
     correct_end_count(&mut lines);
@@ -51,11 +51,11 @@ pub fn out_of_range(random: &mut Random, lines: &Lines, at: usize) -> Vec<u8> {
     let (states, actions) = (sizes[2], sizes[3]);
     let mut row = Row::of_numbers(&numbers(&lines[at])[1..]);
     match random.below(3) {
-        0 if states < 8 => row.state_bits |= 1 << past(random, states, 7),
+        0 if states % 8 != 0 => row.state_bits |= 1 << past(random, states, states | 7),
         1 if actions < 32 => row.action_bits |= 1 << past(random, actions, 31),
         _ => row.to = past(random, states, 255),
     }
-    line_of_row(&row)
+    line_of_row(&row, states)
 }
 
 /// A number from the first to the last, mostly the first.

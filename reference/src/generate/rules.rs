@@ -5,7 +5,7 @@
 
 use crate::generate::random::Random;
 use crate::generate::shapes::Plan;
-use crate::model::program::{Event, RuleLine, TABLE_ROWS};
+use crate::model::program::{Event, RuleLine, MOST_RULE_LINES};
 use std::collections::BTreeSet;
 
 /// The most lines for calls and returns in one rule, so that there is room for actions.
@@ -17,7 +17,7 @@ pub type MakeRule = fn(&mut Random, &Plan) -> BTreeSet<RuleLine>;
 /// A rule to a plan, whose count of lines is that of the lines for actions, as far as there is room.
 pub fn rule(random: &mut Random, plan: &Plan) -> BTreeSet<RuleLine> {
     let mut lines = heard_lines(random, plan);
-    let count = TABLE_ROWS.min(lines.len() + plan.rule);
+    let count = MOST_RULE_LINES.min(lines.len() + plan.rule);
     if plan.rule_is_total {
         add_line_for_each_pair(random, plan, &mut lines);
     }
@@ -31,7 +31,7 @@ fn add_line_for_each_pair(random: &mut Random, plan: &Plan, lines: &mut BTreeSet
     for action in 0..plan.actions as u8 {
         for from in 0..plan.states as u8 {
             let line = line_from(random, plan.states, from, action);
-            if lines.len() < TABLE_ROWS {
+            if lines.len() < MOST_RULE_LINES {
                 lines.insert(line);
             }
         }

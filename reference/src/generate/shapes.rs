@@ -1,7 +1,8 @@
 //! The shapes of programs, and a plan for each: how much there is of everything.
 
 use crate::generate::random::Random;
-use crate::model::program::{Program, TABLE_ROWS};
+use crate::model::program::{Program, MOST_PLACES, MOST_RULE_LINES, MOST_STEPS};
+use crate::model::standing::MOST_SHEET;
 
 /// What a program is to be like.
 #[derive(Clone, Copy, Debug, PartialEq, Eq)]
@@ -14,15 +15,24 @@ pub enum Shape {
     Wide,
     /// Nothing in particular, of middling size.
     Mixed,
-    /// All that a file can hold: 16 routines of 16 places, 8 states, full tables.
+    /// As much as a file could ever hold of everything at once: 16 routines of 16 places, 8 states, 256
+    /// steps and as many rule lines.
     Full,
     /// As many steps as a file can hold, or nearly so, and few states.
     Crowded,
     /// Small routines that call later ones only, each with hardly a step too many.
     Layered,
+    /// A few routines of up to 64 places.
+    Long,
+    /// More than 8 states, up to 16.
+    ManyStates,
+    /// As many rule lines as a file can hold.
+    Ruled,
+    /// Sizes with which the sheet is as long as it can be.
+    Largest,
 }
 
-pub const SHAPES: [Shape; 7] = [
+pub const SHAPES: [Shape; 11] = [
     Shape::Tiny,
     Shape::Recursive,
     Shape::Wide,
@@ -30,7 +40,30 @@ pub const SHAPES: [Shape; 7] = [
     Shape::Full,
     Shape::Crowded,
     Shape::Layered,
+    Shape::Long,
+    Shape::ManyStates,
+    Shape::Ruled,
+    Shape::Largest,
 ];
+
+/// The counts of routines, places and states with which a sheet is as long as it can be.
+pub const LARGEST_SIZES: [[usize; 3]; 9] = [
+    [1, 64, 16],
+    [2, 32, 16],
+    [4, 16, 16],
+    [8, 8, 16],
+    [16, 4, 16],
+    [4, 64, 8],
+    [8, 32, 8],
+    [16, 16, 8],
+    [16, 64, 4],
+];
+
+/// How many places a routine may have beside so many routines and states.
+pub fn room_for_places(routines: usize, states: usize) -> usize {
+    let fit = MOST_SHEET / (routines * states * states);
+    fit.min(MOST_PLACES.into())
+}
 
 /// Some shapes, each with its share of the programs.
 pub type Shares = [(usize, Shape)];
@@ -91,6 +124,10 @@ pub fn plan(random: &mut Random, shape: Shape) -> Plan {
         Shape::Full => full(random),
         Shape::Crowded => crowded(random),
         Shape::Layered => layered(random),
+        Shape::Long => long(random),
+        Shape::ManyStates => many_states(random),
+        Shape::Ruled => ruled(random),
+        Shape::Largest => largest(random),
     }
 }
 
@@ -98,10 +135,12 @@ pub fn plan(random: &mut Random, shape: Shape) -> Plan {
 pub fn plan_within(random: &mut Random, program: &Program) -> Plan {
     let few = random.between(0, 6);
     let more = random.between(4, 20);
+    let room = room_for_places(program.places.len(), program.states.into());
+    let most_places = random.pick(&[2, 4, 4, 8, 16, room]);
     Plan {
         routines: program.places.len(),
         least_places: 2,
-        most_places: random.pick(&[2, 4, 4, 8, 16]),
+        most_places: most_places.min(room),
         states: program.states.into(),
         actions: program.actions.into(),
         steps: random.pick(&[few, few, more]),
@@ -189,8 +228,8 @@ fn full(random: &mut Random) -> Plan {
         most_places: 16,
         states: 8,
         actions: random.pick(&[4, 6, 8, 16, 32]),
-        steps: TABLE_ROWS,
-        rule: TABLE_ROWS,
+        steps: MOST_STEPS,
+        rule: 256,
         callees: random.pick(&[Callees::Any, Callees::Any, Callees::Circles, Callees::Later]),
         calls_in_a_hundred: random.pick(&[10, 20, 30, 50]),
         return_in_a_hundred: random.pick(&[90, 100]),
@@ -205,7 +244,7 @@ fn crowded(random: &mut Random) -> Plan {
         most_places: random.between(8, 16),
         states: random.between(1, 2),
         actions: random.between(2, 8),
-        steps: TABLE_ROWS - random.pick(&[0, 0, 0, 1, 2]),
+        steps: MOST_STEPS - random.pick(&[0, 0, 0, 1, 2]),
         rule: random.between(2, 12),
         callees: random.pick(&[Callees::Any, Callees::Circles, Callees::Later]),
         calls_in_a_hundred: random.pick(&[20, 40, 60]),
@@ -229,5 +268,74 @@ fn layered(random: &mut Random) -> Plan {
         calls_in_a_hundred: random.pick(&[40, 60, 80]),
         return_in_a_hundred: random.pick(&[90, 100]),
         rule_is_total: true,
+    }
+}
+
+fn long(random: &mut Random) -> Plan {
+    let routines = random.between(1, 4);
+    let places = random.between(17, 64);
+    let most_places = random.pick(&[places, places, 64]);
+    Plan {
+        routines,
+        least_places: random.pick(&[2, most_places]),
+        most_places,
+        states: random.between(1, 8),
+        actions: random.between(1, 6),
+        steps: random.between(20 * routines, MOST_STEPS),
+        rule: random.between(4, 100),
+        callees: random.pick(&[Callees::Any, Callees::Circles, Callees::Later]),
+        calls_in_a_hundred: random.pick(&[10, 20, 40]),
+        return_in_a_hundred: random.pick(&[80, 100]),
+        rule_is_total: random.percent(70),
+    }
+}
+
+fn many_states(random: &mut Random) -> Plan {
+    let states = random.between(9, 16);
+    Plan {
+        routines: random.between(1, 4),
+        least_places: 2,
+        most_places: random.between(2, 16),
+        states: random.pick(&[states, states, 16]),
+        actions: random.between(1, 4),
+        steps: random.between(5, 40),
+        rule: random.between(20, 200),
+        callees: random.pick(&[Callees::Any, Callees::Circles, Callees::Later]),
+        calls_in_a_hundred: random.pick(&[20, 40, 60]),
+        return_in_a_hundred: random.pick(&[80, 100]),
+        rule_is_total: random.percent(70),
+    }
+}
+
+fn ruled(random: &mut Random) -> Plan {
+    Plan {
+        routines: random.between(1, 6),
+        least_places: 2,
+        most_places: random.between(2, 8),
+        states: random.between(6, 16),
+        actions: random.between(16, 32),
+        steps: random.between(8, 60),
+        rule: MOST_RULE_LINES,
+        callees: random.pick(&[Callees::Any, Callees::Circles, Callees::Later]),
+        calls_in_a_hundred: random.pick(&[20, 40]),
+        return_in_a_hundred: random.pick(&[80, 100]),
+        rule_is_total: random.percent(70),
+    }
+}
+
+fn largest(random: &mut Random) -> Plan {
+    let [routines, places, states] = random.pick(&LARGEST_SIZES);
+    Plan {
+        routines,
+        least_places: places,
+        most_places: places,
+        states,
+        actions: random.between(1, 4),
+        steps: random.between(30, MOST_STEPS),
+        rule: random.between(20, 100),
+        callees: random.pick(&[Callees::Any, Callees::Later, Callees::Next]),
+        calls_in_a_hundred: random.pick(&[10, 30]),
+        return_in_a_hundred: random.pick(&[60, 100]),
+        rule_is_total: random.percent(50),
     }
 }

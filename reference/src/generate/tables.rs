@@ -2,21 +2,18 @@
 //! too many rows, and damaged ones.
 
 use crate::generate::damage::{correct_end_count, damage, lines_of, mend, spoil};
-use crate::generate::files;
+use crate::generate::files::{self, program_too_large};
 use crate::generate::programs::program_by_shares;
 use crate::generate::random::Random;
 use crate::generate::row_damage::{damage_rows, out_of_range, rule_in_both_forms};
 use crate::generate::shapes::Shape;
 use crate::model::kinds::ROW;
 use crate::model::lines::{line_of, lines, starts_with_kind};
-use crate::model::program::{Program, TABLE_ROWS};
-use crate::model::standing::MOST_STATES;
+use crate::model::program::{Program, MOST_ACTIONS, MOST_ROWS, MOST_STATES};
+use crate::model::standing::{Sizes, MOST_SHEET};
 use crate::model::table::{Pair, Row};
 use crate::model::write::write;
 use std::collections::BTreeSet;
-
-/// How many actions a program has at the most.
-const MOST_ACTIONS: u8 = 32;
 
 /// The file that belongs to a seed.
 pub fn file_with_rows_of_seed(seed: u64) -> Vec<u8> {
@@ -28,8 +25,9 @@ pub fn file_with_rows_of_seed(seed: u64) -> Vec<u8> {
         35..=59 => faulty_file(random, &program),
         60..=79 => damage_rows(random, &complete),
         80..=84 => rule_in_both_forms(random, &complete),
-        85..=92 => damage(random, &complete),
-        _ => overfull(random, &program),
+        85..=91 => damage(random, &complete),
+        92..=96 => overfull(random, &program),
+        _ => too_large(random),
     }
 }
 
@@ -57,10 +55,23 @@ fn some_program(random: &mut Random) -> Program {
 
 /// The program with as many states and actions as there may be. What was in range stays so.
 fn widened(program: &Program) -> Program {
+    let own = program.sizes();
+    let fits = |&states: &u8| Sizes { states, ..own }.length() <= MOST_SHEET;
+    let most = (own.states..=MOST_STATES).filter(fits).last();
     Program {
-        states: MOST_STATES,
+        states: most.unwrap_or(own.states),
         actions: MOST_ACTIONS,
         ..program.clone()
+    }
+}
+
+/// A file with rows whose sheet would be too long; its table is complete, or at times faulty.
+fn too_large(random: &mut Random) -> Vec<u8> {
+    let program = program_too_large(random);
+    if random.percent(70) {
+        complete_file(random, &program)
+    } else {
+        faulty_file(random, &program)
     }
 }
 
@@ -78,7 +89,8 @@ pub fn file_with_rows(program: &Program, rows: &BTreeSet<Row>) -> Vec<u8> {
     };
     let mut lines = lines_of(&write(&bare));
     let first = first_row(program);
-    lines.splice(first..first, rows.iter().map(line_of_row));
+    let rows = rows.iter().map(|row| line_of_row(row, program.states));
+    lines.splice(first..first, rows);
     correct_end_count(&mut lines);
     lines.concat()
 }
@@ -88,8 +100,9 @@ fn first_row(program: &Program) -> usize {
     1 + program.places.len() + program.steps.len()
 }
 
-pub fn line_of_row(row: &Row) -> Vec<u8> {
-    line_of(&[&[ROW], &row.numbers()[..]].concat())
+/// The row in a file with so many states.
+pub fn line_of_row(row: &Row, states: u8) -> Vec<u8> {
+    line_of(&[&[ROW], &row.numbers(states)[..]].concat())
 }
 
 /// Whether a file has a line that starts as a row does.
@@ -101,13 +114,13 @@ pub fn has_rows(file: &[u8]) -> bool {
 /// A complete table for so many states and actions: all pairs parted into one group, a few or many,
 /// a row each, and at times rows without a bit.
 fn complete_rows(random: &mut Random, states: u8, actions: u8) -> BTreeSet<Row> {
-    let pairs = usize::from(states) * usize::from(actions);
+    let pairs = MOST_ROWS.min(usize::from(states) * usize::from(actions));
     let few = random.between(1, pairs.min(6));
     let some = random.between(1, pairs);
     let count = random.pick(&[1, few, few, some, some, pairs]);
     let rows = parted(random, states, actions, count);
-    let bare = random.pick(&[0, 0, 0, 0, 1, 1, 2, 5, 40, TABLE_ROWS]);
-    let all = TABLE_ROWS.min(rows.len() + bare);
+    let bare = random.pick(&[0, 0, 0, 0, 1, 1, 2, 5, 40, MOST_ROWS]);
+    let all = MOST_ROWS.min(rows.len() + bare);
     random.filled(rows, all, |random| bare_row(random, states, actions))
 }
 
@@ -115,7 +128,7 @@ fn complete_rows(random: &mut Random, states: u8, actions: u8) -> BTreeSet<Row> 
 /// cut in two, then one of these, and so on.
 fn parted(random: &mut Random, states: u8, actions: u8, count: usize) -> BTreeSet<Row> {
     let mut parts = vec![Row {
-        state_bits: all_bits(states) as u8,
+        state_bits: all_bits(states) as u16,
         action_bits: all_bits(actions),
         to: 0,
     }];
@@ -138,7 +151,7 @@ fn cut(random: &mut Random, row: Row) -> Option<(Row, Row)> {
     if random.percent(50) {
         let (one, other) = cut_bits(random, row.state_bits.into())?;
         let with = |bits: u32| Row {
-            state_bits: bits as u8,
+            state_bits: bits as u16,
             ..row
         };
         Some((with(one), with(other)))
@@ -172,7 +185,7 @@ fn some_bits(random: &mut Random, count: u8) -> u32 {
 
 /// A row that meets no pair, for want of a state bit, of an action bit, or of both.
 fn bare_row(random: &mut Random, states: u8, actions: u8) -> Row {
-    let state_bits = some_bits(random, states) as u8;
+    let state_bits = some_bits(random, states) as u16;
     let action_bits = some_bits(random, actions);
     let bits = [(0, action_bits), (state_bits, 0), (0, 0)];
     let (state_bits, action_bits) = random.pick(&bits);
@@ -204,7 +217,7 @@ fn with_fault(random: &mut Random, mut rows: BTreeSet<Row>, program: &Program) -
     match random.below(10) {
         0..=3 => return without_pair(&rows, (state, action)),
         4 => rows.retain(|row| !row.meets((state, action))),
-        5..=6 => again.state_bits |= some_bits(random, program.states) as u8,
+        5..=6 => again.state_bits |= some_bits(random, program.states) as u16,
         7..=8 => again.action_bits |= some_bits(random, program.actions),
         _ => {}
     }
@@ -236,7 +249,7 @@ fn without_pair(rows: &BTreeSet<Row>, pair: Pair) -> BTreeSet<Row> {
 fn overfull(random: &mut Random, program: &Program) -> Vec<u8> {
     let program = widened(program);
     let rows = complete_rows(random, program.states, program.actions);
-    let count = random.pick(&[257, 257, 257, 258, 260]);
+    let count = random.pick(&[257, 257, 257, 258, 260, 550]);
     let rows = random.filled(rows, count, |random| {
         bare_row(random, program.states, program.actions)
     });
@@ -247,7 +260,7 @@ fn overfull(random: &mut Random, program: &Program) -> Vec<u8> {
     if random.percent(40) {
         return damage_rows(random, &file);
     }
-    let row_257 = first_row(&program) + TABLE_ROWS;
+    let row_257 = first_row(&program) + MOST_ROWS;
     let mut lines = lines_of(&file);
     if random.percent(40) {
         lines[row_257] = out_of_range(random, &lines, row_257);
@@ -264,7 +277,7 @@ mod tests {
     use crate::generate::met::Met;
     use crate::model::file::read;
     use crate::model::program::{Event, RuleLine};
-    use crate::model::refusals::{FILE_END, PAIR_MET_TWICE, PAIR_NOT_MET};
+    use crate::model::refusals::{FILE_END, PAIR_MET_TWICE, PAIR_NOT_MET, SHEET_TOO_LARGE};
     use crate::model::table::pairs;
 
     #[test]
@@ -324,5 +337,6 @@ mod tests {
         classes.check(10);
         met.check(0..=FILE_END, 10);
         met.check([0, PAIR_NOT_MET, PAIR_MET_TWICE], 300);
+        met.check([SHEET_TOO_LARGE], 50);
     }
 }

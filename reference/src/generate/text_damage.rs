@@ -3,7 +3,7 @@
 
 use crate::generate::damage::{damage_bytes, lines_of, Lines};
 use crate::generate::edits::past_range;
-use crate::generate::exchanges::MOST_PLACES;
+use crate::generate::exchanges::room;
 use crate::generate::programs::other_step;
 use crate::generate::random::Random;
 use crate::generate::shapes::plan_within;
@@ -11,7 +11,7 @@ use crate::model::exchange::{ranges_of_text, Exchange};
 use crate::model::file::Frame;
 use crate::model::kinds::{kind, EDITS, FRAMES, ROUTINE, STEP};
 use crate::model::lines::{line_of, numbers_of_line, text_of};
-use crate::model::program::{Program, Step, EXIT, FIRST_CALL};
+use crate::model::program::{Program, Step, EXIT, FIRST_CALL, MOST_PLACES};
 use crate::model::write::frame;
 
 /// The text of an exchange with one damage, or with a few of any sort. Some frame always stays.
@@ -65,13 +65,13 @@ fn put_out_of_range(random: &mut Random, program: &Program, frames: &mut Vec<Fra
     let other = random.below(routines.into()) as u8;
     match random.below(9) {
         0 => {
-            let count = random.pick(&[0, 1, 1, 17, 17, 255]);
+            let count = random.pick(&[0, 1, 1, 65, 65, 255]);
             frames[0] = frame(ROUTINE, &[routine, count]);
         }
         1 => frames[0][1] = random.pick(&[routines, routines, 16, 255]),
         2 => leave_too_few_places(random, frames),
         3 => {
-            let counts = [[other, 1], [other, 17], [routines, 2], [routine, 0]];
+            let counts = [[other, 1], [other, 65], [routines, 2], [routine, 0]];
             let later = frame(ROUTINE, &random.pick(&counts));
             insert(random, frames, &[later]);
         }
@@ -113,7 +113,7 @@ fn spoil_step(random: &mut Random, program: &Program, frames: &mut Vec<Frame>) {
     let (routine, places) = named(program, frames);
     match some_step(random, frames) {
         Some(at) => {
-            let number = random.between(1, 4);
+            let number = random.pick(&[1, 2, 3, 3, 4]);
             frames[at][number] = past_range(random, program, places, number);
         }
         None => frames.push(frame(STEP, &[routine, EXIT, 0, 0])),
@@ -218,9 +218,10 @@ fn spoil_numbers(random: &mut Random, lines: &mut Lines, at: usize) {
 pub fn long(random: &mut Random, program: &Program, exchange: &Exchange) -> Vec<u8> {
     let count = random.pick(&[300, 1_000, 2_000, 5_000, 12_000]);
     let routine = exchange.routine;
-    let mut frames = vec![frame(ROUTINE, &[routine, MOST_PLACES])];
+    let places = room(program);
+    let mut frames = vec![frame(ROUTINE, &[routine, places])];
     frames.extend(match random.below(4) {
-        0..=1 => every_step(program, routine).take(count).collect(),
+        0..=1 => every_step(program, routine, places).take(count).collect(),
         2 => again_and_again(exchange, count),
         _ => any_steps(random, program, routine, count),
     });
@@ -239,15 +240,15 @@ pub fn long(random: &mut Random, program: &Program, exchange: &Exchange) -> Vec<
     }
 }
 
-/// All steps that a routine can have, ascending.
-pub fn every_step(program: &Program, routine: u8) -> impl Iterator<Item = Frame> {
+/// All steps that a routine of so many places can have, ascending.
+pub fn every_step(program: &Program, routine: u8, places: u8) -> impl Iterator<Item = Frame> {
     let calls = FIRST_CALL..FIRST_CALL + program.routines();
     let labels: Vec<u8> = (0..program.actions).chain(calls).collect();
-    let from = (0..MOST_PLACES).filter(|&from| from != EXIT);
+    let from = (0..places).filter(|&from| from != EXIT);
     from.flat_map(move |from| {
         let labels = labels.clone().into_iter();
         labels.flat_map(move |label| {
-            (0..MOST_PLACES).map(move |to| frame(STEP, &[routine, from, label, to]))
+            (0..places).map(move |to| frame(STEP, &[routine, from, label, to]))
         })
     })
 }
@@ -263,7 +264,8 @@ fn again_and_again(exchange: &Exchange, count: usize) -> Vec<Frame> {
 
 fn any_steps(random: &mut Random, program: &Program, routine: u8, count: usize) -> Vec<Frame> {
     let plan = plan_within(random, program);
-    let step = |_| other_step(random, &plan, routine.into(), MOST_PLACES, true);
+    let places = room(program);
+    let step = |_| other_step(random, &plan, routine.into(), places, true);
     let steps = (0..count).map(step);
     steps.map(|step| frame(STEP, &step.numbers())).collect()
 }

@@ -10,10 +10,8 @@ use crate::model::program::{Event, Label, Program, RuleLine, Step};
 use crate::model::standing::Standing;
 use std::collections::BTreeSet;
 
-/// How many places a routine may have for its standings to have numbers.
-const MOST_PLACES: u8 = 16;
-
-/// The program with its calls and returns acted out; None where a routine would have too many places.
+/// The program with its calls and returns acted out; None where a routine would have too many places to
+/// be counted. There are more of everything than a file could have.
 pub fn acted_out(program: &Program) -> Option<Program> {
     let mut acted = Program {
         steps: BTreeSet::new(),
@@ -67,11 +65,8 @@ fn act_out(acted: &mut Program, step: Step, callee: u8) -> Option<()> {
     let (call, end) = (Event::Call(callee), Event::Return(callee));
     let (before, after) = (action_of(acted, call), action_of(acted, end));
     let places = &mut acted.places[usize::from(step.routine)];
-    let (calling, returned) = (*places, *places + 1);
-    *places += 2;
-    if *places > MOST_PLACES {
-        return None;
-    }
+    let (calling, returned) = (*places, places.checked_add(1)?);
+    *places = places.checked_add(2)?;
     let part = |from, label, to| Step {
         routine: step.routine,
         from,
@@ -102,12 +97,10 @@ mod tests {
     use crate::generate::shapes::Shape;
     use crate::model::file::read;
     use crate::model::fresh::work_afresh;
-    use crate::model::standing::SHEET_SIZE;
     use crate::model::{former, fresh::Fresh};
 
     fn standings_of(fresh: &Fresh) -> BTreeSet<Standing> {
-        let numbers = (0..SHEET_SIZE).filter(|&number| fresh.marked[number]);
-        numbers.map(Standing::of_number).collect()
+        fresh.by_parts().into_keys().collect()
     }
 
     /// What can occur is what the former procedure finds where calls and returns are acted out. False
@@ -117,7 +110,7 @@ mod tests {
             Some(acted) => acted,
             None => return false,
         };
-        let former = standings_of(&former::work_afresh(&acted));
+        let former = standings_of(&former::work_in(acted.sizes(), &acted));
         let wanted = at_old_places(program, former);
         let given = standings_of(&work_afresh(program));
         assert_eq!(given, wanted, "{name}");

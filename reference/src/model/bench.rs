@@ -8,10 +8,9 @@ use crate::model::kinds::{COUNTS, END, FINDING, REFUSED};
 use crate::model::lines::{line_of, lines, starts_with_kind, two_numbers};
 use crate::model::program::Program;
 use crate::model::refusals::INPUT_LONG;
-use crate::model::standing::{Standing, SHEET_SIZE};
 
 /// How many bytes of input there may be.
-pub const MOST_INPUT: usize = SHEET_SIZE;
+pub const MOST_INPUT: usize = 16_384;
 
 /// All that is printed for an input.
 pub fn bench(input: &[u8]) -> Vec<u8> {
@@ -59,7 +58,7 @@ fn block(program: &Program) -> Vec<u8> {
     let analysis = analyze(program);
     let mut printed = Vec::new();
     for &finding in &analysis.findings {
-        let at = Standing::of_number(finding as usize);
+        let at = program.sizes().standing(finding as usize);
         printed.extend(line_of(&[FINDING, at.routine, at.place, at.root, at.state]));
     }
     let [high, low] = two_numbers(analysis.standings() as usize);

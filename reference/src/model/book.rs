@@ -1,14 +1,23 @@
 //! The plain book: a program, its steps a set, and what each call does to it. It keeps no sheet and
-//! no file, and of a call it is told whether it is an exchange, the text and the lengths of output
-//! and working buffer only.
+//! no file, and of a call it is told whether it is an exchange, the text and the lengths of output,
+//! working buffer and, for an exchange, second buffer only.
 
-use crate::model::calls::{check_output, check_work};
+use crate::model::calls::{check_output, check_sheet, check_work, work_of_exchange};
 use crate::model::change::{Change, Form};
 use crate::model::edit::Edit;
 use crate::model::exchange::Exchange;
-use crate::model::program::{Program, Step, TABLE_ROWS};
-use crate::model::refusals::{refuse_if, NOT_THERE, STEPS_FULL, THERE_ALREADY};
+use crate::model::program::{Program, Step, MOST_STEPS};
+use crate::model::refusals::{refuse_if, NOT_THERE, SHEET_TOO_LARGE, STEPS_FULL, THERE_ALREADY};
+use crate::model::standing::{Sizes, MOST_SHEET};
 use std::collections::BTreeSet;
+
+/// The lengths of what is lent to a call. The last is not asked for a repair of a step.
+#[derive(Clone, Copy, Debug)]
+pub struct Lengths {
+    pub output: usize,
+    pub work: usize,
+    pub second: usize,
+}
 
 /// Of the program only the set of steps changes, and by an exchange a routine's count of places.
 pub struct Book {
@@ -16,20 +25,17 @@ pub struct Book {
 }
 
 impl Book {
-    /// Notes a call: the change that was made, or the first refusal from 10 to 16, or 21.
-    pub fn call(
-        &mut self,
-        form: Form,
-        text: &[u8],
-        output: usize,
-        work: usize,
-    ) -> Result<Change, u32> {
-        check_output(output)?;
-        check_work(work)?;
+    /// Notes a call: the change that was made, or the first refusal that the call meets with this
+    /// program, of those after the old sheet's length and before 17.
+    pub fn call(&mut self, form: Form, text: &[u8], lengths: Lengths) -> Result<Change, u32> {
+        check_output(lengths.output)?;
+        if form == Form::Edit {
+            check_work(lengths.work, self.program.sizes().length())?;
+        }
         let change = Change::of_text(form, &self.program, text)?;
         match &change {
             Change::Edit(edit) => self.edit(*edit)?,
-            Change::Exchange(exchange) => self.exchange(exchange)?,
+            Change::Exchange(exchange) => self.exchange(exchange, lengths)?,
         }
         Ok(change)
     }
@@ -48,7 +54,7 @@ impl Book {
 
     fn add(&mut self, step: Step) -> Result<(), u32> {
         refuse_if(self.has(step), THERE_ALREADY)?;
-        refuse_if(self.program.steps.len() == TABLE_ROWS, STEPS_FULL)?;
+        refuse_if(self.program.steps.len() == MOST_STEPS, STEPS_FULL)?;
         self.program.steps.insert(step);
         Ok(())
     }
@@ -67,13 +73,24 @@ impl Book {
         Ok(())
     }
 
-    fn exchange(&mut self, exchange: &Exchange) -> Result<(), u32> {
+    fn exchange(&mut self, exchange: &Exchange, lengths: Lengths) -> Result<(), u32> {
         let steps = self.program.steps.iter().copied();
         let others = steps.filter(|step| step.routine != exchange.routine);
         let steps: BTreeSet<Step> = others.chain(exchange.steps.iter().copied()).collect();
-        refuse_if(steps.len() > TABLE_ROWS, STEPS_FULL)?;
+        refuse_if(steps.len() > MOST_STEPS, STEPS_FULL)?;
+        let mut places = self.program.places.clone();
+        places[usize::from(exchange.routine)] = exchange.places;
+        let before = self.program.sizes();
+        let longest = places.iter().copied().max();
+        let after = Sizes {
+            places: longest.unwrap_or(0),
+            ..before
+        };
+        refuse_if(after.length() > MOST_SHEET, SHEET_TOO_LARGE)?;
+        check_sheet(lengths.second, after.length())?;
+        check_work(lengths.work, work_of_exchange(before, after))?;
         self.program.steps = steps;
-        self.program.places[usize::from(exchange.routine)] = exchange.places;
+        self.program.places = places;
         Ok(())
     }
 }
@@ -86,13 +103,24 @@ mod tests {
     use crate::generate::programs::program_of_seed;
     use crate::generate::random::Random;
     use crate::model::analysis::own_sheet;
+    use crate::model::calls::repairs::lengths;
     use crate::model::file::read;
-    use crate::model::groups::roots_given;
+    use crate::model::groups::{own_standings, roots_given};
     use crate::model::moves::Moves;
     use crate::model::program::EXIT;
-    use crate::model::refusals::{OUTPUT_SHORT, WORK_LENGTH};
-    use crate::model::standing::{standings, Standing, SHEET_SIZE};
+    use crate::model::refusals::{OUTPUT_SHORT, SHEET_LENGTH, WORK_LENGTH};
+    use crate::model::standing::Standing;
     use crate::model::write::OUTPUT_SIZE;
+
+    /// The lengths that a text of this form needs.
+    fn right_lengths(form: Form, program: &Program, text: &[u8]) -> Lengths {
+        let [work, second] = lengths(form, program, text);
+        Lengths {
+            output: OUTPUT_SIZE,
+            work,
+            second,
+        }
+    }
 
     #[test]
     fn named_texts_get_the_answers_worked_out_by_hand() {
@@ -102,19 +130,46 @@ mod tests {
                 let mut book = Book {
                     program: program.clone(),
                 };
-                let mut noted = |output, work| book.call(form, &case.text, output, work);
-                let short = noted(OUTPUT_SIZE - 1, SHEET_SIZE - 1);
-                assert_eq!(short, Err(OUTPUT_SHORT), "{}", case.name);
-                let long = noted(OUTPUT_SIZE + 1, SHEET_SIZE + 1);
-                assert_eq!(long, Err(WORK_LENGTH), "{}", case.name);
-                let right = noted(OUTPUT_SIZE, SHEET_SIZE).map(|change| change.after(&program));
-                assert_eq!(
-                    right.clone().err().unwrap_or(0),
-                    case.refusal,
-                    "{}",
-                    case.name
-                );
-                assert_eq!(book.program, right.unwrap_or(program), "{}", case.name);
+                let right = right_lengths(form, &program, &case.text);
+                let short = Lengths {
+                    output: OUTPUT_SIZE - 1,
+                    work: 0,
+                    second: 0,
+                };
+                let noted = book.call(form, &case.text, short);
+                assert_eq!(noted, Err(OUTPUT_SHORT), "{}", case.name);
+                let noted = book.call(form, &case.text, right);
+                let given = noted.map(|change| change.after(&program));
+                let refusal = given.clone().err().unwrap_or(0);
+                assert_eq!(refusal, case.refusal, "{}", case.name);
+                assert_eq!(book.program, given.unwrap_or(program), "{}", case.name);
+            }
+        }
+    }
+
+    /// The lengths of an exchange are judged after its text, those of an edit before.
+    #[test]
+    fn lengths_are_judged_in_their_place() {
+        for form in [Form::Edit, Form::Exchange] {
+            for case in cases::named_texts(form) {
+                let program = read(&case.file).expect("the file is accepted");
+                let mut book = Book { program };
+                let right = right_lengths(form, &book.program, &case.text);
+                let work = right.work + 1;
+                let mut refusal = |lengths| book.call(form, &case.text, lengths).err();
+                let long = refusal(Lengths { work, ..right });
+                let second = right.second + 1;
+                let both = refusal(Lengths {
+                    work,
+                    second,
+                    ..right
+                });
+                let after_text = |own| if case.refusal == 0 { own } else { case.refusal };
+                let wanted = match form {
+                    Form::Edit => [WORK_LENGTH; 2],
+                    Form::Exchange => [WORK_LENGTH, SHEET_LENGTH].map(after_text),
+                };
+                assert_eq!([long, both], wanted.map(Some), "{}", case.name);
             }
         }
     }
@@ -156,13 +211,14 @@ mod tests {
         };
         let own = own_sheet(&before);
         let text = text(&mut Random::new(seed), form, &before, &before, &own);
-        let change = match book.call(form, &text, OUTPUT_SIZE, SHEET_SIZE) {
+        let lengths = right_lengths(form, &before, &text);
+        let change = match book.call(form, &text, lengths) {
             Ok(change) => change,
             Err(_) => return,
         };
         let routine = change.routine();
-        let old = standings(&own);
-        let new = standings(&own_sheet(&book.program));
+        let old = before.sizes().standings(&own);
+        let new = own_standings(&book.program);
         if outside(&before, &old, routine) == outside(&book.program, &new, routine) {
             assert_eq!(others(&old, routine), others(&new, routine), "seed {seed}");
             shown.unseen += usize::from(old != new);

@@ -34,7 +34,7 @@ impl Change {
         }
     }
 
-    /// The program after the change, or the lowest of 14 to 16 that it meets.
+    /// The program after the change, or the first of 14 to 16 and 23 that it meets.
     pub fn made(&self, program: &Program) -> Result<Program, u32> {
         match self {
             Change::Edit(edit) => edited(program, *edit),

@@ -2,7 +2,7 @@
 
 use crate::model::kinds::{ADD, DROP, EDITS, REPLACE};
 use crate::model::lines::{line_of, lines, numbers_of_kind};
-use crate::model::program::{Label, Program, Step, TABLE_ROWS};
+use crate::model::program::{Label, Program, Step, MOST_STEPS};
 use crate::model::ranges::Ranges;
 use crate::model::refusals::{
     refuse_if, BAD_EDIT, EDIT_RANGE, NOT_THERE, STEPS_FULL, THERE_ALREADY,
@@ -76,7 +76,7 @@ pub fn edit_of_line(program: &Program, line: &[u8]) -> Result<Edit, u32> {
 /// The program after an edit, or the lowest of 14 to 16 that the edit meets.
 pub fn edited(program: &Program, edit: Edit) -> Result<Program, u32> {
     let there = |step: Step| program.steps.contains(&step);
-    let is_full = program.steps.len() >= TABLE_ROWS;
+    let is_full = program.steps.len() >= MOST_STEPS;
     refuse_if(edit.leaves().map(there) == Some(false), NOT_THERE)?;
     refuse_if(edit.joins().map(there) == Some(true), THERE_ALREADY)?;
     refuse_if(matches!(edit, Edit::Add(_)) && is_full, STEPS_FULL)?;

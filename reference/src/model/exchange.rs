@@ -1,10 +1,10 @@
 //! Exchanges: a whole routine replaced, by a text that says how many places it has now and all its
 //! steps.
 
-use crate::model::file::Frame;
+use crate::model::file::{check_sizes, Frame};
 use crate::model::kinds::{EXCHANGES, ROUTINE, STEP};
 use crate::model::lines::{lines, numbers_of_kind, text_of};
-use crate::model::program::{Program, Step, TABLE_ROWS};
+use crate::model::program::{Program, Step, MOST_STEPS};
 use crate::model::ranges::Ranges;
 use crate::model::refusals::{refuse_if, BAD_EDIT, EDIT_RANGE, EXCHANGE_ORDER, STEPS_FULL};
 use crate::model::write::frame;
@@ -109,13 +109,14 @@ pub fn emptied(program: &Program, routine: u8) -> Program {
     emptied
 }
 
-/// The program after an exchange, or 16.
+/// The program after an exchange; or 16, or 23 for the sizes that it would have.
 pub fn exchanged(program: &Program, exchange: &Exchange) -> Result<Program, u32> {
     let mut after = emptied(program, exchange.routine);
     let count = after.steps.len() + exchange.steps.len();
-    refuse_if(count > TABLE_ROWS, STEPS_FULL)?;
+    refuse_if(count > MOST_STEPS, STEPS_FULL)?;
     after.places[usize::from(exchange.routine)] = exchange.places;
     after.steps.extend(&exchange.steps);
+    check_sizes(&after)?;
     Ok(after)
 }
 
@@ -131,7 +132,7 @@ mod tests {
     use crate::model::change::{changed_by_text, Form};
     use crate::model::file::read;
     use crate::model::lines::{line_of, numbers_of_line};
-    use crate::model::refusals::{FileRefusal, RANGE, TABLE_FULL};
+    use crate::model::refusals::{FileRefusal, RANGE, SHEET_TOO_LARGE, TABLE_FULL};
     use crate::model::write::{end, write};
 
     fn exchanged_by_text(program: &Program, text: &[u8]) -> Result<Program, u32> {
@@ -214,8 +215,8 @@ mod tests {
         text_of(&all)
     }
 
-    /// A text that is in order is as good as the file that would say the same: 5 is 13 there, and 6 is
-    /// 16. In a file the first faulty line decides, so 6 may stand before 5.
+    /// A text that is in order is as good as the file that would say the same: 5 is 13 there, 6 is 16, and
+    /// 23 is itself. In a file the first faulty line decides, so 6 may stand before 5.
     #[test]
     fn a_text_in_order_is_judged_as_the_file_that_says_the_same() {
         let mut met = Met::default();
@@ -235,11 +236,13 @@ mod tests {
             match given {
                 Ok(after) => assert_eq!(in_file, Ok(&after), "seed {seed}"),
                 Err(EDIT_RANGE) => assert!([Err(RANGE), Err(TABLE_FULL)].contains(&in_file)),
-                Err(_) => assert_eq!(in_file, Err(TABLE_FULL), "seed {seed}"),
+                Err(STEPS_FULL) => assert_eq!(in_file, Err(TABLE_FULL), "seed {seed}"),
+                Err(refusal) => assert_eq!(in_file, Err(refusal), "seed {seed}"),
             }
         }
         println!("{met:?}");
         met.check([0], 1500);
         met.check([EDIT_RANGE, STEPS_FULL], 50);
+        met.check([SHEET_TOO_LARGE], 20);
     }
 }

@@ -2,15 +2,18 @@
 //!
 //! A file is cut into lines, each line is judged against the frames before it, and the first
 //! faulty line decides, with the lowest number among its faults. Only where no line has one, the
-//! table is judged, in a file with rows.
+//! table is judged, in a file with rows, and last the length of the sheet.
 
 use crate::model::kinds::{
-    place_of_frame, END, FORBIDDEN, FRAMES, ROUTINE, ROW, RULE, SIZES, START, STEP,
+    frames, place_of_frame, END, FORBIDDEN, ROUTINE, ROW, RULE, SIZES, START, STEP,
 };
 use crate::model::lines::{lines, numbers_of_kind, two_numbers};
-use crate::model::program::{Program, RuleLine, Step, TABLE_ROWS};
+use crate::model::program::{Program, RuleLine, Step, MOST_ROWS, MOST_RULE_LINES, MOST_STEPS};
 use crate::model::ranges::{sizes_in_range, Ranges};
-use crate::model::refusals::{FileRefusal, END_COUNT, FILE_END, ORDER, RANGE, TABLE_FULL};
+use crate::model::refusals::{
+    refuse_if, FileRefusal, END_COUNT, FILE_END, ORDER, RANGE, SHEET_TOO_LARGE, TABLE_FULL,
+};
+use crate::model::standing::MOST_SHEET;
 use crate::model::table::{rule_of_rows, Row};
 use std::collections::BTreeSet;
 
@@ -25,7 +28,7 @@ pub fn read(file: &[u8]) -> Reading {
     let mut before: Vec<Frame> = Vec::new();
     let mut line = 1;
     for text in lines(file) {
-        let faults = match numbers_of_kind(&FRAMES, text) {
+        let faults = match numbers_of_kind(&frames(known_states(&before)), text) {
             _ if ended(&before) => vec![FILE_END],
             Err(fault) => vec![fault],
             Ok(frame) => {
@@ -47,6 +50,11 @@ pub fn read(file: &[u8]) -> Reading {
         faults: vec![fault],
         line: 0,
     })
+}
+
+/// How many states there are, as far as the accepted frames say it.
+fn known_states(before: &[Frame]) -> u8 {
+    before.first().map_or(0, |sizes| sizes[2])
 }
 
 fn ended(before: &[Frame]) -> bool {
@@ -146,8 +154,13 @@ fn ranges_of(before: &[Frame]) -> Ranges {
 
 /// Refusal 6.
 fn table_full(before: &[Frame], frame: &Frame) -> bool {
-    let has_table = [STEP, RULE, ROW].contains(&frame[0]);
-    has_table && of_kind(before, frame[0]).count() >= TABLE_ROWS
+    let there = of_kind(before, frame[0]).count();
+    match frame[0] {
+        STEP => there >= MOST_STEPS,
+        RULE => there >= MOST_RULE_LINES,
+        ROW => there >= MOST_ROWS,
+        _ => false,
+    }
 }
 
 /// Refusal 7.
@@ -155,12 +168,12 @@ fn end_count_wrong(before: &[Frame], frame: &Frame) -> bool {
     frame[0] == END && frame[1..] != two_numbers(before.len())
 }
 
-/// The program that accepted frames say, or the refusal of their table, 19 or 20.
+/// The program that accepted frames say; or the refusal of their table, 19 or 20, or of their sizes, 23.
 fn program_of(frames: &[Frame]) -> Result<Program, u32> {
     let ranges = ranges_of(frames);
     let step = |frame: &Frame| Step::of_numbers(&frame[1..]);
     let state = |frame: &Frame| frame[1];
-    Ok(Program {
+    let program = Program {
         rule: rule_of(frames, &ranges)?,
         places: ranges.places,
         states: ranges.states,
@@ -168,7 +181,14 @@ fn program_of(frames: &[Frame]) -> Result<Program, u32> {
         steps: of_kind(frames, STEP).map(step).collect(),
         starts: of_kind(frames, START).map(state).collect(),
         forbidden: of_kind(frames, FORBIDDEN).map(state).collect(),
-    })
+    };
+    check_sizes(&program)?;
+    Ok(program)
+}
+
+/// Refusal 23, by the length that the program's sheet would have.
+pub fn check_sizes(program: &Program) -> Result<(), u32> {
+    refuse_if(program.sizes().length() > MOST_SHEET, SHEET_TOO_LARGE)
 }
 
 /// The rule that accepted frames say. Nothing is asked of one that is put down in lines.
@@ -219,11 +239,11 @@ mod tests {
     #[test]
     fn several_faults_of_one_line_are_all_seen() {
         let faults_of_file = |file: &[u8]| read(file).expect_err("a fault").faults;
-        let file = b"50010101\n520002\n5300000000\n4900\n4900\n520111\n";
+        let file = b"50010101\n520002\n5300000000\n4900\n4900\n520141\n";
         assert_eq!(faults_of_file(file), [ORDER]);
         let file = b"50010101\n520002\n4901\n4900\n";
         assert_eq!(faults_of_file(file), [RANGE]);
-        let file = b"50010101\n520002\n4900\n520111\n";
+        let file = b"50010101\n520002\n4900\n520141\n";
         assert_eq!(faults_of_file(file), [ORDER, RANGE]);
         let file = b"50010101\n450000\n";
         assert_eq!(faults_of_file(file), [ORDER, END_COUNT]);

@@ -1,4 +1,5 @@
-//! Working afresh as it was before the rule could hear calls and returns.
+//! Working afresh as it was before the rule could hear calls and returns; and the sizes by which all
+//! standings were numbered before each program had its own.
 //!
 //! Here the rule sees actions only, a root is the state at the call, and an exit wakes by the caller's
 //! state. It is kept because old files are to be safe: a program whose rule has no line for a call or a
@@ -8,19 +9,39 @@
 
 use crate::model::fresh::Fresh;
 use crate::model::program::{Event, Label, Program, EXIT};
-use crate::model::standing::{Standing, MOST_STATES, SHEET_SIZE};
+use crate::model::standing::{Sizes, Standing};
 use std::collections::BTreeSet;
 
-/// Works a program's standings afresh, as if its rule had no line for a call or a return.
-pub fn work_afresh(program: &Program) -> Fresh {
-    let mut working = Working::new(program);
+/// The sizes that every program was numbered by: as many as there could be of everything.
+pub const FORMER_SIZES: Sizes = Sizes {
+    routines: 16,
+    places: 16,
+    states: 8,
+};
+
+/// Whether a program could be put down when these were its sizes.
+pub fn is_former(program: &Program) -> bool {
+    let own = program.sizes();
+    own.places <= FORMER_SIZES.places
+        && own.states <= FORMER_SIZES.states
+        && program.rule.len() <= FORMER_RULE_LINES
+}
+
+/// How many rule lines a program could have then.
+const FORMER_RULE_LINES: usize = 256;
+
+/// Works a program's standings afresh, as if its rule had no line for a call or a return, with numbers
+/// by these sizes.
+pub fn work_in(sizes: Sizes, program: &Program) -> Fresh {
+    let mut working = Working::new(sizes, program);
     for &state in &program.starts {
         working.mark(Standing::entry(0, state));
     }
     while let Some(&lowest) = working.waiting.iter().next() {
-        working.take(Standing::of_number(lowest));
+        working.take(sizes.standing(lowest));
     }
     Fresh {
+        sizes,
         marked: working.marked,
         taken: working.taken,
     }
@@ -29,6 +50,7 @@ pub fn work_afresh(program: &Program) -> Fresh {
 /// Everything that the procedure remembers between two takings.
 struct Working<'a> {
     program: &'a Program,
+    sizes: Sizes,
     marked: Vec<bool>,
     waiting: BTreeSet<usize>,
     taken: Vec<u32>,
@@ -37,19 +59,20 @@ struct Working<'a> {
 }
 
 impl Working<'_> {
-    fn new(program: &Program) -> Working<'_> {
+    fn new(sizes: Sizes, program: &Program) -> Working<'_> {
         Working {
             program,
-            marked: vec![false; SHEET_SIZE],
+            sizes,
+            marked: vec![false; sizes.length()],
             waiting: BTreeSet::new(),
-            taken: vec![0; SHEET_SIZE],
+            taken: vec![0; sizes.length()],
             known: BTreeSet::new(),
         }
     }
 
     /// What is newly marked waits; what was marked before is left as it is.
     fn mark(&mut self, standing: Standing) {
-        let number = standing.number();
+        let number = self.sizes.number(standing);
         if !self.marked[number] {
             self.marked[number] = true;
             self.waiting.insert(number);
@@ -57,8 +80,9 @@ impl Working<'_> {
     }
 
     fn take(&mut self, standing: Standing) {
-        self.waiting.remove(&standing.number());
-        self.taken[standing.number()] += 1;
+        let number = self.sizes.number(standing);
+        self.waiting.remove(&number);
+        self.taken[number] += 1;
         if standing.place == EXIT {
             self.take_exit(standing);
             return;
@@ -87,15 +111,16 @@ impl Working<'_> {
             if step.label != Label::Call(exit.routine) {
                 continue;
             }
-            for root in 0..MOST_STATES {
+            for root in 0..self.program.states {
                 let caller = Standing {
                     routine: step.routine,
                     place: step.from,
                     root,
                     state: exit.root,
                 };
-                if self.marked[caller.number()] {
-                    self.waiting.insert(caller.number());
+                let number = self.sizes.number(caller);
+                if self.marked[number] {
+                    self.waiting.insert(number);
                 }
             }
         }
@@ -110,7 +135,7 @@ impl Working<'_> {
 
     fn called(&self, standing: Standing, callee: u8, to: u8) -> Vec<Standing> {
         let mut results = vec![Standing::entry(callee, standing.state)];
-        for state in 0..MOST_STATES {
+        for state in 0..self.program.states {
             if self.known.contains(&(callee, standing.state, state)) {
                 results.push(standing.at(to, state));
             }
@@ -130,9 +155,10 @@ mod tests {
     use crate::model::analysis::{analysis_of, analyze, own_sheet, Analysis};
     use crate::model::edit::edited_by_line;
     use crate::model::file::read;
+    use crate::model::fresh;
 
     fn formerly(program: &Program) -> Analysis {
-        analysis_of(program, &work_afresh(program))
+        analysis_of(program, &work_in(program.sizes(), program))
     }
 
     /// The program with no more than the actions of its rule.
@@ -181,6 +207,42 @@ mod tests {
                 check(&format!("seed {seed}, edited"), &after);
             }
         }
+    }
+
+    /// The findings of a working, by their parts, each with how often it was taken.
+    fn findings(program: &Program, fresh: &Fresh) -> Vec<(Standing, u32)> {
+        let taken = fresh.by_parts().into_iter();
+        let is_finding = |one: &(Standing, u32)| program.forbidden.contains(&one.0.state);
+        taken.filter(is_finding).collect()
+    }
+
+    /// A program keeps its standings, its findings and its takings, each standing's by itself, whether
+    /// its numbers go by its own sizes or by the former ones.
+    #[test]
+    fn a_former_program_is_worked_alike_by_its_own_sizes() {
+        let (mut former, mut found) = (0, 0);
+        for seed in 0..1500 {
+            let program = program_of_seed(seed);
+            if !is_former(&program) {
+                continue;
+            }
+            let formerly = fresh::work_in(FORMER_SIZES, &program);
+            let given = fresh::work_afresh(&program);
+            assert_eq!(given.by_parts(), formerly.by_parts(), "seed {seed}");
+            let wanted = findings(&program, &formerly);
+            assert_eq!(findings(&program, &given), wanted, "seed {seed}");
+            let deaf = deafened(&program);
+            let formerly = work_in(FORMER_SIZES, &deaf).by_parts();
+            assert_eq!(
+                fresh::work_afresh(&deaf).by_parts(),
+                formerly,
+                "seed {seed}"
+            );
+            former += 1;
+            found += usize::from(!wanted.is_empty());
+        }
+        println!("former programs: {former}, with findings: {found}");
+        assert!(former >= 1000 && found >= 300);
     }
 
     /// Where a rule hears something, it often makes a difference, to the sheet and to the takings.

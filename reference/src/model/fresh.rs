@@ -3,30 +3,49 @@
 
 use crate::model::moves::Moves;
 use crate::model::program::{Event, Label, Program, EXIT};
-use crate::model::standing::{Standing, MOST_STATES, SHEET_SIZE};
-use std::collections::BTreeSet;
+use crate::model::standing::{Sizes, Standing};
+use std::collections::{BTreeMap, BTreeSet};
 
 /// How often a standing is taken at the most: once when it is marked, and once for each pair of each
-/// routine, 16 routines with 8 roots and 8 ends.
-pub const MOST_TAKINGS: u32 = 1025;
+/// routine.
+pub fn most_takings(sizes: Sizes) -> u32 {
+    let states = u32::from(sizes.states);
+    1 + u32::from(sizes.routines) * states * states
+}
 
-/// What the procedure leaves behind. Both rows go by the standings' numbers.
+/// What the procedure leaves behind. Both rows go by the standings' numbers in these sizes.
 pub struct Fresh {
+    pub sizes: Sizes,
     pub marked: Vec<bool>,
     /// How often each standing was taken.
     pub taken: Vec<u32>,
 }
 
+impl Fresh {
+    /// The standings that were marked, and how often each was taken.
+    pub fn by_parts(&self) -> BTreeMap<Standing, u32> {
+        let numbers = (0..self.sizes.length()).filter(|&number| self.marked[number]);
+        let taken = |number| (self.sizes.standing(number), self.taken[number]);
+        numbers.map(taken).collect()
+    }
+}
+
 /// Works a program's standings afresh.
 pub fn work_afresh(program: &Program) -> Fresh {
-    let mut working = Working::new(program);
+    work_in(program.sizes(), program)
+}
+
+/// The same with numbers by other sizes, which leave room for all that the program has.
+pub fn work_in(sizes: Sizes, program: &Program) -> Fresh {
+    let mut working = Working::new(sizes, program);
     for &state in &program.starts {
         working.mark(Standing::entry(0, state));
     }
     while let Some(&lowest) = working.waiting.iter().next() {
-        working.take(Standing::of_number(lowest));
+        working.take(sizes.standing(lowest));
     }
     Fresh {
+        sizes,
         marked: working.marked,
         taken: working.taken,
     }
@@ -36,29 +55,31 @@ pub fn work_afresh(program: &Program) -> Fresh {
 struct Working<'a> {
     program: &'a Program,
     moves: Moves<'a>,
+    sizes: Sizes,
     marked: Vec<bool>,
     waiting: BTreeSet<usize>,
     taken: Vec<u32>,
-    /// The known pairs: (f, r, q) once the exit (f, 1, r, q) has been taken. They end before the
-    /// return's move.
-    known: BTreeSet<(u8, u8, u8)>,
+    /// The known pairs: for each f and r every q with which the exit (f, 1, r, q) has been taken. They end
+    /// before the return's move.
+    known: BTreeMap<(u8, u8), BTreeSet<u8>>,
 }
 
 impl Working<'_> {
-    fn new(program: &Program) -> Working<'_> {
+    fn new(sizes: Sizes, program: &Program) -> Working<'_> {
         Working {
             program,
             moves: Moves::of(program),
-            marked: vec![false; SHEET_SIZE],
+            sizes,
+            marked: vec![false; sizes.length()],
             waiting: BTreeSet::new(),
-            taken: vec![0; SHEET_SIZE],
-            known: BTreeSet::new(),
+            taken: vec![0; sizes.length()],
+            known: BTreeMap::new(),
         }
     }
 
     /// What is newly marked waits; what was marked before is left as it is.
     fn mark(&mut self, standing: Standing) {
-        let number = standing.number();
+        let number = self.sizes.number(standing);
         if !self.marked[number] {
             self.marked[number] = true;
             self.waiting.insert(number);
@@ -66,8 +87,9 @@ impl Working<'_> {
     }
 
     fn take(&mut self, standing: Standing) {
-        self.waiting.remove(&standing.number());
-        self.taken[standing.number()] += 1;
+        let number = self.sizes.number(standing);
+        self.waiting.remove(&number);
+        self.taken[number] += 1;
         if standing.place == EXIT {
             self.take_exit(standing);
             return;
@@ -92,10 +114,12 @@ impl Working<'_> {
     /// The pair becomes known, and every marked standing from which a call can give this root waits,
     /// whether or not the return's move leads it anywhere.
     fn take_exit(&mut self, exit: Standing) {
-        self.known.insert((exit.routine, exit.root, exit.state));
+        let pairs = self.known.entry((exit.routine, exit.root));
+        pairs.or_default().insert(exit.state);
         for caller in self.callers(exit.routine, exit.root) {
-            if self.marked[caller.number()] {
-                self.waiting.insert(caller.number());
+            let number = self.sizes.number(caller);
+            if self.marked[number] {
+                self.waiting.insert(number);
             }
         }
     }
@@ -111,7 +135,7 @@ impl Working<'_> {
             if step.label != Label::Call(routine) {
                 continue;
             }
-            for root in 0..MOST_STATES {
+            for root in 0..self.program.states {
                 let caller = |&state: &u8| Standing {
                     routine: step.routine,
                     place: step.from,
@@ -131,24 +155,18 @@ impl Working<'_> {
     }
 
     /// The entry for each root that the call's move gives, and what the return's move makes of each
-    /// known pair with such a root.
+    /// known pair with such a root. Many pairs end alike, and lead to the same.
     fn called(&self, standing: Standing, callee: u8, to: u8) -> Vec<Standing> {
-        let mut results = Vec::new();
-        for root in self.moves.after(standing.state, Event::Call(callee)) {
-            results.push(Standing::entry(callee, root));
-            for end in self.known_ends(callee, root) {
-                let states = self.moves.after(end, Event::Return(callee));
-                results.extend(states.into_iter().map(|state| standing.at(to, state)));
-            }
-        }
-        results
-    }
-
-    /// The states in which a routine that began with this root is known to end.
-    fn known_ends(&self, routine: u8, root: u8) -> Vec<u8> {
-        let states = 0..self.program.states;
-        let is_known = |&state: &u8| self.known.contains(&(routine, root, state));
-        states.filter(is_known).collect()
+        let roots = self.moves.after(standing.state, Event::Call(callee));
+        let ends = roots
+            .iter()
+            .filter_map(|&root| self.known.get(&(callee, root)));
+        let ends: BTreeSet<u8> = ends.flatten().copied().collect();
+        let after = |end| self.moves.after(end, Event::Return(callee));
+        let states: BTreeSet<u8> = ends.into_iter().flat_map(after).collect();
+        let entries = roots.iter().map(|&root| Standing::entry(callee, root));
+        let returned = states.into_iter().map(|state| standing.at(to, state));
+        entries.chain(returned).collect()
     }
 }
 
@@ -160,7 +178,6 @@ mod tests {
     use crate::generate::random::Random;
     use crate::generate::shapes::Shape;
     use crate::model::analysis::analyze;
-    use std::collections::BTreeMap;
 
     /// Whether the rule can go from one state to another by an event, read off its lines.
     fn goes(program: &Program, from: u8, event: Event, to: u8) -> bool {
@@ -265,13 +282,8 @@ mod tests {
         for seed in 0..1000 {
             let program = program_by_shares(&mut Random::new(seed), &shares);
             let (given, wanted) = (work_afresh(&program), Letter::work(&program));
-            for number in 0..SHEET_SIZE {
-                let at = Standing::of_number(number);
-                let times = wanted.taken.get(&at).copied().unwrap_or(0);
-                assert_eq!(given.taken[number], times, "seed {seed}, {at:?}");
-                let is_marked = wanted.marked.contains(&at);
-                assert_eq!(given.marked[number], is_marked, "seed {seed}, {at:?}");
-            }
+            assert_eq!(given.by_parts(), wanted.taken, "seed {seed}");
+            assert!(wanted.taken.keys().eq(&wanted.marked), "seed {seed}");
             hearing.note(&program, &analyze(&program).sheet);
         }
         println!("{hearing:?}");

@@ -13,7 +13,7 @@ use crate::model::change::Change;
 use crate::model::least::grown;
 use crate::model::moves::Moves;
 use crate::model::program::{Event, Label, Program, EXIT};
-use crate::model::standing::{standings, Standing};
+use crate::model::standing::Standing;
 use std::collections::BTreeSet;
 
 /// The set of reopened routines for a change that the program accepts, bit f for routine f.
@@ -28,7 +28,7 @@ pub fn reopened(before: &Program, change: &Change) -> u32 {
     }
 }
 
-/// The routines that have a standing more.
+/// The routines that have a standing more, by its parts: the two programs may have other sizes.
 fn gained(before: &Program, after: &Program) -> u32 {
     if before == after {
         return 0;
@@ -39,7 +39,7 @@ fn gained(before: &Program, after: &Program) -> u32 {
 
 /// The standings of a program that can occur.
 pub fn own_standings(program: &Program) -> BTreeSet<Standing> {
-    standings(&own_sheet(program))
+    program.sizes().standings(&own_sheet(program))
 }
 
 /// A set of routines, bit f for routine f.

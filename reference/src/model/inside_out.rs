@@ -6,8 +6,8 @@
 use crate::model::change::Change;
 use crate::model::groups::{bits, calls, groups, is_root, own_standings, roots_given};
 use crate::model::moves::Moves;
-use crate::model::program::{Event, Label, Program, Step};
-use crate::model::standing::{Standing, MOST_STATES};
+use crate::model::program::{Event, Label, Program, Step, MOST_STATES};
+use crate::model::standing::Standing;
 use std::collections::BTreeSet;
 
 /// What a repair leaves.

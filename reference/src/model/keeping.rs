@@ -6,21 +6,22 @@
 
 use crate::model::moves::Moves;
 use crate::model::program::{Event, Label, Program, Step};
-use crate::model::standing::{Standing, MOST_STATES, SHEET_SIZE};
+use crate::model::standing::{Sizes, Standing};
 
 /// The sheet that is left: 1 for each mark that stays, and 0 for all else. Any byte other than 0 is
-/// a mark, the program's own sheet or not.
+/// a mark, the program's own sheet or not. A place that a routine does not have has no support.
 pub fn keep(program: &Program, sheet: &[u8]) -> Vec<u8> {
     let mut keeping = Keeping {
         program,
         moves: Moves::of(program),
-        kept: vec![0; SHEET_SIZE],
+        sizes: program.sizes(),
+        kept: vec![0; sheet.len()],
     };
     loop {
         let before = keeping.kept.clone();
-        for number in 0..SHEET_SIZE {
+        for number in 0..sheet.len() {
             let is_open = sheet[number] != 0 && keeping.kept[number] == 0;
-            if is_open && keeping.has_support(Standing::of_number(number)) {
+            if is_open && keeping.has_support(keeping.sizes.standing(number)) {
                 keeping.kept[number] = 1;
             }
         }
@@ -34,12 +35,13 @@ pub fn keep(program: &Program, sheet: &[u8]) -> Vec<u8> {
 struct Keeping<'a> {
     program: &'a Program,
     moves: Moves<'a>,
+    sizes: Sizes,
     kept: Vec<u8>,
 }
 
 impl Keeping<'_> {
     fn is_kept(&self, standing: Standing) -> bool {
-        self.kept[standing.number()] == 1
+        self.kept[self.sizes.number(standing)] == 1
     }
 
     fn has_support(&self, standing: Standing) -> bool {
@@ -66,7 +68,7 @@ impl Keeping<'_> {
     fn gives_root(&self, step: &Step, entry: Standing) -> bool {
         let call = Event::Call(entry.routine);
         let is_kept_in = |state: u8| {
-            (0..MOST_STATES).any(|root| {
+            (0..self.program.states).any(|root| {
                 self.is_kept(Standing {
                     routine: step.routine,
                     place: step.from,
@@ -121,8 +123,9 @@ mod tests {
     use crate::generate::sheets;
     use crate::model::analysis::own_sheet;
     use crate::model::edit::{after, Edit};
+    use crate::model::groups::own_standings;
     use crate::model::least::least_set_within;
-    use crate::model::standing::{marked, standings};
+    use crate::model::standing::marked;
 
     #[test]
     fn the_own_sheet_is_kept_as_it_is() {
@@ -138,8 +141,10 @@ mod tests {
         for seed in 0..50 {
             let program = program_of_seed(seed);
             let own = own_sheet(&program);
-            assert_eq!(keep(&program, &[1; SHEET_SIZE]), own, "seed {seed}");
-            assert_eq!(keep(&program, &[0xA5; SHEET_SIZE]), own, "seed {seed}");
+            for byte in [1, 0xA5] {
+                let marks = vec![byte; own.len()];
+                assert_eq!(keep(&program, &marks), own, "seed {seed}");
+            }
         }
     }
 
@@ -166,11 +171,11 @@ mod tests {
         for seed in 0..700 {
             let random = &mut Random::new(seed);
             let program = program_of_seed(seed);
-            let own = own_sheet(&program);
+            let (own, sizes) = (own_sheet(&program), program.sizes());
             let way = random.below(sheets::ANY);
             let sheet = sheets::any(random, &own, way);
-            let wanted = least_set_within(&program, |at| sheet[at.number()] != 0);
-            let kept = standings(&keep(&program, &sheet));
+            let wanted = least_set_within(&program, |&at| sheet[sizes.number(at)] != 0);
+            let kept = sizes.standings(&keep(&program, &sheet));
             assert_eq!(kept, wanted, "seed {seed}, way {way}");
             parted += usize::from(!kept.is_empty() && kept.len() < marked(&own).len());
         }
@@ -204,14 +209,15 @@ mod tests {
 
     #[test]
     fn main_called_in_another_state_is_no_start() {
-        let called = own_sheet(&keepings::main_calls_itself());
-        assert_eq!(called[Standing::entry(0, 1).number()], 1);
+        let program = keepings::main_calls_itself();
+        let number = program.sizes().number(Standing::entry(0, 1));
+        assert_eq!(own_sheet(&program)[number], 1);
         check_drops(&keepings::main_called_in_another_state());
     }
 
     #[test]
     fn two_routines_that_call_each_other_do_not_support_each_other() {
-        let called = standings(&own_sheet(&keepings::two_that_call_each_other()));
+        let called = own_standings(&keepings::two_that_call_each_other());
         let count = |routine| called.iter().filter(|at| at.routine == routine).count();
         assert!(count(1) > 2 && count(2) > 2);
         check_drops(&keepings::no_outside_call());
@@ -222,11 +228,12 @@ mod tests {
         check(&heard::keepings());
     }
 
+    /// Routine 1 of the sample has two places and main three, so there are numbers for a third.
     #[test]
     fn marks_that_the_program_has_no_place_for_go() {
         let program = sample::program();
         let own = own_sheet(&program);
-        for number in (0..SHEET_SIZE).filter(|&number| own[number] == 0) {
+        for number in (0..own.len()).filter(|&number| own[number] == 0) {
             let mut sheet = own.clone();
             sheet[number] = 0xFF;
             assert_eq!(keep(&program, &sheet), own, "mark {number}");

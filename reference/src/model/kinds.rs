@@ -20,17 +20,23 @@ pub const START: u8 = 0x49;
 pub const FORBIDDEN: u8 = 0x46;
 pub const END: u8 = 0x45;
 
-/// The kinds of frames.
-pub const FRAMES: [Kind; 8] = [
-    kind(SIZES, 3),
-    kind(ROUTINE, 2),
-    kind(STEP, 4),
-    kind(RULE, 3),
-    kind(ROW, 6),
-    kind(START, 1),
-    kind(FORBIDDEN, 1),
-    kind(END, 2),
-];
+/// The kinds of frames, for so many states: more than 8 need a second number of bits in a row.
+pub const fn frames(states: u8) -> [Kind; 8] {
+    let of_row = if states > 8 { 7 } else { 6 };
+    [
+        kind(SIZES, 3),
+        kind(ROUTINE, 2),
+        kind(STEP, 4),
+        kind(RULE, 3),
+        kind(ROW, of_row),
+        kind(START, 1),
+        kind(FORBIDDEN, 1),
+        kind(END, 2),
+    ]
+}
+
+/// The kinds of frames while no sizes are known.
+pub const FRAMES: [Kind; 8] = frames(0);
 
 /// The order in which the kinds of frames stand in a file. Rows stand where the rule lines would.
 const PLACES: [&[u8]; 7] = [

@@ -9,8 +9,8 @@
 //!   that the return's move from x gives.
 
 use crate::model::moves::Moves;
-use crate::model::program::{Event, Label, Program, Step};
-use crate::model::standing::{Standing, MOST_STATES};
+use crate::model::program::{Event, Label, Program, Step, MOST_STATES};
+use crate::model::standing::Standing;
 use std::collections::BTreeSet;
 
 pub fn least_set(program: &Program) -> BTreeSet<Standing> {

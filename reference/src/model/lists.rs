@@ -1,12 +1,15 @@
 //! Lists of repair and exchange calls, played in two ways: each call by working afresh from the bytes
 //! that it gets, and by the plain book, which knows nothing of bytes. The first file may have rows;
 //! what an accepted call writes has none.
+//!
+//! An accepted exchange has put its sheet into the second buffer, which is the sheet from then on.
 
 use crate::model::analysis::own_sheet;
-use crate::model::book::Book;
+use crate::model::book::{Book, Lengths};
 use crate::model::calls::files::put;
 use crate::model::calls::repairs::{repair_answer, Buffers, Function, Repaired};
 use crate::model::calls::Answer;
+use crate::model::change::Form;
 use crate::model::file::read;
 use crate::model::program::Program;
 use crate::model::write::write;
@@ -18,15 +21,25 @@ pub struct Call {
     pub text: Vec<u8>,
     pub output: Vec<u8>,
     pub work: Vec<u8>,
+    /// Of an exchange only.
+    pub second: Vec<u8>,
 }
 
-/// Everything that there is to see after a call.
+impl Call {
+    /// Whether the next call gets the second buffer for its sheet.
+    pub fn goes_on_from_second(&self, refusal: u32) -> bool {
+        self.function.form() == Form::Exchange && refusal == 0
+    }
+}
+
+/// Everything that there is to see after a call. The sheet is the one that the call got.
 #[derive(Clone, Debug, PartialEq, Eq)]
 pub struct Seen {
     pub answer: Answer<Repaired>,
     pub sheet: Vec<u8>,
     pub output: Vec<u8>,
     pub work: Vec<u8>,
+    pub second: Vec<u8>,
 }
 
 /// Plays a list call by call: the sheet goes from each to the next, and the file from each that is
@@ -46,24 +59,29 @@ impl ByRepairs {
     }
 
     pub fn call(&mut self, call: &Call) -> Seen {
-        let (mut output, mut work) = (call.output.clone(), call.work.clone());
-        let reading = read(&self.file);
-        let lent = &mut Buffers {
-            sheet: &mut self.sheet,
-            text: &call.text,
-            output: &mut output,
-            work: &mut work,
-        };
-        let answer = repair_answer(call.function, &reading, lent);
-        if answer.refusal == 0 {
-            self.file = output[..answer.value.written as usize].to_vec();
-        }
-        Seen {
-            answer,
+        let mut seen = Seen {
+            answer: Answer::default(),
             sheet: self.sheet.clone(),
-            output,
-            work,
+            output: call.output.clone(),
+            work: call.work.clone(),
+            second: call.second.clone(),
+        };
+        let lent = &mut Buffers {
+            sheet: &mut seen.sheet,
+            text: &call.text,
+            output: &mut seen.output,
+            work: &mut seen.work,
+            second: &mut seen.second,
+        };
+        seen.answer = repair_answer(call.function, &read(&self.file), lent);
+        if seen.answer.refusal == 0 {
+            self.file = seen.output[..seen.answer.value.written as usize].to_vec();
         }
+        self.sheet = match call.goes_on_from_second(seen.answer.refusal) {
+            true => seen.second.clone(),
+            false => seen.sheet.clone(),
+        };
+        seen
     }
 }
 
@@ -85,14 +103,18 @@ impl ByBook {
 
     pub fn call(&mut self, call: &Call) -> Seen {
         let before = self.book.program.clone();
-        let (output, work) = (call.output.len(), call.work.len());
-        let form = call.function.form();
-        let noted = self.book.call(form, &call.text, output, work);
+        let lengths = Lengths {
+            output: call.output.len(),
+            work: call.work.len(),
+            second: call.second.len(),
+        };
+        let noted = self.book.call(call.function.form(), &call.text, lengths);
         let mut seen = Seen {
             answer: Answer::default(),
-            sheet: Vec::new(),
+            sheet: self.sheet.clone(),
             output: call.output.clone(),
             work: call.work.clone(),
+            second: call.second.clone(),
         };
         match noted {
             Err(refusal) => seen.answer.refusal = refusal,
@@ -101,9 +123,12 @@ impl ByBook {
                 seen.work.fill(0);
                 seen.answer.value = Repaired::new(call.function, &before, &change, written);
                 self.sheet = own_sheet(&self.book.program);
+                match call.function.form() {
+                    Form::Edit => seen.sheet = self.sheet.clone(),
+                    Form::Exchange => seen.second = self.sheet.clone(),
+                }
             }
         }
-        seen.sheet = self.sheet.clone();
         seen
     }
 }
@@ -112,16 +137,16 @@ impl ByBook {
 mod tests {
     use super::*;
     use crate::generate::calls::call;
+    use crate::generate::length_classes::{ExchangeLengths, MetLengths};
     use crate::generate::met::Met;
     use crate::generate::programs::{program_of_seed, program_of_shape};
     use crate::generate::random::Random;
     use crate::generate::shapes::Shape;
     use crate::generate::tables::{complete_file, has_rows};
     use crate::model::calls::repairs::{EXCHANGES, FUNCTIONS, REPAIRS};
-    use crate::model::change::Form;
     use crate::model::refusals::{
-        BAD_EDIT, BAD_LINE, EDIT_RANGE, EXCHANGE_ORDER, FOREIGN_SHEET, NOT_THERE, OUTPUT_SHORT,
-        SHEET_LENGTH, STEPS_FULL, THERE_ALREADY, WORK_LENGTH,
+        BAD_EDIT, BAD_LINE, EDIT_RANGE, EXCHANGE_ORDER, FILE_END, FOREIGN_SHEET, NOT_THERE,
+        OUTPUT_SHORT, SHEET_LENGTH, SHEET_TOO_LARGE, STEPS_FULL, THERE_ALREADY, WORK_LENGTH,
     };
 
     /// A first file: half of them have rows.
@@ -138,6 +163,7 @@ mod tests {
         repairs: Met,
         exchanges: Met,
         with_rows: Met,
+        lengths: MetLengths,
     }
 
     impl Tally {
@@ -153,9 +179,11 @@ mod tests {
     }
 
     fn first_program(seed: u64, random: &mut Random) -> Program {
-        match seed % 15 {
-            0 => program_of_shape(random, Shape::Crowded),
+        match seed % 18 {
+            0 | 9 => program_of_shape(random, Shape::Crowded),
             1 => program_of_shape(random, Shape::Mixed),
+            15 => program_of_shape(random, Shape::Long),
+            16..=17 => program_of_shape(random, Shape::ManyStates),
             2..=4 => program_of_shape(random, Shape::Recursive),
             5..=7 => program_of_shape(random, Shape::Layered),
             8 => program_of_seed(seed),
@@ -174,10 +202,21 @@ mod tests {
             let function = random.pick(functions);
             let call = call(random, function, &home, &book.book.program, &book.sheet);
             let rows = has_rows(&repairs.file);
+            let now = book.book.program.clone();
+            let lent = ExchangeLengths {
+                sheet: book.sheet.len(),
+                work: call.work.len(),
+                second: call.second.len(),
+            };
             let (given, wanted) = (repairs.call(&call), book.call(&call));
             assert_eq!(given.answer, wanted.answer, "seed {seed}, call {number}");
             assert!(given == wanted, "seed {seed}, call {number}");
-            tally.note(function, rows, given.answer.refusal);
+            assert!(repairs.sheet == book.sheet, "seed {seed}, call {number}");
+            let refusal = given.answer.refusal;
+            tally.note(function, rows, refusal);
+            if function.form() == Form::Exchange {
+                tally.lengths.note(&now, &call.text, lent, refusal);
+            }
         }
     }
 
@@ -210,12 +249,14 @@ mod tests {
         println!("{tally:?}");
         let texts = [BAD_EDIT, EDIT_RANGE, EXCHANGE_ORDER, STEPS_FULL];
         let exchanges = &tally.exchanges;
-        exchanges.check(texts.into_iter().chain([OUTPUT_SHORT, WORK_LENGTH]), 20);
+        let lengths = [SHEET_LENGTH, OUTPUT_SHORT, WORK_LENGTH, SHEET_TOO_LARGE];
+        exchanges.check(texts.into_iter().chain(lengths), 20);
+        tally.lengths.check_lists(15);
         exchanges.check([0], 1500);
         tally.repairs.check([0], 1000);
         tally.with_rows.check([0], 70);
         let met = |number| exchanges.times(number);
-        let others = (BAD_LINE..=SHEET_LENGTH).chain([NOT_THERE, THERE_ALREADY, FOREIGN_SHEET]);
+        let others = (BAD_LINE..=FILE_END).chain([NOT_THERE, THERE_ALREADY, FOREIGN_SHEET]);
         assert_eq!(others.map(met).sum::<usize>(), 0);
     }
 }

@@ -17,11 +17,11 @@
 //!
 //! What a program can do:
 //!
-//! - `standing` has the standings and their numbers.
+//! - `standing` has the standings, and their numbers in the sizes of a program.
 //! - `moves` says what an action, a call or a return does to the rule's state.
 //! - `fresh` works a program's standings afresh, the lowest first, and counts the takings; `former` does
-//!   it as it was done before the rule could hear calls and returns, and `acted_out` makes programs in
-//!   which that comes to the same.
+//!   it as it was done before the rule could hear calls and returns, and has the sizes that all programs
+//!   once had; `acted_out` makes programs in which that comes to the same.
 //! - `least` and `runs` find the same standings in two other ways: as a least set, and step by step
 //!   with a stack of open calls.
 //! - `analysis` has the sheet, the counts and the findings of a program.

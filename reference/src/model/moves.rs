@@ -58,6 +58,7 @@ mod tests {
     use super::*;
     use crate::cases::small::program;
     use crate::generate::programs::program_of_seed;
+    use crate::model::program::MOST_STATES;
     use Event::{Action, Call, Return};
 
     /// Two routines, three states, two actions, and these rule lines.
@@ -126,11 +127,11 @@ mod tests {
             let moves = Moves::of(&program);
             for number in 0..=0x70 {
                 let event = Event::of_number(number);
-                for from in 0..8 {
-                    let wanted = (0..8).filter(|&to| allowed(&program, from, event, to));
+                for from in 0..MOST_STATES {
+                    let wanted = (0..MOST_STATES).filter(|&to| allowed(&program, from, event, to));
                     let wanted: Vec<u8> = wanted.collect();
                     assert_eq!(moves.after(from, event), wanted, "seed {seed}");
-                    let led_to = (0..8).filter(|&to| moves.leads(from, event, to));
+                    let led_to = (0..MOST_STATES).filter(|&to| moves.leads(from, event, to));
                     assert_eq!(led_to.collect::<Vec<u8>>(), wanted, "seed {seed}");
                 }
             }

@@ -1,13 +1,21 @@
 //! A program: what an accepted file says, in a form that can be asked.
 
+use crate::model::standing::Sizes;
 use std::collections::BTreeSet;
 
 /// The label that calls routine 0; routine f is called by the label f above it.
 pub const FIRST_CALL: u8 = 0x40;
 /// The label of routine 0's return, in the rule only; that of routine f stands f above it.
 pub const FIRST_RETURN: u8 = 0x60;
+/// How many routines, states and actions a program may have, and how many places a routine.
+pub const MOST_ROUTINES: u8 = 16;
+pub const MOST_STATES: u8 = 16;
+pub const MOST_ACTIONS: u8 = 32;
+pub const MOST_PLACES: u8 = 64;
 /// How many steps a program may have, and how many rule lines; and how many rows a file.
-pub const TABLE_ROWS: usize = 256;
+pub const MOST_STEPS: usize = 256;
+pub const MOST_RULE_LINES: usize = 512;
+pub const MOST_ROWS: usize = 256;
 /// The exit of every routine.
 pub const EXIT: u8 = 1;
 
@@ -127,6 +135,15 @@ pub struct Program {
 impl Program {
     pub fn routines(&self) -> u8 {
         self.places.len() as u8
+    }
+
+    /// The sizes by which its standings are numbered: the places are those of its longest routine.
+    pub fn sizes(&self) -> Sizes {
+        Sizes {
+            routines: self.routines(),
+            places: self.places.iter().copied().max().unwrap_or(0),
+            states: self.states,
+        }
     }
 
     /// The steps of a routine.

@@ -1,6 +1,9 @@
 //! Which numbers are in range: refusal 5 of a frame, and 13 of an edit, which is judged as 5.
 
-use crate::model::program::{Event, Label, Program, RuleLine, Step, EXIT};
+use crate::model::program::{
+    Event, Label, Program, RuleLine, Step, EXIT, MOST_ACTIONS, MOST_PLACES, MOST_ROUTINES,
+    MOST_STATES,
+};
 use crate::model::table::Row;
 
 /// What numbers are held against: the sizes, and how many places each routine has, as far as it is
@@ -13,7 +16,9 @@ pub struct Ranges {
 }
 
 pub fn sizes_in_range(routines: u8, states: u8, actions: u8) -> bool {
-    (1..=16).contains(&routines) && (1..=8).contains(&states) && (1..=32).contains(&actions)
+    (1..=MOST_ROUTINES).contains(&routines)
+        && (1..=MOST_STATES).contains(&states)
+        && (1..=MOST_ACTIONS).contains(&actions)
 }
 
 impl Ranges {
@@ -28,7 +33,7 @@ impl Ranges {
 
     /// A routine, and how many places it is said to have.
     pub fn has_routine(&self, routine: u8, places: u8) -> bool {
-        routine < self.routines && (2..=16).contains(&places)
+        routine < self.routines && (2..=MOST_PLACES).contains(&places)
     }
 
     pub fn has_step(&self, step: Step) -> bool {

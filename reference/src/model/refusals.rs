@@ -12,6 +12,8 @@ pub const END_COUNT: u32 = 7;
 pub const FILE_END: u32 = 8;
 pub const PAIR_NOT_MET: u32 = 19;
 pub const PAIR_MET_TWICE: u32 = 20;
+// Of the sizes, of a file's program or of the one that an exchange would leave.
+pub const SHEET_TOO_LARGE: u32 = 23;
 // Of the buffers.
 pub const SHEET_LENGTH: u32 = 9;
 pub const OUTPUT_SHORT: u32 = 10;
@@ -31,11 +33,11 @@ pub const GAVE_UP: u32 = 22;
 pub const INPUT_LONG: u32 = 18;
 
 /// How many numbers there are to answer with: every refusal's, and 0 for none.
-pub const ANSWERS: usize = 23;
+pub const ANSWERS: usize = 24;
 
 /// Why a file is refused: all faults of the line that decides, lowest first, and that line's number,
-/// counted from 1. Where its table decides, the one fault is that of the first faulty pair, and the
-/// line is 0.
+/// counted from 1. Where its table decides, the one fault is that of the first faulty pair, and where its
+/// sizes decide, theirs; the line is then 0.
 #[derive(Clone, Debug, PartialEq, Eq)]
 pub struct FileRefusal {
     pub faults: Vec<u32>,

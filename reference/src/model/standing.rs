@@ -1,17 +1,15 @@
 //! Standings: where a program can be, in which state of the rule, and with which root; and sheets,
-//! which mark some of them.
+//! which mark some of them, each by its number in the program's own sizes.
 
 use crate::model::program::EXIT;
 use std::collections::BTreeSet;
-use std::ops::RangeInclusive;
+use std::ops::Range;
 
-/// How many standings have a number, and so the bytes of a sheet.
-pub const SHEET_SIZE: usize = 16_384;
-/// How many states a rule has at the most.
-pub const MOST_STATES: u8 = 8;
+/// How many bytes a sheet has at the most.
+pub const MOST_SHEET: usize = 16_384;
 
 /// Routine, place, root and present state. The fields are compared in this order, which is the
-/// order of the numbers.
+/// order of the numbers, whatever the sizes.
 #[derive(Clone, Copy, Debug, PartialEq, Eq, PartialOrd, Ord)]
 pub struct Standing {
     pub routine: u8,
@@ -50,35 +48,62 @@ impl Standing {
             ..self
         }
     }
-
-    pub fn number(self) -> usize {
-        let place = usize::from(self.routine) * 16 + usize::from(self.place);
-        (place * 8 + usize::from(self.root)) * 8 + usize::from(self.state)
-    }
-
-    pub fn of_number(number: usize) -> Standing {
-        Standing {
-            routine: (number / 1024) as u8,
-            place: (number / 64 % 16) as u8,
-            root: (number / 8 % 8) as u8,
-            state: (number % 8) as u8,
-        }
-    }
 }
 
-/// The numbers of all standings at a place, which stand side by side.
-pub fn numbers_at(routine: u8, place: u8) -> RangeInclusive<usize> {
-    let number = |root, state| {
-        let at = Standing {
+/// The sizes by which standings are numbered: how many routines there are, how many places the longest
+/// of them has, and how many states. A place that a shorter routine does not have has numbers too.
+#[derive(Clone, Copy, Debug, PartialEq, Eq, PartialOrd, Ord)]
+pub struct Sizes {
+    pub routines: u8,
+    pub places: u8,
+    pub states: u8,
+}
+
+impl Sizes {
+    /// How many standings have a number, and so the bytes of a sheet.
+    pub fn length(self) -> usize {
+        usize::from(self.routines) * usize::from(self.places) * self.standings_at_a_place()
+    }
+
+    /// One for each root and state.
+    fn standings_at_a_place(self) -> usize {
+        usize::from(self.states) * usize::from(self.states)
+    }
+
+    pub fn number(self, standing: Standing) -> usize {
+        let (places, states) = (usize::from(self.places), usize::from(self.states));
+        let place = usize::from(standing.routine) * places + usize::from(standing.place);
+        (place * states + usize::from(standing.root)) * states + usize::from(standing.state)
+    }
+
+    /// The standing of a number below the length.
+    pub fn standing(self, number: usize) -> Standing {
+        let (places, states) = (usize::from(self.places), usize::from(self.states));
+        let place = number / self.standings_at_a_place();
+        Standing {
+            routine: (place / places) as u8,
+            place: (place % places) as u8,
+            root: (number / states % states) as u8,
+            state: (number % states) as u8,
+        }
+    }
+
+    /// The numbers of all standings at a place, which stand side by side.
+    pub fn numbers_at(self, routine: u8, place: u8) -> Range<usize> {
+        let first = self.number(Standing {
             routine,
             place,
-            root,
-            state,
-        };
-        at.number()
-    };
-    let last = MOST_STATES - 1;
-    number(0, 0)..=number(last, last)
+            root: 0,
+            state: 0,
+        });
+        first..first + self.standings_at_a_place()
+    }
+
+    /// The standings that a sheet marks.
+    pub fn standings(self, sheet: &[u8]) -> BTreeSet<Standing> {
+        let numbers = marked(sheet).into_iter();
+        numbers.map(|number| self.standing(number)).collect()
+    }
 }
 
 /// The numbers that a sheet marks, by any byte other than 0.
@@ -86,23 +111,65 @@ pub fn marked(sheet: &[u8]) -> Vec<usize> {
     (0..sheet.len()).filter(|&at| sheet[at] != 0).collect()
 }
 
-/// The standings that a sheet marks.
-pub fn standings(sheet: &[u8]) -> BTreeSet<Standing> {
-    marked(sheet).into_iter().map(Standing::of_number).collect()
-}
-
 #[cfg(test)]
 mod tests {
     use super::*;
+    use crate::model::program::{MOST_PLACES, MOST_ROUTINES, MOST_STATES};
+
+    /// All sizes that a program can have.
+    fn admitted() -> Vec<Sizes> {
+        let mut admitted = Vec::new();
+        for routines in 1..=MOST_ROUTINES {
+            for places in 2..=MOST_PLACES {
+                admitted.extend((1..=MOST_STATES).map(|states| Sizes {
+                    routines,
+                    places,
+                    states,
+                }));
+            }
+        }
+        admitted.retain(|sizes| sizes.length() <= MOST_SHEET);
+        admitted
+    }
+
+    fn check(sizes: Sizes) {
+        let all = (0..sizes.length()).map(|number| sizes.standing(number));
+        let all: Vec<Standing> = all.collect();
+        for (number, &at) in all.iter().enumerate() {
+            assert_eq!(sizes.number(at), number, "{sizes:?}");
+            assert!(at.routine < sizes.routines && at.place < sizes.places);
+            assert!(at.root < sizes.states && at.state < sizes.states);
+            assert!(sizes.numbers_at(at.routine, at.place).contains(&number));
+        }
+        assert!(all.windows(2).all(|pair| pair[0] < pair[1]), "{sizes:?}");
+    }
 
     #[test]
     fn numbers_and_standings_belong_to_each_other_in_order() {
-        let all: Vec<Standing> = (0..SHEET_SIZE).map(Standing::of_number).collect();
-        for (number, standing) in all.iter().enumerate() {
-            assert_eq!(standing.number(), number);
+        let admitted = admitted();
+        let largest = admitted.iter().filter(|one| one.length() == MOST_SHEET);
+        assert_eq!(largest.count(), 9);
+        for &sizes in admitted.iter().step_by(7) {
+            check(sizes);
         }
-        assert!(all.windows(2).all(|pair| pair[0] < pair[1]));
-        assert_eq!(Standing::entry(15, 7).number(), 15 * 1024 + 63);
-        assert_eq!(Standing::exit(1, 0, 1).number(), 1089);
+        for sizes in admitted
+            .into_iter()
+            .filter(|one| one.length() == MOST_SHEET)
+        {
+            check(sizes);
+        }
+    }
+
+    #[test]
+    fn the_sample_has_54_numbers() {
+        let sizes = Sizes {
+            routines: 2,
+            places: 3,
+            states: 3,
+        };
+        assert_eq!(sizes.length(), 54);
+        assert_eq!(sizes.number(Standing::entry(1, 0)), 27);
+        assert_eq!(sizes.number(Standing::exit(1, 0, 1)), 37);
+        assert_eq!(sizes.number(Standing::exit(1, 2, 2)), 44);
     }
 }

@@ -4,7 +4,7 @@
 //! of a state below Q and an action below A has to be met by exactly one row. Rows speak of actions
 //! only, so a rule that is put down in them hears no call and no return.
 
-use crate::model::program::{Event, RuleLine};
+use crate::model::program::{Event, RuleLine, MOST_ACTIONS, MOST_STATES};
 use crate::model::refusals::{PAIR_MET_TWICE, PAIR_NOT_MET};
 use std::collections::BTreeSet;
 
@@ -12,25 +12,32 @@ use std::collections::BTreeSet;
 /// order, which is the order of a row's numbers.
 #[derive(Clone, Copy, Debug, PartialEq, Eq, PartialOrd, Ord)]
 pub struct Row {
-    pub state_bits: u8,
+    pub state_bits: u16,
     pub action_bits: u32,
     pub to: u8,
 }
 
 impl Row {
-    /// The row that six numbers say: one of state bits, four of action bits, high first, and the next
-    /// state.
+    /// The row that six numbers say, or seven: one of state bits, or two, four of action bits, all high
+    /// first, and the next state.
     pub fn of_numbers(numbers: &[u8]) -> Row {
+        let (states, others) = numbers.split_at(numbers.len() - 5);
         Row {
-            state_bits: numbers[0],
-            action_bits: u32::from_be_bytes([numbers[1], numbers[2], numbers[3], numbers[4]]),
-            to: numbers[5],
+            state_bits: states
+                .iter()
+                .fold(0, |bits, &low| bits << 8 | u16::from(low)),
+            action_bits: u32::from_be_bytes([others[0], others[1], others[2], others[3]]),
+            to: others[4],
         }
     }
 
-    pub fn numbers(self) -> [u8; 6] {
-        let [highest, high, low, lowest] = self.action_bits.to_be_bytes();
-        [self.state_bits, highest, high, low, lowest, self.to]
+    /// The row's numbers in a file with so many states, of which it has no bit past those that such a
+    /// row has room for.
+    pub fn numbers(self, states: u8) -> Vec<u8> {
+        let state_bits = self.state_bits.to_be_bytes();
+        let first = if states > 8 { 0 } else { 1 };
+        let action_bits = self.action_bits.to_be_bytes();
+        [&state_bits[first..], &action_bits, &[self.to]].concat()
     }
 
     fn has_state(self, state: u8) -> bool {
@@ -42,11 +49,11 @@ impl Row {
     }
 
     pub fn states(self) -> impl Iterator<Item = u8> {
-        (0..8).filter(move |&state| self.has_state(state))
+        (0..MOST_STATES).filter(move |&state| self.has_state(state))
     }
 
     pub fn actions(self) -> impl Iterator<Item = u8> {
-        (0..32).filter(move |&action| self.has_action(action))
+        (0..MOST_ACTIONS).filter(move |&action| self.has_action(action))
     }
 
     /// Without a state bit, or without an action bit, no pair is met.
@@ -97,8 +104,18 @@ mod tests {
             [0x80, 0, 0, 0, 0, 0],
         ];
         let rows = numbers.map(|row| Row::of_numbers(&row));
-        assert_eq!(rows.map(Row::numbers), numbers);
+        assert_eq!(rows.map(|row| row.numbers(8)), numbers);
         assert!(rows.windows(2).all(|pair| pair[0] < pair[1]));
+        let longer = numbers.map(|row| [&[0x02], &row[..]].concat());
+        let rows = longer.clone().map(|row| Row::of_numbers(&row));
+        assert_eq!(rows.map(|row| row.numbers(9)), longer);
+    }
+
+    #[test]
+    fn the_first_of_two_numbers_of_state_bits_holds_the_highest_states() {
+        let row = Row::of_numbers(&[0x81, 0x03, 0, 0, 0, 1, 15]);
+        assert_eq!(row.states().collect::<Vec<_>>(), [0, 1, 8, 15]);
+        assert!(row.meets((15, 0)) && row.meets((8, 0)) && !row.meets((7, 0)));
     }
 
     #[test]

@@ -5,9 +5,8 @@ use crate::model::kinds::{END, FORBIDDEN, ROUTINE, RULE, SIZES, START, STEP};
 use crate::model::lines::{text_of, two_numbers};
 use crate::model::program::Program;
 
-/// The longest file that is written, and so the least length of an output. One with rows that is
-/// read may be longer.
-pub const OUTPUT_SIZE: usize = 5328;
+/// The longest file that is written, and so the least length of an output.
+pub const OUTPUT_SIZE: usize = 7712;
 
 /// The program's file.
 pub fn write(program: &Program) -> Vec<u8> {

@@ -68,6 +68,7 @@ pub struct Lending {
     pub text: Vec<u8>,
     pub output: Lent,
     pub work: Lent,
+    pub second: Lent,
 }
 
 impl Lending {
@@ -79,6 +80,15 @@ impl Lending {
             text: Vec::new(),
             output: Lent::nothing(),
             work: Lent::nothing(),
+            second: Lent::nothing(),
+        }
+    }
+
+    /// For a call that takes a file and the text of an exchange.
+    pub fn text(file: &[u8], text: &[u8]) -> Lending {
+        Lending {
+            text: text.to_vec(),
+            ..Lending::file(file)
         }
     }
 
@@ -109,6 +119,7 @@ impl Lending {
                 text: &text[..self.text.len()],
                 output: self.output.content_mut(),
                 work: self.work.content_mut(),
+                second: self.second.content_mut(),
             },
         );
         assert!(file == with_end_after(&self.file), "the file was changed");
@@ -123,6 +134,7 @@ impl Lending {
             text: &self.text,
             output: self.output.content_mut(),
             work: self.work.content_mut(),
+            second: self.second.content_mut(),
         })
     }
 
@@ -137,6 +149,7 @@ impl Lending {
             ("sheet", &self.sheet, &wanted.sheet),
             ("output", &self.output, &wanted.output),
             ("working buffer", &self.work, &wanted.work),
+            ("second buffer", &self.second, &wanted.second),
         ] {
             if let Some((at, given, wanted)) = given.difference(wanted) {
                 let input = self.input(name);

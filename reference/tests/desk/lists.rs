@@ -114,7 +114,12 @@ impl List<'_> {
         if answer.refusal == 0 {
             self.file = given.output.content()[..answer.value.written as usize].to_vec();
         }
-        self.sheet = given.sheet.content().to_vec();
+        let sheet = match call.goes_on_from_second(answer.refusal) {
+            true => &given.second,
+            false => &given.sheet,
+        };
+        self.sheet = sheet.content().to_vec();
+        assert!(self.sheet == self.book.sheet, "{}", given.input(name));
     }
 
     /// A call in the midst of a list that is no part of it: with a foreign sheet. It leaves no
@@ -134,4 +139,5 @@ fn expect(lending: &mut Lending, seen: &Seen) {
     lending.sheet.content_mut().copy_from_slice(&seen.sheet);
     lending.output.content_mut().copy_from_slice(&seen.output);
     lending.work.content_mut().copy_from_slice(&seen.work);
+    lending.second.content_mut().copy_from_slice(&seen.second);
 }

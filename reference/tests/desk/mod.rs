@@ -7,12 +7,13 @@ pub mod lists;
 pub mod trial;
 
 use reference::model::analysis::NONE;
-use reference::model::calls::repairs::Function::{self, *};
-use reference::model::calls::repairs::{Buffers, Repaired};
+use reference::model::calls::repairs::{Buffers, Function, Repaired};
 use reference::model::calls::sheets::Counts;
+use reference::model::calls::sizes::{SizesOfExchange, SizesOfFile};
 use reference::model::calls::Answer;
+use reference::model::change::Form;
 use reference::model::program::Program;
-use reference::model::standing::{marked, SHEET_SIZE};
+use reference::model::standing::marked;
 use reference::model::write::write as write_program;
 
 /// An answer in the reference's words, its value made from the numbers that C gets.
@@ -40,6 +41,33 @@ pub fn read(file: &[u8]) -> Answer<()> {
     in_words(binding::read(Some(file)), |[]| ())
 }
 
+pub fn sizes(file: &[u8]) -> Answer<SizesOfFile> {
+    let answer = binding::sizes(Some(file));
+    in_words(answer, |[routines, places, states, sheet]| SizesOfFile {
+        routines,
+        places,
+        states,
+        sheet,
+    })
+}
+
+/// The length of the sheet of a file that is accepted, by the library alone.
+pub fn sheet_length(file: &[u8]) -> usize {
+    let answer = sizes(file);
+    assert_eq!((answer.refusal, answer.line), (0, 0));
+    answer.value.sheet as usize
+}
+
+/// The sizes of an exchange, with NULL for a text of no bytes.
+pub fn exchange_sizes(file: &[u8], text: &[u8]) -> Answer<SizesOfExchange> {
+    let answer = binding::exchange_sizes(Some(file), unless_empty(text));
+    in_words(answer, |[places, second, work]| SizesOfExchange {
+        places,
+        second,
+        work,
+    })
+}
+
 pub fn write(file: &[u8], output: &mut [u8]) -> Answer<u32> {
     let answer = binding::write(Some(file), Some(output));
     in_words(answer, |[written]| written)
@@ -63,7 +91,8 @@ pub fn next_violation(file: &[u8], marks: &[u8], work: &mut [u8], from: u32) -> 
 
 /// A fresh working by the library alone, without a limit: the marked numbers and the three counts.
 pub fn worked(file: &[u8]) -> (Vec<usize>, Counts) {
-    let (mut marks, mut work) = (vec![0xA5; SHEET_SIZE], vec![0x5A; SHEET_SIZE]);
+    let length = sheet_length(file);
+    let (mut marks, mut work) = (vec![0xA5; length], vec![0x5A; length]);
     let answer = analyze(file, &mut marks, &mut work, binding::NO_LIMIT);
     assert_eq!((answer.refusal, answer.line), (0, 0));
     assert!(marks.iter().all(|&byte| byte <= 1));
@@ -73,7 +102,8 @@ pub fn worked(file: &[u8]) -> (Vec<usize>, Counts) {
 
 /// The list of findings by the library alone.
 pub fn listed(file: &[u8]) -> Vec<u32> {
-    let (mut marks, mut work) = (vec![0; SHEET_SIZE], vec![0; SHEET_SIZE]);
+    let length = sheet_length(file);
+    let (mut marks, mut work) = (vec![0; length], vec![0; length]);
     analyze(file, &mut marks, &mut work, binding::NO_LIMIT);
     let mut found = Vec::new();
     loop {
@@ -96,7 +126,7 @@ pub fn prune(file: &[u8], marks: &mut [u8], work: &mut [u8]) -> Answer<()> {
 
 /// A keeping by the library alone: the numbers that stay.
 pub fn kept(program: &Program, sheet: &[u8]) -> Vec<usize> {
-    let (mut sheet, mut work) = (sheet.to_vec(), vec![7; SHEET_SIZE]);
+    let (mut sheet, mut work) = (sheet.to_vec(), vec![7; sheet.len()]);
     let answer = prune(&write_program(program), &mut sheet, &mut work);
     assert_eq!((answer.refusal, answer.line), (0, 0));
     assert!(sheet.iter().all(|&byte| byte <= 1));
@@ -104,19 +134,51 @@ pub fn kept(program: &Program, sheet: &[u8]) -> Vec<usize> {
     marked(&sheet)
 }
 
-/// A repair or an exchange, with NULL for each buffer of no bytes.
+/// A repair or an exchange, with NULL for each buffer of no bytes. A second buffer of no bytes, with which
+/// every exchange is refused, is lent both as NULL and as the place where it lies.
 pub fn call(function: Function, file: &[u8], lent: &mut Buffers) -> Answer<Repaired> {
+    if function.form() == Form::Edit {
+        return repair(function, file, lent);
+    }
+    let answer = exchange(function, file, lent, unless_empty_mut);
+    if lent.second.is_empty() {
+        let as_a_place = exchange(function, file, lent, |bytes| Some(bytes));
+        assert_eq!(as_a_place, answer, "an empty second buffer");
+    }
+    answer
+}
+
+fn repair(function: Function, file: &[u8], lent: &mut Buffers) -> Answer<Repaired> {
     let (file, text) = (unless_empty(file), unless_empty(lent.text));
     let marks = unless_empty_mut(lent.sheet);
     let output = unless_empty_mut(lent.output);
     let work = unless_empty_mut(lent.work);
-    match function {
-        RepairForward => forward(binding::repair_forward(file, marks, text, output, work)),
-        RepairInsideOut => inside_out(binding::repair_inside_out(file, marks, text, output, work)),
-        ExchangeForward => forward(binding::exchange_forward(file, marks, text, output, work)),
-        ExchangeInsideOut => inside_out(binding::exchange_inside_out(
-            file, marks, text, output, work,
-        )),
+    if function.is_inside_out() {
+        inside_out(binding::repair_inside_out(file, marks, text, output, work))
+    } else {
+        forward(binding::repair_forward(file, marks, text, output, work))
+    }
+}
+
+fn exchange(
+    function: Function,
+    file: &[u8],
+    lent: &mut Buffers,
+    second: fn(&mut [u8]) -> Option<&mut [u8]>,
+) -> Answer<Repaired> {
+    let (file, text) = (unless_empty(file), unless_empty(lent.text));
+    let marks = unless_empty(lent.sheet);
+    let output = unless_empty_mut(lent.output);
+    let work = unless_empty_mut(lent.work);
+    let new = second(lent.second);
+    if function.is_inside_out() {
+        inside_out(binding::exchange_inside_out(
+            file, marks, text, output, work, new,
+        ))
+    } else {
+        forward(binding::exchange_forward(
+            file, marks, text, output, work, new,
+        ))
     }
 }
 

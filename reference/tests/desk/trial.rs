@@ -7,15 +7,17 @@ use reference::generate::damage::damage;
 use reference::generate::edits;
 use reference::generate::files::file_of_seed;
 use reference::generate::hearing::{Heard, MetHearing};
+use reference::generate::length_classes::{ExchangeLengths, MetLengths};
 use reference::generate::met::{Met, Times};
 use reference::generate::programs::program_by_shares;
 use reference::generate::random::Random;
 use reference::generate::shapes::Shape;
 use reference::generate::sheets;
+use reference::generate::size_classes::MetSizes;
 use reference::generate::tables::{complete_file, file_with_rows_of_seed, has_rows};
 use reference::generate::text_classes::{Exchanging, MetTexts};
 use reference::model::analysis::own_sheet;
-use reference::model::calls::repairs::{repair_answer, Function, Held, Repaired};
+use reference::model::calls::repairs::{lengths, repair_answer, Function, Held, Repaired};
 use reference::model::calls::Answer;
 use reference::model::change::{changed_by_text, Form};
 use reference::model::edit::{edit_of_line, edited_by_line, Edit};
@@ -23,7 +25,7 @@ use reference::model::file::{read, Reading};
 use reference::model::lists::Call;
 use reference::model::program::Program;
 use reference::model::refusals::{EDIT_RANGE, FOREIGN_SHEET};
-use reference::model::standing::{marked, SHEET_SIZE};
+use reference::model::standing::marked;
 use reference::model::write::{write, OUTPUT_SIZE};
 
 /// What the comparisons have met.
@@ -42,8 +44,11 @@ pub struct Tally {
     pub changed: usize,
     /// Inside-out calls that reopened no routine, one, and more than one.
     pub reopened: [usize; 3],
-    /// Exchanges.
+    /// Exchanges, by their texts and by the lengths of what is lent to them.
     pub texts: MetTexts,
+    pub lengths: MetLengths,
+    /// Files by their sizes.
+    pub sizes: MetSizes,
     /// Accepted calls by what the rule hears, and edit lines refused for the label of a return.
     pub hearing: MetHearing,
     pub return_labels: usize,
@@ -68,7 +73,9 @@ impl Tally {
         if has_rows(&got.file) {
             self.rows.note(refusal);
         }
-        self.changed += usize::from(got.sheet.content() != left.sheet.content());
+        let after = sheet_after(function, refusal, left);
+        self.changed += usize::from(got.sheet.content() != after);
+        self.sizes.note(&got.file, reading);
         if function.is_inside_out() && refusal == 0 {
             let routines = answer.value.reopened.count_ones().min(2);
             self.reopened[routines as usize] += 1;
@@ -84,12 +91,22 @@ impl Tally {
         match (reading, function.form()) {
             (Ok(before), Form::Edit) if refusal == 0 => self.note_edit(before, &got.text),
             (Ok(before), Form::Exchange) => {
-                let (lent, left) = (got.sheet.content(), left.sheet.content());
-                let exchanging = Exchanging::new(before, &got.text, lent, left);
+                let exchanging = Exchanging::new(before, &got.text, got.sheet.content(), after);
                 self.texts.note(function, refusal, &exchanging);
+                self.note_lengths(before, got, refusal);
             }
             _ => {}
         }
+    }
+
+    /// Notes the lengths of what an exchange got.
+    fn note_lengths(&mut self, before: &Program, got: &Lending, refusal: u32) {
+        let lent = ExchangeLengths {
+            sheet: got.sheet.content().len(),
+            work: got.work.content().len(),
+            second: got.second.content().len(),
+        };
+        self.lengths.note(before, &got.text, lent, refusal);
     }
 
     /// Notes what an accepted line does.
@@ -134,6 +151,22 @@ impl Tally {
     }
 }
 
+/// The sheet that there is after a call with this answer.
+fn sheet_after(function: Function, refusal: u32, left: &Lending) -> &[u8] {
+    match (function.form(), refusal) {
+        (Form::Exchange, 0) => left.second.content(),
+        _ => left.sheet.content(),
+    }
+}
+
+/// The same of what is held.
+fn sheet_held(function: Function, refusal: u32, held: &Held) -> &[u8] {
+    match refusal {
+        0 => held.new_sheet(function.form()),
+        _ => &held.sheet,
+    }
+}
+
 /// A call of the library alone, with the program's own sheet: the answer, the numbers marked, and the
 /// file written.
 pub fn repaired(
@@ -141,12 +174,13 @@ pub fn repaired(
     program: &Program,
     text: &[u8],
 ) -> (Answer<Repaired>, Vec<usize>, Vec<u8>) {
-    let mut held = Held::for_text(program, text);
+    let mut held = Held::for_text(function.form(), program, text);
     let answer = super::call(function, &write(program), &mut held.lend());
     assert_eq!(answer.line, 0);
     let rest = held.output.split_off(answer.value.written as usize);
     assert!(rest.iter().all(|&byte| byte == 7));
-    (answer, marked(&held.sheet), held.output)
+    let marks = marked(sheet_held(function, answer.refusal, &held));
+    (answer, marks, held.output)
 }
 
 /// What a call of a list gets.
@@ -157,6 +191,7 @@ pub fn lending(random: &mut Random, file: &[u8], sheet: &[u8], call: &Call) -> L
         text: call.text.clone(),
         output: Lent::new(random, &call.output),
         work: Lent::new(random, &call.work),
+        second: Lent::new(random, &call.second),
     }
 }
 
@@ -186,11 +221,13 @@ pub fn compare_text(
     random: &mut Random,
     tally: &mut Tally,
 ) {
+    let [work, second] = lengths(function.form(), program, text);
     let call = Call {
         function,
         text: text.to_vec(),
         output: random.content(OUTPUT_SIZE),
-        work: random.content(SHEET_SIZE),
+        work: random.content(work),
+        second: random.content(second),
     };
     let lending = lending(random, &write(program), &own_sheet(program), &call);
     compare(name, function, &lending, &Ok(program.clone()), tally);
@@ -199,13 +236,17 @@ pub fn compare_text(
 /// A program to be edited.
 pub fn home(random: &mut Random) -> Program {
     let shares = [
-        (360, Shape::Tiny),
-        (240, Shape::Recursive),
-        (240, Shape::Layered),
+        (350, Shape::Tiny),
+        (230, Shape::Recursive),
+        (230, Shape::Layered),
         (80, Shape::Mixed),
-        (76, Shape::Crowded),
+        (68, Shape::Crowded),
         (2, Shape::Wide),
         (2, Shape::Full),
+        (20, Shape::Long),
+        (12, Shape::ManyStates),
+        (4, Shape::Ruled),
+        (4, Shape::Largest),
     ];
     program_by_shares(random, &shares)
 }
@@ -274,7 +315,7 @@ fn some_file(
 fn some_sheet(random: &mut Random, program: &Program, own: &[u8], call: &Call) -> Vec<u8> {
     match random.below(100) {
         0..=4 => {
-            let length = sheets::wrong_length(random);
+            let length = sheets::wrong_length(random, own.len());
             random.content(length)
         }
         5..=14 => foreign_sheet(random, program, own, call),
@@ -283,11 +324,12 @@ fn some_sheet(random: &mut Random, program: &Program, own: &[u8], call: &Call) -
 }
 
 /// A foreign sheet where there is one to be had: made at random, or the sheet that the program had
-/// before a change, or will have after one, this call's or another.
+/// before a change, or will have after one, this call's or another. An exchange may leave one of another
+/// length, which is refused for that.
 pub fn foreign_sheet(random: &mut Random, program: &Program, own: &[u8], call: &Call) -> Vec<u8> {
     if random.percent(50) {
         let way = random.below(sheets::FOREIGN);
-        return sheets::foreign(random, own, way).unwrap_or_else(|| own.to_vec());
+        return sheets::foreign(random, program, own, way).unwrap_or_else(|| own.to_vec());
     }
     let line = edits::edit_in_range(random, program);
     let other = if random.percent(50) {
@@ -330,12 +372,13 @@ pub fn worked_out_from_rows(function: Function) {
     let file = cases::tables::completed::in_rows();
     let program = read(&file).expect("the file is accepted");
     for case in cases::tables::completed::repairs(function.form()) {
-        let mut held = Held::for_text(&program, case.text);
+        let mut held = Held::for_text(function.form(), &program, case.text);
         let answer = super::call(function, &file, &mut held.lend());
         let given = (answer.refusal, answer.line, answer.value.reopened);
         let wanted = (case.refusal, 0, told(function, case.reopened));
         assert_eq!(given, wanted, "{}", case.name);
-        assert_eq!(marked(&held.sheet), case.left, "{}", case.name);
+        let sheet = sheet_held(function, answer.refusal, &held);
+        assert_eq!(marked(sheet), case.left, "{}", case.name);
         let written = &held.output[..answer.value.written as usize];
         assert_eq!(written, case.written, "{}", case.name);
     }
@@ -360,8 +403,9 @@ pub fn named_texts(function: Function) {
 pub fn named_texts_on_foreign_sheets(function: Function) {
     for case in cases::named_texts(function.form()) {
         let program = read(&case.file).expect("the file is accepted");
-        let mut held = Held::for_text(&program, &case.text);
-        held.sheet[SHEET_SIZE - 1] ^= 2;
+        let mut held = Held::for_text(function.form(), &program, &case.text);
+        let last = held.sheet.len() - 1;
+        held.sheet[last] ^= 2;
         let mut wanted = held.clone();
         let refusal = match case.refusal {
             0 => FOREIGN_SHEET,
@@ -378,21 +422,44 @@ pub fn named_texts_on_foreign_sheets(function: Function) {
 
 /// Calls with NULL for every buffer that is not there yet, the buffers coming one by one.
 pub fn no_bytes(function: Function) {
-    let (sheet, output) = (SHEET_SIZE, OUTPUT_SIZE);
-    for (file, sheet, output, work, refusal, line) in [
-        (&b""[..], 0, 0, 0, 8, 1),
-        (sample::FILE, 0, 0, 0, 9, 0),
-        (sample::FILE, sheet, 0, 0, 10, 0),
-        (sample::FILE, sheet, output, 0, 11, 0),
-        (sample::FILE, sheet, output, sheet, 12, 0),
-    ] {
-        let mut held = Held {
-            sheet: vec![0; sheet],
-            text: Vec::new(),
-            output: vec![0; output],
-            work: vec![0; work],
-        };
-        let answer = super::call(function, file, &mut held.lend());
-        assert_eq!(answer, Answer::refused(refusal, line));
+    let text = match function.form() {
+        Form::Edit => &b""[..],
+        Form::Exchange => b"520104\n",
+    };
+    let (file, most) = (sample::FILE, OUTPUT_SIZE);
+    let calls = match function.form() {
+        Form::Edit => [
+            ([54, most, 0, 0], text, 11),
+            ([54, most, 54, 0], text, 12),
+            ([54, most, 54, 0], text, 12),
+        ],
+        Form::Exchange => [
+            ([54, most, 0, 0], &b""[..], 12),
+            ([54, most, 0, 0], text, 9),
+            ([54, most, 0, 72], text, 11),
+        ],
+    };
+    let first = [([0; 4], text, 9), ([54, 0, 0, 0], text, 10)];
+    no_bytes_of(function, b"", ([0; 4], text), (8, 1));
+    for (lengths, text, refusal) in first.into_iter().chain(calls) {
+        no_bytes_of(function, file, (lengths, text), (refusal, 0));
     }
+}
+
+/// A call with a sheet, an output, a working buffer and a second one of these lengths.
+fn no_bytes_of(
+    function: Function,
+    file: &[u8],
+    ([sheet, output, work, second], text): ([usize; 4], &[u8]),
+    (refusal, line): (u32, u32),
+) {
+    let mut held = Held {
+        sheet: vec![0; sheet],
+        text: text.to_vec(),
+        output: vec![0; output],
+        work: vec![0; work],
+        second: vec![0; second],
+    };
+    let answer = super::call(function, file, &mut held.lend());
+    assert_eq!(answer, Answer::refused(refusal, line));
 }

@@ -4,7 +4,7 @@
 //! 01 00 00 01, and there are two actions.
 
 use crate::cases::edits::{case, of_sample, EditCase};
-use crate::cases::files::full_steps;
+use crate::cases::files::{full_steps, of_sizes};
 use crate::generate::text_damage::every_step;
 use crate::model::file::{read, Frame};
 use crate::model::lines::text_of;
@@ -23,7 +23,32 @@ pub fn all() -> Vec<EditCase> {
     cases.extend(full_tables());
     cases.extend(steps_past_full_tables());
     cases.extend(long_texts());
+    cases.extend(sheets_too_large());
     cases
+}
+
+/// The sheet's length goes by the longest routine of the new program, and is judged after all of the
+/// text. Four routines and 16 states have room for 16 places.
+fn sheets_too_large() -> Vec<EditCase> {
+    let (two, short) = (of_sizes(&[2; 4], 16), of_sizes(&[2, 2, 16, 2], 16));
+    let of_two = |name, text: &str, refusal| case(name, two.clone(), text, refusal);
+    let of_short = |name, text: &str, refusal| case(name, short.clone(), text, refusal);
+    let full = full_steps(256);
+    vec![
+        of_two("to 16 places", "520310\n", 0),
+        of_two("to 17 places", "520311\n", 23),
+        of_two("to 64 places", "520340\n", 23),
+        of_two("to 17, a step to the last", "520311\n5303000010\n", 23),
+        of_two("to 17, a step past it", "520311\n5303000011\n", 13),
+        of_two("to 17, out of order", "520311\n520311\n", 21),
+        of_two("to 17, no 0A", "520311", 12),
+        of_short("another to 16", "520310\n", 0),
+        of_short("another to 17", "520311\n", 23),
+        of_short("the longest to 2", "520202\n", 0),
+        of_short("the longest to 17", "520211\n", 23),
+        case("256 steps, to 17", full.clone(), "520F11\n", 23),
+        case("a 257th, to 17", full, "520F11\n530F000000\n", 16),
+    ]
 }
 
 fn accepted() -> Vec<EditCase> {
@@ -31,6 +56,7 @@ fn accepted() -> Vec<EditCase> {
         of_sample("for itself", "520102\n5301000001\n", 0),
         of_sample("no step", "520102\n", 0),
         of_sample("16 places", "520110\n530100010F\n53010F4100\n", 0),
+        of_sample("64 places", "520140\n530100013F\n53013F4100\n", 0),
         of_sample("a third place", "520103\n5301000002\n5301020101\n", 0),
         of_sample("to the entry", "520102\n5301000000\n", 0),
         of_sample("a call of itself", "520102\n5301004101\n", 0),
@@ -90,9 +116,9 @@ fn first_frames_out_of_range() -> Vec<EditCase> {
         of_sample("routine 255", "52FF02\n", 13),
         of_sample("no place", "520100\n", 13),
         of_sample("one place", "520101\n", 13),
-        of_sample("17 places", "520111\n", 13),
+        of_sample("65 places", "520141\n", 13),
         of_sample("255 places", "5201FF\n", 13),
-        of_sample("17 places, a step to the last", "520111\n5301000010\n", 13),
+        of_sample("65 places, a step to the last", "520141\n5301000040\n", 13),
         of_sample("a step of no routine first", "5302000001\n", 13),
         of_sample("a step past its places first", "5301000002\n", 13),
     ]
@@ -129,7 +155,7 @@ fn later_frames_out_of_range() -> Vec<EditCase> {
         of_sample("main's action A", "520102\n5300000200\n", 13),
         of_sample("a later 52 for routine R", "520102\n520202\n", 13),
         of_sample("a later 52 with one place", "520102\n520001\n", 13),
-        of_sample("a later 52 with 17 places", "520102\n520111\n", 13),
+        of_sample("a later 52 with 65 places", "520102\n520141\n", 13),
         of_sample(
             "places by the same 52 later",
             "520102\n520103\n5301000002\n",
@@ -231,7 +257,7 @@ fn several_faults() -> Vec<EditCase> {
 fn of_steps(routine: u8, steps: std::ops::Range<usize>) -> Vec<Frame> {
     let program = read(&full_steps(0)).expect("the file is accepted");
     let first = vec![0x52, routine, 16];
-    let all = every_step(&program, routine);
+    let all = every_step(&program, routine, 16);
     let some = all.skip(steps.start).take(steps.len());
     std::iter::once(first).chain(some).collect()
 }

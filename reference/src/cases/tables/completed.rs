@@ -52,7 +52,7 @@ pub fn broken_in_rows() -> Vec<u8> {
 
 /// The standings of the completed sample with the step that breaks the rule. State 2 is now followed
 /// to main's exit, by the lines that the sample does not have.
-pub const BROKEN_STANDINGS: [usize; 7] = [0, 65, 66, 129, 130, 1024, 1089];
+pub const BROKEN_STANDINGS: [usize; 7] = [0, 10, 11, 19, 20, 27, 37];
 
 /// An edit of the completed sample in rows, or an exchange: the refusal, 0 if none, the numbers marked
 /// after it, the routines that an inside-out repair reopens, bit f for routine f, and the file, in
@@ -103,12 +103,12 @@ fn edits() -> Vec<RowsRepair> {
             0b01,
             &BREAKING,
         ),
-        accepted("a step", b"2D01000001\n", &[0, 1024], 0b11, &STEPS[..2]),
+        accepted("a step", b"2D01000001\n", &[0, 27], 0b11, &STEPS[..2]),
         accepted("a call", b"2D00004102\n", &[0], 0b01, &STEPS[1..]),
         accepted(
             "another label",
             b"3D0100000101\n",
-            &[0, 66, 130, 1024, 1090],
+            &[0, 11, 20, 27, 38],
             0b11,
             &relabelled,
         ),
@@ -133,14 +133,14 @@ fn exchanges() -> Vec<RowsRepair> {
     let two_actions = b"520103\n5301000002\n5301020101\n";
     let longer = ["520003", "520103"];
     let steps = ["5300004102", "5300020101", "5301000002", "5301020101"];
-    let left = &[0, 65, 129, 1024, 1089, 1153];
+    let left = &[0, 10, 19, 27, 37, 46];
     vec![
         accepted("for itself", itself, &sample::STANDINGS, &ROUTINES, &STEPS),
         accepted("longer", two_actions, left, &longer, &steps),
-        accepted("no step", b"520102\n", &[0, 1024], &ROUTINES, &STEPS[..2]),
+        accepted("no step", b"520102\n", &[0, 27], &ROUTINES, &STEPS[..2]),
         refused("no line", b"", 12),
         refused("a row after it", b"520102\n55010000000101\n", 12),
-        refused("17 places", b"520111\n", 13),
+        refused("65 places", b"520141\n", 13),
         refused("a step first", b"5301000001\n", 21),
     ]
 }

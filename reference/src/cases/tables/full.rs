@@ -1,6 +1,6 @@
-//! Tables of 8 states and 32 actions, and tables with as many rows as there may be.
+//! Tables of 8 states and 32 actions, and of 16, and tables with as many rows as there may be.
 
-use crate::cases::files::{case, Case};
+use crate::cases::files::{case, with_most_states, Case};
 use crate::model::lines::text_of;
 use crate::model::write::end;
 
@@ -50,16 +50,36 @@ fn padded(count: usize) -> Vec<Vec<u8>> {
         .collect()
 }
 
-/// The largest file with rows there is: 256 steps and 256 rows, and all else in full.
+/// The row of two neighbouring actions in one of 16 states, the lower action even.
+fn row_of_two(state: u8, action: u8, to: u8) -> Vec<u8> {
+    let (state_bits, action_bits) = (1_u16 << state, 0b11_u32 << action);
+    [
+        &[0x55],
+        &state_bits.to_be_bytes()[..],
+        &action_bits.to_be_bytes(),
+        &[to],
+    ]
+    .concat()
+}
+
+/// Rows that meet every pair of 16 states and 32 actions, as many as there may be.
+fn every_two_pairs() -> Vec<Vec<u8>> {
+    let row = |state, half: u8| row_of_two(state, 2 * half, (state + half) % 16);
+    (0..16)
+        .flat_map(|state| (0..16).map(move |half| row(state, half)))
+        .collect()
+}
+
+/// The largest file with rows there is: 256 steps and 256 rows of seven numbers, and all else in full.
 pub fn largest() -> Vec<u8> {
-    large(256, &every_pair())
+    with_most_states(&every_two_pairs())
 }
 
 /// The largest file with rows, in lines.
 pub fn largest_in_lines() -> Vec<u8> {
-    let line = |state: u8, action: u8| vec![0x54, state, action, (state + action) % 8];
-    let rule = (0..8).flat_map(|state| (0..32).map(move |action| line(state, action)));
-    large(256, &rule.collect::<Vec<_>>())
+    let line = |state: u8, action: u8| vec![0x54, state, action, (state + action / 2) % 16];
+    let rule = (0..16).flat_map(|state| (0..32).map(move |action| line(state, action)));
+    with_most_states(&rule.collect::<Vec<_>>())
 }
 
 fn full_tables() -> Vec<Case> {
@@ -68,8 +88,21 @@ fn full_tables() -> Vec<Case> {
     let mut last_left_out = every_pair();
     last_left_out.pop();
     let all = vec![vec![0x55, 0xFF, 0xFF, 0xFF, 0xFF, 0xFF, 7]];
+    let mut half_left_out = every_two_pairs();
+    half_left_out.pop();
+    let mut one_more = every_two_pairs();
+    one_more.push(row_of_two(15, 30, 15));
+    let alone = [vec![0x55, 0xFF, 0xFF, 0xFF, 0xFF, 0xFF, 0xFF, 15]];
     vec![
         case("the largest file with rows", largest(), 0, 0),
+        case("Q 16 and A 32, one row", with_most_states(&alone), 0, 0),
+        case(
+            "Q 16, 255 rows, not met",
+            with_most_states(&half_left_out),
+            19,
+            0,
+        ),
+        case("Q 16, 257 rows", with_most_states(&one_more), 6, 530),
         case("Q 8 and A 32, one row", large(0, &all), 0, 0),
         case("Q 8 and A 32, 256 rows", large(0, &every_pair()), 0, 0),
         case("255 rows", large(0, &padded(255)), 0, 0),
@@ -122,8 +155,8 @@ mod tests {
     use crate::model::write::OUTPUT_SIZE;
 
     #[test]
-    fn the_largest_file_with_rows_is_longer_than_any_written() {
-        assert_eq!(largest().len(), 6864);
+    fn the_largest_file_with_rows_is_written_as_long_as_any() {
+        assert_eq!(largest().len(), 7456);
         assert_eq!(largest_in_lines().len(), OUTPUT_SIZE);
     }
 }

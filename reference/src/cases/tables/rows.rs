@@ -6,6 +6,8 @@ use crate::cases::tables::{file, two_by_two, FOUR_ROWS};
 pub fn all() -> Vec<Case> {
     let mut cases = Vec::new();
     cases.extend(wrong_counts());
+    cases.extend(by_count_of_states());
+    cases.extend(more_than_8_states());
     cases.extend(state_ranges());
     cases.extend(action_ranges());
     cases.extend(rows_in_order());
@@ -23,6 +25,55 @@ fn wrong_counts() -> Vec<Case> {
         case(name, two_by_two(&row(count)), 3, 3)
     };
     counts.map(of_count).collect()
+}
+
+/// Above 8 states a row has seven numbers, else six.
+fn by_count_of_states() -> Vec<Case> {
+    let of = |states: u8, row: &str| file(&format!("5001{states:02X}01 520002 {row}"));
+    vec![
+        case("Q 8, a row of six", of(8, "55FF0000000107"), 0, 0),
+        case("Q 8, a row of seven", of(8, "5500FF0000000107"), 3, 3),
+        case("Q 9, a row of six", of(9, "55FF0000000107"), 3, 3),
+        case("Q 9, a row of seven", of(9, "5501FF0000000108"), 0, 0),
+        case("Q 9, a row of eight", of(9, "550001FF0000000108"), 3, 3),
+        case("Q 16, a row of six", of(16, "55FF0000000107"), 3, 3),
+        case("Q 16, a row of seven", of(16, "55FFFF000000010F"), 0, 0),
+        case("Q 1, a row of seven", of(1, "5500010000000100"), 3, 3),
+        case(
+            "Q 9, six, out of order",
+            of(9, "5501FF0000000108 5500"),
+            3,
+            4,
+        ),
+    ]
+}
+
+/// Rows of two numbers of state bits: the first of them holds states 15 to 8, and decides the order.
+fn more_than_8_states() -> Vec<Case> {
+    let nine = |rows: &str| file(&format!("50010901 520002 {rows}"));
+    let (low, high) = ("5500FF0000000103", "5501000000000107");
+    let high_first = format!("{high} {low}");
+    vec![
+        case("state bit 9, Q 9", nine("5503FF0000000100"), 5, 3),
+        case("state bit 15, Q 9", nine("5581FF0000000100"), 5, 3),
+        case("next state 9, Q 9", nine("5501FF0000000109"), 5, 3),
+        case("state 8 by itself", nine(&format!("{low} {high}")), 0, 0),
+        case("state 8 first", nine(&high_first), 4, 4),
+        case("state 8 not met", nine(low), 19, 0),
+        case("state 0 not met", nine("5501FE0000000100"), 19, 0),
+        case(
+            "state 8 twice",
+            nine(&format!("{low} {high} 5501000000000108")),
+            20,
+            0,
+        ),
+        case(
+            "no bit in two numbers",
+            nine("5500000000000000 5501FF0000000100"),
+            0,
+            0,
+        ),
+    ]
 }
 
 /// State bits and next states at the edge of their range and past it.

@@ -2,17 +2,18 @@
 
 use crate::generate::text_classes::{last_place, Class, Exchanging};
 use crate::model::groups::{groups, is_root};
-use crate::model::program::{Label, Program, Step, EXIT, TABLE_ROWS};
-use crate::model::standing::{numbers_at, Standing};
+use crate::model::program::{Label, Program, Step, EXIT, MOST_STEPS};
+use crate::model::standing::{Standing, MOST_SHEET};
+use std::collections::BTreeSet;
 
-pub const ALL: [Class; 34] = [
-    ("255 steps", |of| steps(of) == TABLE_ROWS - 1),
-    ("256 steps", |of| steps(of) == TABLE_ROWS),
+pub const ALL: [Class; 39] = [
+    ("255 steps", |of| steps(of) == MOST_STEPS - 1),
+    ("256 steps", |of| steps(of) == MOST_STEPS),
     ("256 steps, many of others", |of| {
-        steps(of) == TABLE_ROWS && of.others() >= 128
+        steps(of) == MOST_STEPS && of.others() >= 128
     }),
     ("256 steps, few of others", |of| {
-        steps(of) == TABLE_ROWS && of.others() < 64
+        steps(of) == MOST_STEPS && of.others() < 64
     }),
     ("for itself", |of| new(of) == of.program),
     ("for itself but for its places", |of| {
@@ -23,8 +24,17 @@ pub const ALL: [Class; 34] = [
     ("to 2 places", |of| {
         compare(of, |old, new| new < old && new == 2)
     }),
-    ("to 16 places", |of| {
-        compare(of, |old, new| new > old && new == 16)
+    ("to 64 places", |of| {
+        compare(of, |old, new| new > old && new == 64)
+    }),
+    ("a longer sheet", |of| of.left.len() > of.lent.len()),
+    ("a shorter sheet", |of| of.left.len() < of.lent.len()),
+    ("the longest sheet", |of| of.left.len() == MOST_SHEET),
+    ("other places, a sheet as long", |of| {
+        new(of).places != of.program.places && of.left.len() == of.lent.len()
+    }),
+    ("the same marks by other numbers", |of| {
+        of.old == of.new && of.lent != of.left
     }),
     ("a place past the old count", |of| {
         let old = of.old_places(of.routine());
@@ -44,16 +54,16 @@ pub const ALL: [Class; 34] = [
         of.routine() == 0 && calls(of.program, |_| true, 0)
     }),
     ("never returned", |of| {
-        is_entered(of, of.lent) && !returns(of, of.lent)
+        is_entered(of, &of.old) && !returns(of, &of.old)
     }),
     ("never returns", |of| {
-        is_entered(of, of.lent) && !returns(of, of.lent) && !returns(of, of.left)
+        is_entered(of, &of.old) && !returns(of, &of.old) && !returns(of, &of.new)
     }),
     ("returns no more", |of| {
-        returns(of, of.lent) && !returns(of, of.left)
+        returns(of, &of.old) && !returns(of, &of.new)
     }),
     ("returns at last", |of| {
-        !returns(of, of.lent) && returns(of, of.left)
+        !returns(of, &of.old) && returns(of, &of.new)
     }),
     ("called itself", |of| calls_itself(of, of.program)),
     ("calls itself", |of| calls_itself(of, new(of))),
@@ -65,23 +75,23 @@ pub const ALL: [Class; 34] = [
     ("joins a group", |of| {
         !is_in_group(of, of.program) && is_in_group(of, new(of))
     }),
-    ("entered by nobody", |of| !is_entered(of, of.lent)),
+    ("entered by nobody", |of| !is_entered(of, &of.old)),
     ("a root goes", |of| {
-        has_other(of.left, of.lent, |at| is_own_root(of, &at))
+        has_other(&of.new, &of.old, |at| is_own_root(of, &at))
     }),
     ("a root comes", |of| {
-        has_other(of.lent, of.left, |at| is_own_root(of, &at))
+        has_other(&of.old, &of.new, |at| is_own_root(of, &at))
     }),
     ("another program, the same sheet", |of| {
         new(of) != of.program && of.lent == of.left
     }),
-    ("marks go", |of| has_other(of.left, of.lent, |_| true)),
-    ("marks come", |of| has_other(of.lent, of.left, |_| true)),
+    ("marks go", |of| has_other(&of.new, &of.old, |_| true)),
+    ("marks come", |of| has_other(&of.old, &of.new, |_| true)),
     ("others' marks go", |of| {
-        has_other(of.left, of.lent, |at| at.routine != of.routine())
+        has_other(&of.new, &of.old, |at| at.routine != of.routine())
     }),
     ("others' marks come", |of| {
-        has_other(of.lent, of.left, |at| at.routine != of.routine())
+        has_other(&of.old, &of.new, |at| at.routine != of.routine())
     }),
 ];
 
@@ -122,20 +132,24 @@ fn is_in_group(of: &Exchanging, program: &Program) -> bool {
     own.any(|group| group.len() > 1)
 }
 
-fn is_entered(of: &Exchanging, sheet: &[u8]) -> bool {
-    sheet[numbers_at(of.routine(), 0)].contains(&1)
+fn is_entered(of: &Exchanging, set: &BTreeSet<Standing>) -> bool {
+    set.iter().any(|at| is_own_root(of, at))
 }
 
 fn is_own_root(of: &Exchanging, standing: &Standing) -> bool {
     standing.routine == of.routine() && is_root(standing)
 }
 
-fn returns(of: &Exchanging, sheet: &[u8]) -> bool {
-    sheet[numbers_at(of.routine(), EXIT)].contains(&1)
+fn returns(of: &Exchanging, set: &BTreeSet<Standing>) -> bool {
+    let place = (of.routine(), EXIT);
+    set.iter().any(|at| (at.routine, at.place) == place)
 }
 
-/// Whether the second sheet has a mark, of such a standing, that the first does not have.
-fn has_other(one: &[u8], other: &[u8], such: impl Fn(Standing) -> bool) -> bool {
-    let mut numbers = 0..other.len();
-    numbers.any(|at| other[at] == 1 && one[at] == 0 && such(Standing::of_number(at)))
+/// Whether the second set has a standing, such a one, that the first does not have.
+fn has_other(
+    one: &BTreeSet<Standing>,
+    other: &BTreeSet<Standing>,
+    such: impl Fn(Standing) -> bool,
+) -> bool {
+    other.difference(one).any(|&at| such(at))
 }

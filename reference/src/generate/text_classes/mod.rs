@@ -12,17 +12,22 @@ use crate::model::exchange::{exchange_of_text, exchanged, frame_in_range, ranges
 use crate::model::file::Frame;
 use crate::model::kinds::{EXCHANGES, ROUTINE, STEP};
 use crate::model::lines::{lines, numbers_of_kind};
-use crate::model::program::{Program, Step, TABLE_ROWS};
+use crate::model::program::{Program, Step, MOST_STEPS};
 use crate::model::ranges::Ranges;
-use crate::model::refusals::{BAD_EDIT, EDIT_RANGE, EXCHANGE_ORDER, FOREIGN_SHEET, STEPS_FULL};
+use crate::model::refusals::{
+    BAD_EDIT, EDIT_RANGE, EXCHANGE_ORDER, FOREIGN_SHEET, SHEET_TOO_LARGE, STEPS_FULL,
+};
+use crate::model::standing::{Sizes, Standing};
+use std::collections::BTreeSet;
 
 /// The answers that have classes: those to an exchange whose text was judged.
-pub const JUDGED: [u32; 6] = [
+pub const JUDGED: [u32; 7] = [
     0,
     BAD_EDIT,
     EDIT_RANGE,
     EXCHANGE_ORDER,
     STEPS_FULL,
+    SHEET_TOO_LARGE,
     FOREIGN_SHEET,
 ];
 
@@ -33,6 +38,7 @@ fn classes_of(refusal: u32) -> &'static [Class] {
         EDIT_RANGE => &refused::OUT_OF_RANGE,
         EXCHANGE_ORDER => &refused::OUT_OF_ORDER,
         STEPS_FULL => &refused::TOO_MANY,
+        SHEET_TOO_LARGE => &refused::TOO_LARGE,
         FOREIGN_SHEET => &refused::FOREIGN,
         _ => &[],
     }
@@ -68,12 +74,15 @@ impl MetTexts {
     }
 }
 
-/// An exchange to be classed: the program and the text that the call got, and the sheet as it was lent
-/// and as it was left.
+/// An exchange to be classed: the program and the text that the call got, and the sheet that it got and
+/// the one that there is after it, of the new program if it is accepted.
 pub struct Exchanging<'a> {
     program: &'a Program,
     lent: &'a [u8],
     left: &'a [u8],
+    /// What both mark, where they have the lengths of the two programs.
+    old: BTreeSet<Standing>,
+    new: BTreeSet<Standing>,
     lines: Vec<&'a [u8]>,
     /// The frames of the lines that have one.
     frames: Vec<Frame>,
@@ -94,12 +103,16 @@ impl Exchanging<'_> {
         let frames = frames.flat_map(|line| numbers_of_kind(&EXCHANGES, line));
         let frames: Vec<Frame> = frames.collect();
         let exchange = exchange_of_text(program, text);
+        let after = exchange.and_then(|new| exchanged(program, &new)).ok();
+        let sizes_after = after.as_ref().unwrap_or(program).sizes();
         Exchanging {
             program,
             lent,
             left,
+            old: standings(program.sizes(), lent),
+            new: standings(sizes_after, left),
             ranges: ranges_of_text(program, &frames),
-            after: exchange.and_then(|new| exchanged(program, &new)).ok(),
+            after,
             lines,
             frames,
         }
@@ -165,11 +178,19 @@ impl Exchanging<'_> {
 
     /// Whether there are more steps than there is room for, in order or not.
     fn has_too_many(&self) -> bool {
-        self.others() + self.steps().count() > TABLE_ROWS
+        self.others() + self.steps().count() > MOST_STEPS
     }
 
     fn is_long(&self) -> bool {
         self.lines.len() > 1_000
+    }
+}
+
+/// What a sheet marks; nothing where it does not have the length for these sizes.
+fn standings(sizes: Sizes, sheet: &[u8]) -> BTreeSet<Standing> {
+    match sheet.len() == sizes.length() {
+        true => sizes.standings(sheet),
+        false => BTreeSet::new(),
     }
 }
 

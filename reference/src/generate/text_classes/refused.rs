@@ -3,12 +3,13 @@
 //! Most of them are met by a line of some sort beside lines of any other. Where a refusal comes before
 //! another, both are there to be met.
 
+use crate::generate::exchanges::room;
 use crate::generate::text_classes::{last_place, Class, Exchanging};
 use crate::model::analysis::own_sheet;
 use crate::model::exchange::in_order;
 use crate::model::kinds::{count_of_numbers, EDITS, EXCHANGES, FRAMES, ROUTINE, STEP};
 use crate::model::lines::{numbers_of_kind, numbers_of_line};
-use crate::model::program::{Label, Step, EXIT, FIRST_RETURN, TABLE_ROWS};
+use crate::model::program::{Label, Step, EXIT, FIRST_RETURN, MOST_STEPS};
 use std::collections::BTreeSet;
 
 /// 12.
@@ -87,7 +88,7 @@ fn is_of_no_kind(line: &[u8]) -> bool {
 /// 13.
 pub const OUT_OF_RANGE: [Class; 21] = [
     ("one place", |of| has_count(of, 1)),
-    ("17 places", |of| has_count(of, 17)),
+    ("65 places", |of| has_count(of, 65)),
     ("routine R", |of| {
         of.leading().map(|(routine, _)| routine) == Some(of.program.routines())
     }),
@@ -215,9 +216,9 @@ pub const OUT_OF_ORDER: [Class; 15] = [
         let before = &of.frames[..of.frames.len() - 1];
         in_order(before)
     }),
-    ("16 too", |of| of.others() + distinct(of) > TABLE_ROWS),
+    ("16 too", |of| of.others() + distinct(of) > MOST_STEPS),
     ("16 but for what comes again", |of| {
-        of.has_too_many() && of.others() + distinct(of) <= TABLE_ROWS
+        of.has_too_many() && of.others() + distinct(of) <= MOST_STEPS
     }),
     ("long", |of| of.is_long()),
 ];
@@ -247,20 +248,39 @@ fn distinct(of: &Exchanging) -> usize {
 
 /// 16.
 pub const TOO_MANY: [Class; 7] = [
-    ("257 steps", |of| steps_wanted(of) == TABLE_ROWS + 1),
-    ("more than 257", |of| steps_wanted(of) > TABLE_ROWS + 1),
+    ("257 steps", |of| steps_wanted(of) == MOST_STEPS + 1),
+    ("more than 257", |of| steps_wanted(of) > MOST_STEPS + 1),
     ("257 of the routine's own", |of| {
-        of.steps().count() > TABLE_ROWS
+        of.steps().count() > MOST_STEPS
     }),
     ("many of others", |of| of.others() >= 128),
     ("few of others", |of| of.others() < 64),
-    ("256 before", |of| of.program.steps.len() == TABLE_ROWS),
+    ("256 before", |of| of.program.steps.len() == MOST_STEPS),
     ("long", |of| of.is_long()),
 ];
 
 fn steps_wanted(of: &Exchanging) -> usize {
     of.others() + of.steps().count()
 }
+
+/// 23.
+pub const TOO_LARGE: [Class; 6] = [
+    ("one place too many", |of| {
+        has_count(of, room(of.program) + 1)
+    }),
+    ("64 places", |of| has_count(of, 64)),
+    ("the longest routine", |of| {
+        of.old_places(of.routine()) == of.program.sizes().places
+    }),
+    ("a shorter routine", |of| {
+        of.old_places(of.routine()) < of.program.sizes().places
+    }),
+    ("a step past all that there is room for", |of| {
+        of.own_steps()
+            .any(|step| last_place(&step) >= room(of.program))
+    }),
+    ("no step", |of| of.steps().next().is_none()),
+];
 
 /// 17.
 pub const FOREIGN: [Class; 3] = [

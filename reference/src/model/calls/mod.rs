@@ -4,13 +4,15 @@
 //! - `files` has the calls that take a file: reading it and writing it back.
 //! - `sheets` has those that take a sheet too: the fresh working, the list of findings, the keeping.
 //! - `repairs` has the two repairs.
+//! - `sizes` has those that say how long the buffers of the others have to be.
 
 pub mod files;
 pub mod repairs;
 pub mod sheets;
+pub mod sizes;
 
 use crate::model::refusals::{refuse_if, Refused, OUTPUT_SHORT, SHEET_LENGTH, WORK_LENGTH};
-use crate::model::standing::SHEET_SIZE;
+use crate::model::standing::Sizes;
 use crate::model::write::OUTPUT_SIZE;
 
 /// What a call answers: the refusal's number and its line, 0 where there is none, and the value that
@@ -45,9 +47,9 @@ impl<V: Default> From<Result<V, Refused>> for Answer<V> {
     }
 }
 
-/// Refusal 9, by the length of the sheet.
-pub fn check_sheet(length: usize) -> Result<(), u32> {
-    refuse_if(length != SHEET_SIZE, SHEET_LENGTH)
+/// Refusal 9, by the length of a sheet and the one that it has to have.
+pub fn check_sheet(length: usize, wanted: usize) -> Result<(), u32> {
+    refuse_if(length != wanted, SHEET_LENGTH)
 }
 
 /// Refusal 10, by the length of the output.
@@ -55,7 +57,12 @@ pub fn check_output(length: usize) -> Result<(), u32> {
     refuse_if(length < OUTPUT_SIZE, OUTPUT_SHORT)
 }
 
-/// Refusal 11, by the length of the working buffer.
-pub fn check_work(length: usize) -> Result<(), u32> {
-    refuse_if(length != SHEET_SIZE, WORK_LENGTH)
+/// Refusal 11, by the length of the working buffer and the one that it has to have.
+pub fn check_work(length: usize, wanted: usize) -> Result<(), u32> {
+    refuse_if(length != wanted, WORK_LENGTH)
+}
+
+/// How long the working buffer of an exchange has to be: as long as the longer of the two sheets.
+pub fn work_of_exchange(before: Sizes, after: Sizes) -> usize {
+    before.length().max(after.length())
 }

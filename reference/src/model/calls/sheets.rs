@@ -4,6 +4,7 @@ use crate::model::analysis::{Analysis, Analyzed};
 use crate::model::calls::{check_sheet, check_work, Answer};
 use crate::model::file::Reading;
 use crate::model::keeping::keep;
+use crate::model::program::Program;
 use crate::model::refusals::{refuse_if, FileRefusal, Refused, FOREIGN_SHEET, GAVE_UP};
 
 /// The largest limit of a fresh working. No program has more takings.
@@ -28,16 +29,25 @@ impl Counts {
 }
 
 /// The checks before anything is touched: what the file gave, or a refusal of the file, of the sheet's
-/// length or of the working buffer's.
+/// length or of the working buffer's. Both have to be as long as the program's own sheet.
 fn checked<'a, T>(
     given: &'a Result<T, FileRefusal>,
+    length: impl Fn(&T) -> usize,
     sheet: &[u8],
     work: &[u8],
 ) -> Result<&'a T, Refused> {
     let given = given.as_ref()?;
-    check_sheet(sheet.len())?;
-    check_work(work.len())?;
+    check_sheet(sheet.len(), length(given))?;
+    check_work(work.len(), length(given))?;
     Ok(given)
+}
+
+fn analysis<'a>(
+    analyzed: &'a Analyzed,
+    sheet: &[u8],
+    work: &[u8],
+) -> Result<&'a Analysis, Refused> {
+    checked(analyzed, |analysis| analysis.sheet.len(), sheet, work)
 }
 
 /// What the library has to answer when it works a file afresh that has this analysis, with a limit on
@@ -49,7 +59,7 @@ pub fn analyze_answer(
     work: &mut [u8],
     limit: u64,
 ) -> Answer<Counts> {
-    let analysis = checked(analyzed, sheet, work);
+    let analysis = analysis(analyzed, sheet, work);
     Answer::from(analysis.and_then(|analysis| {
         work.fill(0);
         refuse_if(u64::from(analysis.takings) > limit, GAVE_UP)?;
@@ -61,7 +71,7 @@ pub fn analyze_answer(
 /// What the library has to answer when it is asked for the next finding of that file, and what it
 /// has to leave in the working buffer. The sheet is only read.
 pub fn next_answer(analyzed: &Analyzed, sheet: &[u8], work: &mut [u8], from: u32) -> Answer<u32> {
-    let analysis = checked(analyzed, sheet, work);
+    let analysis = analysis(analyzed, sheet, work);
     Answer::from(analysis.and_then(|analysis| {
         work.fill(0);
         refuse_if(sheet != analysis.sheet, FOREIGN_SHEET)?;
@@ -72,7 +82,8 @@ pub fn next_answer(analyzed: &Analyzed, sheet: &[u8], work: &mut [u8], from: u32
 /// What the library has to answer when it is asked for the keeping with a file of this reading, and
 /// what it has to leave in the sheet and in the working buffer.
 pub fn keep_answer(reading: &Reading, sheet: &mut [u8], work: &mut [u8]) -> Answer<()> {
-    let program = checked(reading, sheet, work);
+    let length = |program: &Program| program.sizes().length();
+    let program = checked(reading, length, sheet, work);
     Answer::from(program.map(|program| {
         let kept = keep(program, sheet);
         sheet.copy_from_slice(&kept);
@@ -87,14 +98,16 @@ mod tests {
     use crate::model::analysis::{analyze_reading, own_sheet};
     use crate::model::file::read;
     use crate::model::refusals::{SHEET_LENGTH, WORK_LENGTH};
-    use crate::model::standing::SHEET_SIZE;
+
+    /// How long the sample's sheet is.
+    const LENGTH: usize = 54;
 
     #[test]
     fn lengths_are_judged_after_the_file_and_before_the_sheet() {
         let analyzed = analyze_reading(&read(sample::FILE));
         let own = own_sheet(&sample::program());
-        let mut work = vec![7; SHEET_SIZE];
-        let mut short = vec![7; SHEET_SIZE - 1];
+        let mut work = vec![7; LENGTH];
+        let mut short = vec![7; LENGTH - 1];
         let refused = analyze_reading(&read(b""));
         let answer = next_answer(&refused, &own[1..], &mut short, 0);
         assert_eq!(answer, Answer::refused(8, 1));
@@ -129,11 +142,11 @@ mod tests {
             (answer.refusal, answer.line)
         };
         let no_pair_met = b"50010101\n520002\n55000000000000\n4900\n450004\n";
-        assert_eq!(answer(b"", SHEET_SIZE, SHEET_SIZE), (8, 1));
-        assert_eq!(answer(no_pair_met, SHEET_SIZE, SHEET_SIZE), (19, 0));
-        assert_eq!(answer(sample::FILE, SHEET_SIZE + 1, SHEET_SIZE), (9, 0));
-        assert_eq!(answer(sample::FILE, SHEET_SIZE, SHEET_SIZE - 1), (11, 0));
-        assert_eq!(answer(sample::FILE, SHEET_SIZE, SHEET_SIZE), (22, 0));
+        assert_eq!(answer(b"", LENGTH, LENGTH), (8, 1));
+        assert_eq!(answer(no_pair_met, LENGTH, LENGTH), (19, 0));
+        assert_eq!(answer(sample::FILE, LENGTH + 1, LENGTH), (9, 0));
+        assert_eq!(answer(sample::FILE, LENGTH, LENGTH - 1), (11, 0));
+        assert_eq!(answer(sample::FILE, LENGTH, LENGTH), (22, 0));
     }
 
     #[test]
@@ -148,8 +161,8 @@ mod tests {
             (answer.refusal, answer.line)
         };
         assert_eq!(answer(&bad, 0, 0), (8, 1));
-        assert_eq!(answer(&good, SHEET_SIZE - 1, SHEET_SIZE + 1), (9, 0));
-        assert_eq!(answer(&good, SHEET_SIZE, SHEET_SIZE + 1), (11, 0));
-        assert_eq!(answer(&good, SHEET_SIZE, SHEET_SIZE), (0, 0));
+        assert_eq!(answer(&good, LENGTH - 1, LENGTH + 1), (9, 0));
+        assert_eq!(answer(&good, LENGTH, LENGTH + 1), (11, 0));
+        assert_eq!(answer(&good, LENGTH, LENGTH), (0, 0));
     }
 }
