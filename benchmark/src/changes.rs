@@ -1,7 +1,7 @@
 //! How many changes a second, edits and exchanges, the two repairs make, beside the analysis of the
 //! changed program.
 
-use crate::library::{Buffers, Repair};
+use crate::library::{marks_length, Buffers};
 use crate::tables::Tables;
 use crate::{print_row, rates, Input};
 use reference::generate::edits::steps_that_act;
@@ -9,7 +9,6 @@ use reference::model::change::Change;
 use reference::model::edit::{after, Edit};
 use reference::model::exchange::Exchange;
 use reference::model::program::{Label, Program, Step};
-use reference::model::standing::SHEET_SIZE;
 use reference::model::write::write;
 use std::time::{Duration, Instant};
 
@@ -25,9 +24,10 @@ the next label that no step between the same places has. 'exchange' exchanges th
 for itself without that step, so its programs, the old and the new, are those of 'drop'. All these
 changes are accepted. Before the timing all sides were seen to leave the same marks, and the
 repairs to write the changed file.
-Each repair starts from the old program's own marks, and copying them in is within the time
-measured. A repair reads the old file and writes the new one, and it tests the marks (refusal 17)
-by a full analysis of the old program: so it cannot be faster than one analysis of that program.
+Each repair starts from the old program's own marks. For an edit copying them in is within the time
+measured; an exchange only reads them, and puts its own into a second buffer. A repair reads the
+old file and writes the new one, and it tests the marks (refusal 17) by a full analysis of the old
+program: so it cannot be faster than one analysis of that program.
 For 'add' that is the analysis in the row of 'drop', and for the others the one in the row of
 'add'; but the rows are timed one after the other, so on a busy machine numbers of different rows
 compare only roughly. A ratio stands after its repair; above 1 it means that the repair is faster
@@ -36,19 +36,33 @@ table above makes a second. Standings of the changed program, and marks that dif
 ones ('changed'), are means.
 ";
 
-/// The two repairs for a change of one form.
+/// The two repairs for a change of one form. Each says how many bytes it has written.
 struct Repairs {
-    forward: Repair<1>,
-    inside_out: Repair<2>,
+    forward: fn(&Task, &mut Buffers) -> u32,
+    inside_out: fn(&Task, &mut Buffers) -> u32,
 }
 
 const BY_EDIT_LINE: Repairs = Repairs {
-    forward: binding::repair_forward,
-    inside_out: binding::repair_inside_out,
+    forward: |task, buffers| {
+        let by = binding::repair_forward;
+        buffers.repair(by, &task.old_file, &task.old_marks, &task.text)
+    },
+    inside_out: |task, buffers| {
+        let by = binding::repair_inside_out;
+        buffers.repair(by, &task.old_file, &task.old_marks, &task.text)
+    },
 };
 const BY_EXCHANGE_TEXT: Repairs = Repairs {
-    forward: binding::exchange_forward,
-    inside_out: binding::exchange_inside_out,
+    forward: |task, buffers| {
+        let (file, marks) = (&task.old_file, &task.old_marks);
+        let by = binding::exchange_forward;
+        buffers.exchange(by, file, marks, &task.text, task.new_length)
+    },
+    inside_out: |task, buffers| {
+        let (file, marks) = (&task.old_file, &task.old_marks);
+        let by = binding::exchange_inside_out;
+        buffers.exchange(by, file, marks, &task.text, task.new_length)
+    },
 };
 
 /// One change, with what all sides take and what they have to answer.
@@ -59,6 +73,8 @@ struct Task {
     /// What the repairs are handed for the change: an edit line, or the text of an exchange.
     text: Vec<u8>,
     new_file: Vec<u8>,
+    /// How long the new marks are.
+    new_length: usize,
     new_tables: Tables,
     counts: [u32; 3],
     /// How many marks become different.
@@ -66,27 +82,23 @@ struct Task {
 }
 
 /// Whether a repair, which begins from the old marks, writes as much as it should.
-fn repair<const N: usize>(by: Repair<N>, task: &Task, buffers: &mut Buffers) -> bool {
-    buffers.marks.copy_from_slice(&task.old_marks);
-    buffers.repair(by, &task.old_file, &task.text) == task.new_file.len() as u32
-}
-
 fn forward(task: &Task, buffers: &mut Buffers) -> bool {
-    repair(task.repairs.forward, task, buffers)
+    (task.repairs.forward)(task, buffers) == task.new_file.len() as u32
 }
 
 fn inside_out(task: &Task, buffers: &mut Buffers) -> bool {
-    repair(task.repairs.inside_out, task, buffers)
+    (task.repairs.inside_out)(task, buffers) == task.new_file.len() as u32
 }
 
 /// Whether the analysis of the changed program counts what it should.
 fn analysis(task: &Task, buffers: &mut Buffers) -> bool {
-    buffers.analyze(&task.new_file) == task.counts
+    buffers.analyze(&task.new_file, task.new_length) == task.counts
 }
 
 /// Whether `plain` counts the same for the changed program.
 fn plain(task: &Task, buffers: &mut Buffers) -> bool {
-    crate::plain::analyze(&task.new_tables, &mut buffers.marks) == task.counts
+    let marks = &mut buffers.marks[..task.new_length];
+    crate::plain::analyze(&task.new_tables, marks) == task.counts
 }
 
 /// The repairs for a change, and the text that they are handed for it.
@@ -102,46 +114,62 @@ fn task(old: &Program, change: &Change) -> Task {
     let (repairs, text) = repairs_and_text(change);
     let new = change.after(old);
     let (old_file, new_file) = (write(old), write(&new));
-    let mut buffers = Buffers::new();
-    buffers.analyze(&old_file);
-    let old_marks = buffers.marks.clone();
-    let counts = buffers.analyze(&new_file);
-    let new_marks = buffers.marks.clone();
-    let differs = |&at: &usize| old_marks[at] != new_marks[at];
-    let changed = (0..SHEET_SIZE).filter(differs).count();
+    let (_, old_marks) = analyzed(&old_file);
+    let (counts, new_marks) = analyzed(&new_file);
+    let changed = differences(old, &old_marks, &new, &new_marks);
     let task = Task {
         old_file,
         old_marks,
         repairs,
         text,
         new_file,
+        new_length: new_marks.len(),
         new_tables: Tables::new(&new),
         counts,
         changed,
     };
-    for repair in [forward, inside_out] {
-        assert!(repair(&task, &mut buffers), "the repair is accepted");
-        assert_eq!(buffers.marks, new_marks, "all sides mark the same");
-        let written = &buffers.output[..task.new_file.len()];
-        assert_eq!(written, task.new_file, "the repair writes the changed file");
-    }
-    assert!(plain(&task, &mut buffers), "all sides count the same");
-    assert_eq!(buffers.marks, new_marks, "all sides mark the same");
+    check_sides(&task, &new_marks);
     task
 }
 
-/// Steps that begin where something is marked, spread evenly over all of these.
-fn chosen_steps(input: &Input) -> Vec<Step> {
+/// The counts and the marks of a file's program.
+fn analyzed(file: &[u8]) -> ([u32; 3], Vec<u8>) {
+    let (mut buffers, length) = (Buffers::new(), marks_length(file));
+    let counts = buffers.analyze(file, length);
+    (counts, buffers.marks[..length].to_vec())
+}
+
+/// How many standings are marked in one of two programs and not in the other.
+fn differences(old: &Program, old_marks: &[u8], new: &Program, new_marks: &[u8]) -> usize {
+    let old = old.sizes().standings(old_marks);
+    let new = new.sizes().standings(new_marks);
+    old.symmetric_difference(&new).count()
+}
+
+/// All sides have to leave these marks, and the repairs to write the new file.
+fn check_sides(task: &Task, new_marks: &[u8]) {
     let mut buffers = Buffers::new();
-    buffers.analyze(&input.file);
-    let steps = steps_that_act(&input.program, &buffers.marks);
+    for side in [forward, inside_out, plain] {
+        assert!(side(task, &mut buffers), "the answer is the right one");
+        let marks = &buffers.marks[..task.new_length];
+        assert_eq!(marks, new_marks, "all sides mark the same");
+        let written = &buffers.output[..task.new_file.len()];
+        assert_eq!(written, task.new_file, "the repair writes the changed file");
+    }
+}
+
+/// Steps that begin where something is marked and can get another label, spread evenly over all of these.
+fn chosen_steps(input: &Input) -> Vec<Step> {
+    let (_, marks) = analyzed(&input.file);
+    let mut steps = steps_that_act(&input.program, &marks);
+    steps.retain(|&step| next_label(&input.program, step).is_some());
     let middle = |part: usize| steps[(2 * part + 1) * steps.len() / (2 * CHANGES)];
     (0..CHANGES).map(middle).collect()
 }
 
 /// The next label, after a step's own, that no step between its places has: the actions come first,
-/// then the calls, and then the first action again.
-fn next_label(program: &Program, step: Step) -> Label {
+/// then the calls, and then the first action again. None where each has a step.
+fn next_label(program: &Program, step: Step) -> Option<Label> {
     let actions = (0..program.actions).map(Label::Action);
     let calls = (0..program.routines()).map(Label::Call);
     let labels: Vec<Label> = actions.chain(calls).collect();
@@ -153,7 +181,7 @@ fn next_label(program: &Program, step: Step) -> Label {
         .cycle()
         .skip_while(|one| !is_own(one));
     let mut once = after_own.take(labels.len());
-    once.find(is_new).expect("some label is new")
+    once.find(is_new)
 }
 
 fn without(program: &Program, step: Step) -> Program {
@@ -169,7 +197,8 @@ fn drop(program: &Program, step: Step) -> Task {
 }
 
 fn replace(program: &Program, step: Step) -> Task {
-    let edit = Edit::Replace(step, next_label(program, step));
+    let label = next_label(program, step).expect("some label is new");
+    let edit = Edit::Replace(step, label);
     task(program, &Change::Edit(edit))
 }
 

@@ -42,7 +42,7 @@ fn turn_up_to(limit: u64, inputs: &[Input], buffers: &mut Buffers) -> Duration {
     for input in inputs {
         let [.., takings] = input.counts;
         let wanted = Some(input.counts).filter(|_| u64::from(takings) <= limit);
-        let counts = buffers.analyze_up_to(limit, &input.file);
+        let counts = buffers.analyze_up_to(limit, &input.file, input.length);
         assert_eq!(counts, wanted, "the answer is not the right one");
     }
     begin.elapsed()

@@ -18,6 +18,7 @@ mod programs;
 mod tables;
 
 use library::Buffers;
+use reference::cases::sample;
 use reference::generate::programs::{hub, hub_of_roots};
 use reference::generate::shapes::Shape;
 use reference::model::program::Program;
@@ -37,8 +38,8 @@ analyzed in turn by one side; next is always the side that has had the least tim
 had enough. A first turn is not counted.
 'plain' is the procedure written straight from its description. Steps are found by their place and
 next states in a table, the sheet holds the marks, and what waits and the pairs are bits.
-'packed' is tuned further. The marks of a place are one word until the sheet is written at the end,
-and the pairs are folded into one table with the moves of calls and returns.
+'packed' is tuned further. The marks of a place with one root are one word until the sheet is written
+at the end, and the pairs are folded into one table with the moves of calls and returns.
 Each 'ratio' is the library's time over that of the side before it: at 2.00 the library takes twice
 the time.
 Nobody clears the buffers between calls: they come as the call before left them. All sides clear
@@ -46,22 +47,27 @@ what they need, and make what they look things up in, within the time measured. 
 the file and reads it every time; the other two get the program decoded. 'reading' is how many
 files a second the library only reads.
 Standings and takings are the means over the programs of a kind.
-The rules of the last four kinds hear calls and returns, and those of the others do not. In the
+The rules of four kinds hear calls and returns, and those of the others do not. In the
 two kinds 'all heard' every call and every return permutes the states. In 'heard, to two states'
 each of them leads to two, so that there are very many takings. In 'one place, all roots' calls
 alone are heard and each leads to all 8 roots, so that one standing is taken 1,025 times.
+The programs of the first kinds have at most 16 places a routine, 8 states and 256 rule lines.
+'64 places', '16 states' and '512 rule lines' are larger in one of these, and 'F' is the small
+program of examples/F.txt, whose sheet has 54 bytes.
 ";
 
 /// One program in the forms that the sides take.
 struct Input {
     program: Program,
     file: Vec<u8>,
+    /// How long its marks are.
+    length: usize,
     tables: Tables,
     counts: [u32; 3],
 }
 
 fn library(input: &Input, buffers: &mut Buffers) -> [u32; 3] {
-    buffers.analyze(&input.file)
+    buffers.analyze(&input.file, input.length)
 }
 
 fn reading(input: &Input, _: &mut Buffers) -> [u32; 3] {
@@ -71,11 +77,11 @@ fn reading(input: &Input, _: &mut Buffers) -> [u32; 3] {
 }
 
 fn plain(input: &Input, buffers: &mut Buffers) -> [u32; 3] {
-    plain::analyze(&input.tables, &mut buffers.marks)
+    plain::analyze(&input.tables, &mut buffers.marks[..input.length])
 }
 
 fn packed(input: &Input, buffers: &mut Buffers) -> [u32; 3] {
-    packed::analyze(&input.tables, &mut buffers.marks)
+    packed::analyze(&input.tables, &mut buffers.marks[..input.length])
 }
 
 type Side = fn(&Input, &mut Buffers) -> [u32; 3];
@@ -121,12 +127,14 @@ fn measure(inputs: &[Input]) -> [f64; 4] {
 /// A program, after all sides have analyzed it and agree.
 fn input(program: &Program) -> Input {
     let file = write(program);
+    let length = library::marks_length(&file);
     let mut buffers = Buffers::new();
-    let counts = buffers.analyze(&file);
-    let marks = buffers.marks.clone();
+    let counts = buffers.analyze(&file, length);
+    let marks = &buffers.marks[..length];
     let input = Input {
         program: program.clone(),
         file,
+        length,
         tables: Tables::new(program),
         counts,
     };
@@ -137,7 +145,7 @@ fn input(program: &Program) -> Input {
             counts,
             "all sides count the same"
         );
-        assert_eq!(buffers.marks, marks, "all sides mark the same");
+        assert_eq!(&buffers.marks[..length], marks, "all sides mark the same");
     }
     input
 }
@@ -199,6 +207,9 @@ fn main() {
     let wide_heard = (0..).filter_map(programs::wide_all_heard);
     let full_heard = (0..).map(programs::full_all_heard);
     let branching = (0..).map(programs::branching);
+    let long = (0..).filter_map(programs::with_most_places);
+    let many_states = (0..).filter_map(programs::with_most_states);
+    let ruled = (0..).filter_map(programs::with_most_rule_lines);
     let kinds = [
         ("wide, over 2000", of_shape(Shape::Wide, 2000)),
         ("recursive, over 500", of_shape(Shape::Recursive, 500)),
@@ -209,6 +220,10 @@ fn main() {
         ("full, all heard", large(full_heard, 8000)),
         ("heard, to two states", large(branching, 5000)),
         ("one place, all roots", vec![input(&hub_of_roots())]),
+        ("64 places", large(long, 1000)),
+        ("16 states", large(many_states, 1000)),
+        ("512 rule lines", large(ruled, 500)),
+        ("F", vec![input(&sample::program())]),
     ];
     for (kind, inputs) in &kinds {
         measure_row(kind, inputs);

@@ -6,20 +6,14 @@
 //! the pairs and all sets of states are bits.
 
 use crate::tables::{
-    bits, moves_by_label, place_number, states_as_bits, Moves, Tables, LABELS, PLACES, ROUTINES,
-    ROUTINE_PLACES, STATES, WORD,
+    bits, giving, moves_by_label, place_number, states_as_bits, Moves, States, Tables, LABELS,
+    PLACES, ROUTINES, STATES, WORD,
 };
-use reference::model::program::{Label, Step, EXIT, FIRST_CALL, FIRST_RETURN, TABLE_ROWS};
+use reference::model::program::{Label, Step, EXIT, FIRST_CALL, FIRST_RETURN, MOST_STEPS};
+use reference::model::standing::{Sizes, MOST_SHEET};
 
-/// How many standings there are at a place: one for each root and state.
-const PLACE_STANDINGS: usize = STATES * STATES;
-/// How many words have a bit for each standing.
-const WORDS: usize = PLACES * PLACE_STANDINGS / WORD;
-
-/// A standing's number. That of its place says its routine too.
-fn standing_number(place: usize, root: usize, state: usize) -> usize {
-    place * PLACE_STANDINGS + root * STATES + state
-}
+/// How many words have a bit for each standing, at the most.
+const WORDS: usize = MOST_SHEET / WORD;
 
 /// Counts become where each begins, if the count of each stands one after its own place.
 fn begin_after_each_other(counts: &mut [u16]) {
@@ -30,12 +24,13 @@ fn begin_after_each_other(counts: &mut [u16]) {
 
 /// What every taking looks up, made once before the first.
 struct Index<'a> {
+    sizes: Sizes,
     /// The steps in their order: those of a place stand side by side.
     steps: &'a [Step],
     /// Where the steps of each place begin, and the end of the last.
     first_step: [u16; PLACES + 1],
     /// The places of the steps that call, those that call the same routine side by side.
-    callers: [u8; TABLE_ROWS],
+    callers: [u16; MOST_STEPS],
     /// Where the callers of each routine begin, and the end of the last.
     first_caller: [u16; ROUTINES + 1],
     moves: [Moves; LABELS],
@@ -44,14 +39,16 @@ struct Index<'a> {
 impl<'a> Index<'a> {
     fn new(tables: &'a Tables) -> Index<'a> {
         let mut index = Index {
+            sizes: tables.sizes,
             steps: &tables.steps,
             first_step: [0; PLACES + 1],
-            callers: [0; TABLE_ROWS],
+            callers: [0; MOST_STEPS],
             first_caller: [0; ROUTINES + 1],
             moves: moves_by_label(&tables.rule),
         };
         index.count_steps();
-        begin_after_each_other(&mut index.first_step);
+        let places = place_number(index.sizes, index.sizes.routines, 0);
+        begin_after_each_other(&mut index.first_step[..=places]);
         begin_after_each_other(&mut index.first_caller);
         index.list_callers();
         index
@@ -59,7 +56,7 @@ impl<'a> Index<'a> {
 
     fn count_steps(&mut self) {
         for step in self.steps {
-            self.first_step[place_number(step.routine, step.from) + 1] += 1;
+            self.first_step[self.place(step, step.from) + 1] += 1;
             if let Label::Call(routine) = step.label {
                 self.first_caller[usize::from(routine) + 1] += 1;
             }
@@ -71,17 +68,29 @@ impl<'a> Index<'a> {
         for step in self.steps {
             if let Label::Call(routine) = step.label {
                 let at = &mut next[usize::from(routine)];
-                self.callers[usize::from(*at)] = place_number(step.routine, step.from) as u8;
+                let place = place_number(self.sizes, step.routine, step.from);
+                self.callers[usize::from(*at)] = place as u16;
                 *at += 1;
             }
         }
+    }
+
+    /// The number of a place of a step's routine.
+    fn place(&self, step: &Step, place: u8) -> usize {
+        place_number(self.sizes, step.routine, place)
+    }
+
+    /// A standing's number. That of its place says its routine too.
+    fn standing(&self, place: usize, root: usize, state: usize) -> usize {
+        let states = usize::from(self.sizes.states);
+        (place * states + root) * states + state
     }
 
     fn steps_from(&self, place: usize) -> &'a [Step] {
         &self.steps[self.first_step[place].into()..self.first_step[place + 1].into()]
     }
 
-    fn callers_of(&self, routine: usize) -> &[u8] {
+    fn callers_of(&self, routine: usize) -> &[u16] {
         &self.callers[self.first_caller[routine].into()..self.first_caller[routine + 1].into()]
     }
 
@@ -91,12 +100,6 @@ impl<'a> Index<'a> {
 
     fn moves_of_return(&self, routine: usize) -> &Moves {
         &self.moves[usize::from(FIRST_RETURN) + routine]
-    }
-
-    /// The states in which a call of this routine can give it this root.
-    fn giving(&self, routine: usize, root: usize) -> u8 {
-        let calls = self.moves_of_call(routine);
-        (0..STATES).fold(0, |bits, state| bits | (calls[state] >> root & 1) << state)
     }
 }
 
@@ -109,7 +112,7 @@ struct Progress<'a> {
     /// No word before this one has a bit that waits.
     lowest_word: usize,
     /// The pairs: for each routine and root the states, as bits, in which it is known to end.
-    ends: [[u8; STATES]; ROUTINES],
+    ends: [Moves; ROUTINES],
 }
 
 impl<'a> Progress<'a> {
@@ -136,15 +139,16 @@ impl<'a> Progress<'a> {
         }
     }
 
-    fn mark_states(&mut self, place: usize, root: usize, states: u8) {
+    fn mark_states(&mut self, index: &Index, place: usize, root: usize, states: States) {
         for state in bits(states.into()) {
-            self.mark(standing_number(place, root, state));
+            self.mark(index.standing(place, root, state));
         }
     }
 
-    fn mark_entries(&mut self, routine: u8, roots: u8) {
+    fn mark_entries(&mut self, index: &Index, routine: u8, roots: States) {
+        let entry = place_number(index.sizes, routine, 0);
         for root in bits(roots.into()) {
-            self.mark(standing_number(place_number(routine, 0), root, root));
+            self.mark(index.standing(entry, root, root));
         }
     }
 
@@ -163,11 +167,12 @@ impl<'a> Progress<'a> {
 
     /// Takes a standing: at an exit a pair is known, and elsewhere every step is followed.
     fn take(&mut self, index: &Index, standing: usize) {
-        let place = standing / PLACE_STANDINGS;
-        let root = standing / STATES % STATES;
-        let state = standing % STATES;
-        if place % ROUTINE_PLACES == usize::from(EXIT) {
-            let routine = place / ROUTINE_PLACES;
+        let places = usize::from(index.sizes.places);
+        let states = usize::from(index.sizes.states);
+        let (row, state) = (standing / states, standing % states);
+        let (place, root) = (row / states, row % states);
+        if place % places == usize::from(EXIT) {
+            let routine = place / places;
             self.ends[routine][root] |= 1 << state;
             self.wake_callers(index, routine, root);
         } else {
@@ -182,15 +187,15 @@ impl<'a> Progress<'a> {
             Label::Action(action) => index.moves[usize::from(action)][state],
             Label::Call(routine) => {
                 let roots = index.moves_of_call(routine.into())[state];
-                self.mark_entries(routine, roots);
+                self.mark_entries(index, routine, roots);
                 self.returned(index, routine.into(), roots)
             }
         };
-        self.mark_states(place_number(step.routine, step.to), root, next);
+        self.mark_states(index, index.place(step, step.to), root, next);
     }
 
     /// The states after the return of a routine that began with one of these roots, by the pairs.
-    fn returned(&self, index: &Index, routine: usize, roots: u8) -> u8 {
+    fn returned(&self, index: &Index, routine: usize, roots: States) -> States {
         let returns = index.moves_of_return(routine);
         let ends = bits(roots.into()).fold(0, |ends, root| ends | self.ends[routine][root]);
         bits(ends.into()).fold(0, |states, end| states | returns[end])
@@ -198,22 +203,22 @@ impl<'a> Progress<'a> {
 
     /// Sets waiting what is marked and can give a routine this root by a call.
     fn wake_callers(&mut self, index: &Index, routine: usize, root: usize) {
-        let giving = index.giving(routine, root);
+        let giving = giving(index.moves_of_call(routine), root);
         for &place in index.callers_of(routine) {
-            self.wake(place.into(), giving);
+            self.wake(index, place.into(), giving);
         }
     }
 
     /// Sets waiting what is marked at a place in these states, with any root.
-    fn wake(&mut self, place: usize, states: u8) {
-        for root in 0..STATES {
-            self.wake_states(place, root, states);
+    fn wake(&mut self, index: &Index, place: usize, states: States) {
+        for root in 0..index.sizes.states.into() {
+            self.wake_states(index, place, root, states);
         }
     }
 
-    fn wake_states(&mut self, place: usize, root: usize, states: u8) {
+    fn wake_states(&mut self, index: &Index, place: usize, root: usize, states: States) {
         for state in bits(states.into()) {
-            let standing = standing_number(place, root, state);
+            let standing = index.standing(place, root, state);
             if self.marks[standing] != 0 {
                 self.wait(standing);
             }
@@ -222,19 +227,19 @@ impl<'a> Progress<'a> {
 }
 
 /// How many of the states of one place and root are marked, and how many of these are forbidden.
-fn count_states(marks: &[u8], forbidden: u8) -> [u32; 2] {
+fn count_states(marks: &[u8], forbidden: States) -> [u32; 2] {
     let (mut standings, mut findings) = (0, 0);
     for (state, &mark) in marks.iter().enumerate() {
         standings += u32::from(mark);
-        findings += u32::from(mark & forbidden >> state);
+        findings += u32::from(u16::from(mark) & forbidden >> state);
     }
     [standings, findings]
 }
 
 /// The counts of standings and findings, by one pass over the sheet.
-fn count(marks: &[u8], forbidden: u8) -> [u32; 2] {
+fn count(marks: &[u8], states: u8, forbidden: States) -> [u32; 2] {
     let (mut standings, mut findings) = (0, 0);
-    for states in marks.chunks_exact(STATES) {
+    for states in marks.chunks_exact(states.into()) {
         let counts = count_states(states, forbidden);
         standings += counts[0];
         findings += counts[1];
@@ -242,16 +247,18 @@ fn count(marks: &[u8], forbidden: u8) -> [u32; 2] {
     [standings, findings]
 }
 
-/// The counts of standings, findings and takings. The sheet is written whole, whatever was there.
+/// The counts of standings, findings and takings. The sheet, which is as long as the program's own, is
+/// written whole, whatever was there.
 pub fn analyze(tables: &Tables, sheet: &mut [u8]) -> [u32; 3] {
     let index = Index::new(tables);
     let mut progress = Progress::none(sheet);
-    progress.mark_entries(0, states_as_bits(&tables.starts));
+    progress.mark_entries(&index, 0, states_as_bits(&tables.starts));
     let mut takings = 0;
     while let Some(standing) = progress.take_lowest() {
         takings += 1;
         progress.take(&index, standing);
     }
-    let [standings, findings] = count(sheet, states_as_bits(&tables.forbidden));
+    let forbidden = states_as_bits(&tables.forbidden);
+    let [standings, findings] = count(sheet, tables.sizes.states, forbidden);
     [standings, findings, takings]
 }

@@ -13,13 +13,31 @@ use reference::generate::programs::program_to_plan;
 use reference::generate::random::Random;
 use reference::generate::rules::rule_for_actions;
 use reference::generate::shapes::{plan, Callees, Plan, Shape};
-use reference::model::program::{Program, TABLE_ROWS};
+use reference::model::program::{Program, MOST_PLACES, MOST_RULE_LINES, MOST_STATES};
 
 /// A program of a shape. Its rule hears no call and no return.
 pub fn of_shape(shape: Shape, seed: u64) -> Program {
     let random = &mut Random::new(seed);
     let plan = plan(random, shape);
     program_to_plan(random, &plan, rule_for_actions)
+}
+
+/// A program with a routine of 64 places; None where the one of this seed has none.
+pub fn with_most_places(seed: u64) -> Option<Program> {
+    let program = of_shape(Shape::Long, seed);
+    Some(program).filter(|program| program.places.contains(&MOST_PLACES))
+}
+
+/// A program with 16 states; None where the one of this seed has fewer.
+pub fn with_most_states(seed: u64) -> Option<Program> {
+    let program = of_shape(Shape::ManyStates, seed);
+    Some(program).filter(|program| program.states == MOST_STATES)
+}
+
+/// A program with 512 rule lines; None where the one of this seed has fewer.
+pub fn with_most_rule_lines(seed: u64) -> Option<Program> {
+    let program = of_shape(Shape::Ruled, seed);
+    Some(program).filter(|program| program.rule.len() == MOST_RULE_LINES)
 }
 
 /// The wide program of this seed, and its rule now hears every call and every return: each of them
@@ -29,7 +47,7 @@ pub fn wide_all_heard(seed: u64) -> Option<Program> {
     let mut program = of_shape(Shape::Wide, seed);
     let heard = rules::permutations(program.places.len(), program.states.into());
     program.rule.extend(heard);
-    Some(program).filter(|program| program.rule.len() <= TABLE_ROWS)
+    Some(program).filter(|program| program.rule.len() <= rules::MOST_LINES)
 }
 
 /// A program with many standings whose rule hears every call and every return, each of which

@@ -1,14 +1,18 @@
 //! Rules with lines for the calls and returns that they hear, beside lines for actions.
 //!
 //! For a rule that hears every call and every return, and lets every state make each of them, there
-//! have to be two lines for each routine and each state, or more. A rule has 256 lines at the most,
-//! and some are for actions: so there is no room for this with 16 routines and 8 states.
+//! have to be two lines for each routine and each state, or more. The rules here have 256 lines at the
+//! most, as when they were first measured, and some are for actions: so there is no room for this with
+//! 16 routines and 8 states.
 
 use reference::generate::random::Random;
 use reference::generate::rules::rule_for_actions;
 use reference::generate::shapes::Plan;
-use reference::model::program::{Event, RuleLine, TABLE_ROWS};
+use reference::model::program::{Event, RuleLine};
 use std::collections::BTreeSet;
+
+/// How many lines these rules have at the most.
+pub const MOST_LINES: usize = 256;
 
 type Lines = BTreeSet<RuleLine>;
 
@@ -61,7 +65,7 @@ fn leading_on(event: Event, states: usize, so_many: &[usize]) -> Vec<RuleLine> {
 /// The lines for calls and returns, and others for actions, as many as there is room for.
 fn full(random: &mut Random, plan: &Plan, heard: Lines) -> Lines {
     let plan = Plan {
-        rule: TABLE_ROWS - heard.len(),
+        rule: MOST_LINES - heard.len(),
         ..*plan
     };
     let mut lines = rule_for_actions(random, &plan);
