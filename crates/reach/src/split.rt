@@ -1,6 +1,5 @@
-// The parts of many numbers in the same sizes. Divisions, and one after the other, cost more than all else that is done
-// for a number: here a quotient is a product with a reciprocal, none waits for another, and the reciprocals are made
-// once.
+// The parts of many numbers in the same sizes. Three divisions for each would wait for one another: here a quotient is a
+// product with a reciprocal, none waits for another, and the reciprocals are made once.
 use crate::configuration::Configuration;
 use crate::configuration::narrow;
 use crate::spans::node_span;
