@@ -28,12 +28,12 @@ use Rattle.rewrite.specs.Room.{roomWanted, roomAnswer}
 use Rattle.desk.specs.Entries.{sizes, analyze, exchange-sizes, Lent, Back, analyzeBack, repairBack, programIn, repairedIn, Gives}
 use Rattle.demands.specs.Lists.{entry}
 use Rattle.demands.specs.Lists as repair
-use Rattle.demands.specs.Cases.{Fresh, Changed, Limited, Case, Said, lentFresh, Analyzed, lentChange, Repaired, RepairedBoth, lentLimited, Tried, lentAsked, Told, Holds, P1, P2, P3, P4, P5, P6, P7, P8, P9, P10, E1, E2, E3, E4, H1, H2, H3, H4, H5, H6, L1, L2, L3, L4, S1, S2, S3, S4, S5, S6, S7, S8, table}
+use Rattle.demands.specs.Cases.{Fresh, Changed, Limited, Case, Said, lentFresh, Analyzed, lentChange, Repaired, RepairedBoth, lentLimited, Tried, lentAsked, Told, Holds, P1, P2, P3, P4, P5, P6, P7, P8, P9, P10, R1, R2, T1, E1, E2, E3, E4, E5, H1, H2, H3, H4, H5, H6, L1, L2, L3, L4, S1, S2, S3, S4, S5, S6, S7, S8, table}
 use Rattle.demands.proofs.EntriesGive.{forward-gives, inside-out-gives}
 use Rattle.demands.proofs.OneAnswer.{one-number}
-use Rattle.demands.proofs.CasesReanalyzed.{p5-reanalyzed, p6-reanalyzed, e1-reanalyzed}
+use Rattle.demands.proofs.CasesReanalyzed.{p5-reanalyzed, p6-reanalyzed, p8-reanalyzed, r1-reanalyzed, r2-reanalyzed, e1-reanalyzed, e5-reanalyzed}
 
--- what the rows compute with: to unfold one of these two is to unfold all that it names
+-- what the rows compute with: to unfold one of these three is to unfold all that it names
 editing : Unit {0}
 unfolding lines numbers largest numbersIn judgeAs judge afterAs after readFrom readFile editFrom readEdit hasEdge without inserted editedProgram wantedEdit others insertedAll exchangedProgram any anyAstray exchangeFrom wantedExchange firstMet checked repaired same analyzeAnswer marksAfter workAfter written framesOf nodesFrames text hex roomWanted roomAnswer
 editing = tt
@@ -41,6 +41,11 @@ editing = tt
 analyzing : Unit {0}
 unfolding listed heard moves member number routineOf nodeOf rootOf stateOf none-set lowest mark wake markWhen summary onEvent eventWhen onReturns rootWhen onCall onLabel labelWhen onSteps wakeRoots calls wakeWhen wakeStates callerWhen wakeCallers learn takeFrom takeAt work opened analysisAt summaries enoughIterations violationsFrom
 analyzing = tt
+
+-- the table of a file with rows
+tabling : Unit {0}
+unfolding pairsFrom timesMet tableRefusal nextState
+tabling = tt
 
 -- ---- what the functions give back for the rows
 
@@ -123,6 +128,10 @@ p8 : (k : ℕ) → Repaired P8 (changedBack P8 k)
 unfolding editing analyzing
 p8 k = record { refused = refl; marks = refl; second = refl; size = refl; output = refl }
 
+p8-routines : (a : Back) → Routines P8 a → a .values .reanalyzed ≡ 0
+unfolding editing
+p8-routines a x = one-number x p8-reanalyzed
+
 p9 : (k : ℕ) → Repaired P9 (changedBack P9 k)
 unfolding editing analyzing
 p9 k = record { refused = refl; marks = refl; second = refl; size = refl; output = refl }
@@ -130,6 +139,26 @@ p9 k = record { refused = refl; marks = refl; second = refl; size = refl; output
 p10 : (k : ℕ) → Repaired P10 (changedBack P10 k)
 unfolding editing analyzing
 p10 k = record { refused = refl; marks = refl; second = refl; size = refl; output = refl }
+
+r1 : (k : ℕ) → Repaired R1 (changedBack R1 k)
+unfolding editing analyzing
+r1 k = record { refused = refl; marks = refl; second = refl; size = refl; output = refl }
+
+r1-routines : (a : Back) → Routines R1 a → a .values .reanalyzed ≡ 3
+unfolding editing
+r1-routines a x = one-number x r1-reanalyzed
+
+r2 : (k : ℕ) → Repaired R2 (changedBack R2 k)
+unfolding editing analyzing
+r2 k = record { refused = refl; marks = refl; second = refl; size = refl; output = refl }
+
+r2-routines : (a : Back) → Routines R2 a → a .values .reanalyzed ≡ 1
+unfolding editing
+r2-routines a x = one-number x r2-reanalyzed
+
+t1 : Analyzed T1 (freshBack T1)
+unfolding editing analyzing tabling
+t1 = record { accepted = refl; marks = refl; violating = (refl, refl); iterations = refl }
 
 e1 : (k : ℕ) → Repaired E1 (changedBack E1 k)
 unfolding editing analyzing
@@ -150,6 +179,14 @@ e3 k = record { refused = refl; marks = refl; second = refl; size = refl; output
 e4 : (k : ℕ) → Repaired E4 (changedBack E4 k)
 unfolding editing analyzing
 e4 k = record { refused = refl; marks = refl; second = refl; size = refl; output = refl }
+
+e5 : (k : ℕ) → Repaired E5 (changedBack E5 k)
+unfolding editing analyzing
+e5 k = record { refused = refl; marks = refl; second = refl; size = refl; output = refl }
+
+e5-routines : (a : Back) → Routines E5 a → a .values .reanalyzed ≡ 3
+unfolding editing
+e5-routines a x = one-number x e5-reanalyzed
 
 h1 : Analyzed H1 (freshBack H1)
 unfolding editing analyzing
@@ -203,11 +240,6 @@ s3 : (k : ℕ) → Repaired S3 (changedBack S3 k)
 unfolding editing analyzing
 s3 k = record { refused = refl; marks = refl; second = refl; size = refl; output = refl }
 
--- the table of a file with rows
-tabling : Unit {0}
-unfolding pairsFrom timesMet tableRefusal nextState
-tabling = tt
-
 s4 : Analyzed S4 (freshBack S4)
 unfolding editing analyzing tabling
 s4 = record { accepted = refl; marks = refl; violating = (refl, refl); iterations = refl }
@@ -239,11 +271,12 @@ pub every-row : (c : Case) → List·Memᴰ c table → Holds c
 every-row c =
     at (by-analysis P1 p1) (at (by-analysis P2 p2) (at (by-analysis P3 p3) (at (by-analysis P4 p4)
     (at (by-repairs P5 p5 p5-routines) (at (by-repairs P6 p6 p6-routines) (at (by-analysis P7 p7)
-    (at (by-repairs P8 p8 (λ a x. tt)) (at (by-repairs P9 p9 (λ a x. tt)) (at (by-repairs P10 p10 (λ a x. tt))
-    (at (by-repairs E1 e1 e1-routines) (at (by-repairs E2 e2 (λ a x. tt)) (at (by-repairs E3 e3 (λ a x. tt)) (at (by-repairs E4 e4 (λ a x. tt))
+    (at (by-repairs P8 p8 p8-routines) (at (by-repairs P9 p9 (λ a x. tt)) (at (by-repairs P10 p10 (λ a x. tt))
+    (at (by-repairs R1 r1 r1-routines) (at (by-repairs R2 r2 r2-routines) (at (by-analysis T1 t1)
+    (at (by-repairs E1 e1 e1-routines) (at (by-repairs E2 e2 (λ a x. tt)) (at (by-repairs E3 e3 (λ a x. tt)) (at (by-repairs E4 e4 (λ a x. tt)) (at (by-repairs E5 e5 e5-routines)
     (at (by-analysis H1 h1) (at (by-analysis H2 h2) (at (by-analysis H3 h3) (at (by-analysis H4 h4)
     (at (by-repairs H5 h5 (λ a x. tt)) (at (by-repairs H6 h6 (λ a x. tt))
     (at (by-limit L1 l1) (at (by-limit L2 l2) (at (by-limit L3 l3) (at (by-limit L4 l4)
     (at (by-repairs S1 s1 (λ a x. tt)) (at (by-repairs S2 s2 (λ a x. tt)) (at (by-repairs S3 s3 (λ a x. tt)) (at (by-analysis S4 s4)
     (at s5 (at s6 (at s7 (at (by-repairs S8 s8 (λ a x. tt))
-    (λ m. absurd (List·Memᴰ·not-nil m)))))))))))))))))))))))))))))))))
+    (λ m. absurd (List·Memᴰ·not-nil m)))))))))))))))))))))))))))))))))))))

@@ -17,6 +17,8 @@ use Rattle.program.specs.Reading.{readFile, rowsIn}
 use Rattle.program.specs.declared.Verdict.the-variants.{Accepted}
 use Rattle.reach.specs.Sizes.{enoughIterations}
 use Rattle.reach.specs.Configurations.{Usable}
+use Rattle.reach.specs.Runs.{Occurs}
+use Rattle.reach.proofs.RunsReach.{occurs-iff, entry as its-entry}
 use Rattle.program.proofs.ChosenSizes.{admitted}
 use Rattle.reach.proofs.ProgramInSizes.{usable}
 use Rattle.reach.specs.Takings.{takenIn}
@@ -137,7 +139,11 @@ exchange-keeps = old-marks-kept
 pub demand-2 : (b : Lent) (a : Back) → Gives analyze b a → a .refusal ≡ 0 → Demand2 (sizesOf (programIn b)) (programIn b) a
 demand-2 = analyzed-exact
 
--- its count of violations is 0 exactly when no run arrives in a rejecting state
+-- a configuration with root r needs that of its routine's entry with this root: some run arrives there too
+pub root-needed : (p : Program) (f n r q : ℕ) → Occurs p f n r q → Occurs p f 0 r r
+root-needed p f n r q o = occurs-iff .1 (its-entry (occurs-iff .0 o))
+
+-- an analysis counts 0 violations exactly when no run arrives in a rejecting state
 pub no-violation : (b : Lent) (a : Back) → Gives analyze b a → a .refusal ≡ 0 → (a .values .violations ≡ 0) ↔ Safe (programIn b)
 no-violation = count-safe
 
@@ -218,7 +224,7 @@ pub pass-depends : {Z Z′ : Sizes} {members : List ℕ} {p p′ : Program} {old
     → Marked Z after f n r q ↔ Marked Z′ after′ f n r q
 pass-depends = depends
 
--- ---- the cases P1 to P10, E1 to E4 for exchanges, H1 to H6 for calls and returns that the rule hears, L1 to L4 for a limit, and S1 to S8 for sizes, rows of
--- one table
+-- ---- the cases P1 to P10, R1 and R2 for edit lines, T1 for a rule as a table, E1 to E5 for exchanges, H1 to H6 for calls and returns that the rule hears, L1
+-- to L4 for a limit, and S1 to S8 for sizes, rows of one table
 pub cases : (c : Case) → List·Memᴰ c table → Holds c
 cases = every-row

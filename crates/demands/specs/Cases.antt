@@ -1,6 +1,6 @@
--- The paper's cases P1 to P10, E1 to E4 for exchanges of a routine, H1 to H6 for calls and returns that the rule hears,
--- L1 to L4 for a limit, and S1 to S8 for the sizes that a program chooses, each from the bytes of its file, and of its
--- edit line or text where it has one: one table.
+-- The paper's cases P1 to P10, R1 and R2 for repairs by edit lines, T1 for a rule as a table, E1 to E5 for exchanges of
+-- a routine, H1 to H6 for calls and returns that the rule hears, L1 to L4 for a limit, and S1 to S8 for the sizes that a
+-- program chooses, each from the bytes of its file, and of its edit line or text where it has one: one table.
 use mathlib.Core.Path.{_≡_}
 use mathlib.Core.Option.{Option, none, some}
 use mathlib.Core.List.{List, [], _∷_, _++_}
@@ -257,7 +257,7 @@ P7 = record {
   iterations = some 1;
 }
 
--- P8: adding 01 00 01 01 to what P6 leaves changes no mark
+-- P8: adding 01 00 01 01 to what P6 leaves changes no mark, and no routine is reanalyzed
 abbrev pub P8 : Changed
 P8 =
     record {
@@ -271,7 +271,7 @@ P8 =
       after = P6 .after;
       second = none;
       wrote = with ("5300020101" ∷ "5301000001" ∷ "5301000101" ∷ []) ("4900" ∷ "4602" ∷ "45000C" ∷ []);
-      reanalyzed = none;
+      reanalyzed = some 0;
     }
 
 -- P9: replacing a label by itself is 15
@@ -305,6 +305,59 @@ P10 = record {
   wrote = [];
   reanalyzed = none;
 }
+
+-- ---- repairs by edit lines
+
+-- R1: F with the single step 00 00 00 02, which becomes a call of routine 1: the drop reanalyzes 0, and by the add 1
+-- gains its entry
+abbrev pub R1 : Changed
+R1 =
+    record {
+      file = with ("5300000002" ∷ []) ("4900" ∷ "4602" ∷ "45000A" ∷ []);
+      size = 54;
+      before = 0 ∷ 19 ∷ [];
+      form = EditLine;
+      text = "3D0000000241" ∷ [];
+      room = 0;
+      refused = 0;
+      after = 0 ∷ 27 ∷ [];
+      second = none;
+      wrote = with ("5300004102" ∷ []) ("4900" ∷ "4602" ∷ "45000A" ∷ []);
+      reanalyzed = some 3;
+    }
+
+-- R2: dropping 00 02 01 01 from what P5 leaves, where the call never returns: the entries of both routines stay;
+-- reanalyzed is 0 only
+abbrev pub R2 : Changed
+R2 =
+    record {
+      file = P5 .wrote;
+      size = 54;
+      before = P5 .after;
+      form = EditLine;
+      text = "2D00020101" ∷ [];
+      room = 0;
+      refused = 0;
+      after = 0 ∷ 27 ∷ [];
+      second = none;
+      wrote = with ("5300004102" ∷ []) ("4900" ∷ "4602" ∷ "45000A" ∷ []);
+      reanalyzed = some 1;
+    }
+
+-- ---- a rule as a table
+
+-- T1: F's rule in rows, which go on in state 2, and a step of main by action 1 to its exit: it violates there, in state 2
+abbrev pub T1 : Fresh
+T1 =
+    record {
+      file =
+          header ++ "5300000101" ∷ "5300004102" ∷ "5300020101" ∷ "5301000001" ∷ "55010000000202" ∷ "55020000000201"
+          ∷ "55030000000101" ∷ "55040000000302" ∷ "4900" ∷ "4602" ∷ "45000D" ∷ [];
+      size = 54;
+      configurations = some (0 ∷ 10 ∷ 11 ∷ 19 ∷ 27 ∷ 37 ∷ []);
+      violating = some (11 ∷ []);
+      iterations = some 7;
+    }
 
 -- ---- exchanges of a routine of F
 
@@ -374,6 +427,22 @@ E4 = record {
   second = none;
   wrote = [];
   reanalyzed = none;
+}
+
+-- E5: in what P6 leaves, main exchanged so that it calls routine 1 again: the drop reanalyzes 0, and by the add 1 gains
+abbrev pub E5 : Changed
+E5 = record {
+  file = P6 .wrote;
+  size = 54;
+  before = P6 .after;
+  form = ExchangeText;
+  text = "520003" ∷ "5300004102" ∷ "5300020101" ∷ [];
+  room = 54;
+  refused = 0;
+  after = P6 .after;
+  second = some ofF;
+  wrote = F;
+  reanalyzed = some 3;
 }
 
 -- ---- calls and returns that the rule hears
@@ -602,7 +671,8 @@ S8 = record {
 
 abbrev pub table : List Case
 table = fresh P1 ∷ fresh P2 ∷ fresh P3 ∷ fresh P4 ∷ changed P5 ∷ changed P6 ∷ fresh P7 ∷ changed P8
-    ∷ changed P9 ∷ changed P10 ∷ changed E1 ∷ changed E2 ∷ changed E3 ∷ changed E4
+    ∷ changed P9 ∷ changed P10 ∷ changed R1 ∷ changed R2 ∷ fresh T1
+    ∷ changed E1 ∷ changed E2 ∷ changed E3 ∷ changed E4 ∷ changed E5
     ∷ fresh H1 ∷ fresh H2 ∷ fresh H3 ∷ fresh H4 ∷ changed H5 ∷ changed H6
     ∷ limited L1 ∷ limited L2 ∷ limited L3 ∷ limited L4
     ∷ changed S1 ∷ changed S2 ∷ changed S3 ∷ fresh S4 ∷ asked S5 ∷ asked S6 ∷ asked S7 ∷ changed S8 ∷ []
