@@ -1,7 +1,7 @@
--- The numbers of a well-formed program's frames fit a byte, and none of these frames is a row.
+-- The numbers of the frames of a well-formed program and rows fit a byte, and the rows of these frames are the rows.
 use mathlib.Core.Path.{_≡_, refl, ap}
 use mathlib.Core.Bool.{Bool, true, false, cond, _&&_}
-use mathlib.Core.List.{List, [], _∷_, _++_, map}
+use mathlib.Core.List.{List, [], _∷_, _++_, map, append-nil}
 use Prim.Native.Nat.{ℕ, _+_, _≤_, _<_}
 use native.Mathlib.Omega.{arith}
 use lib.Dec.{ltb, eqb}
@@ -9,17 +9,18 @@ use lib.ListN.{length, getD}
 use borrow.Author.Tests.{ltb-true}
 use Rattle.text.specs.Lines.{Bytes, lineOf}
 use Rattle.automaton.specs.Automaton.{Transition}
-use Rattle.program.specs.Sizes.{maxFrames}
+use Rattle.rows.specs.Rows.{TableRow, rowFits}
 use Rattle.program.specs.Program.{Edge, Program, within, placed, edgeFits, transitionFits}
-use Rattle.program.specs.Frames.{kind, edgeFrame, transitionFrame, initialFrame, rejectingFrame, endFrame}
+use Rattle.program.specs.Frames.{kind, edgeFrame, transitionFrame, rowFrame, initialFrame, rejectingFrame, endFrame}
 use Rattle.program.specs.Reading.{rowIn}
-use Rattle.program.specs.WellFormed.{All, WellFormed}
-use Rattle.program.specs.Writing.{nodesFrames, framesOf}
+use Rattle.program.specs.WellFormed.{All, WellFormed, WellFormedRows}
+use Rattle.program.specs.Writing.{nodesFrames, ruleFrames, framesWith}
 use Rattle.program.proofs.SectionsAscend.{all-at}
 use Rattle.program.proofs.LinesJudged.{at-most}
 use Rattle.base.proofs.Bools.{both}
 use Rattle.automaton.proofs.LabelsFit.{label-small}
-use Rattle.program.proofs.ProgramLimits.{Limits, transition-small, length-frames, well-formed-limits}
+use Rattle.program.proofs.ProgramLimits.{Limits, transition-small, frames-most, well-formed-limits}
+use Rattle.program.proofs.RowsFramed.{row-read, row-bytes}
 use Rattle.program.proofs.FilesAsFrames.{Frames, rowsOf}
 
 bytes-first : (f : List ℕ) (fs : List (List ℕ)) → Bytes f → Frames fs → Frames (f ∷ fs)
@@ -41,38 +42,42 @@ unfolding Frames All nodesFrames
 bytes-nodes f [] h a = tt
 bytes-nodes f (n ∷ ns) h a = let z = at-most 2 64 n (a .0) in (omega arith, bytes-nodes (f + 1) ns (omega arith) (a .1))
 
--- ---- no frame of a program is a row
+-- ---- the rows of some frames
 
-rows-append : (q : ℕ) (fs gs : List (List ℕ)) → rowsOf q fs ≡ [] → rowsOf q gs ≡ [] → rowsOf q (fs ++ gs) ≡ []
+rows-append : (q : ℕ) (fs gs : List (List ℕ)) → rowsOf q (fs ++ gs) ≡ rowsOf q fs ++ rowsOf q gs
 unfolding rowsOf
-rows-append q [] gs a b = b
-rows-append q (f ∷ fs) gs a b = go (eqb (kind (lineOf f)) 5) (λ e. rows-append q fs gs e b) a
+rows-append q [] gs = refl
+rows-append q (f ∷ fs) gs = rw (rows-append q fs gs) (go (eqb (kind (lineOf f)) 5))
   where
-    go : (t : Bool) → (rowsOf q fs ≡ [] → rowsOf q (fs ++ gs) ≡ []) → cond t (rowIn q (lineOf f) ∷ rowsOf q fs) (rowsOf q fs) ≡ []
-        → cond t (rowIn q (lineOf f) ∷ rowsOf q (fs ++ gs)) (rowsOf q (fs ++ gs)) ≡ []
-    go true on a = absurd (let z = ap length a in omega arith)
-    go false on a = on a
+    go : (t : Bool) → cond t (rowIn q (lineOf f) ∷ (rowsOf q fs ++ rowsOf q gs)) (rowsOf q fs ++ rowsOf q gs) ≡ cond t (rowIn q (lineOf f) ∷ rowsOf q fs) (rowsOf q fs) ++ rowsOf q gs
+    go true = refl
+    go false = refl
 
-rows-map : {A : Type 0} (q : ℕ) (frame : A → List ℕ) → ((x : A) → eqb (kind (lineOf (frame x))) 5 ≡ false) → (xs : List A) → rowsOf q (map frame xs) ≡ []
+no-rows : {A : Type 0} (q : ℕ) (frame : A → List ℕ) → ((x : A) → eqb (kind (lineOf (frame x))) 5 ≡ false) → (xs : List A) → rowsOf q (map frame xs) ≡ []
 unfolding rowsOf
-rows-map q frame h [] = refl
-rows-map q frame h (x ∷ xs) = rw (h x, rows-map q frame h xs)
+no-rows q frame h [] = refl
+no-rows q frame h (x ∷ xs) = rw (h x, no-rows q frame h xs)
 
 rows-nodes : (q f : ℕ) (ns : List ℕ) → rowsOf q (nodesFrames f ns) ≡ []
 unfolding rowsOf nodesFrames
 rows-nodes q f [] = refl
 rows-nodes q f (n ∷ ns) = rows-nodes q (f + 1) ns
 
-pub no-row-framed : (q : ℕ) (p : Program) → rowsOf q (framesOf p ++ endFrame (length (framesOf p)) ∷ []) ≡ []
-unfolding rowsOf framesOf
-no-row-framed q p =
-    rows-append q (framesOf p) (endFrame (length (framesOf p)) ∷ [])
-    (rows-append q (nodesFrames 0 (p .nodes)) _ (rows-nodes q 0 (p .nodes))
-    (rows-append q (map edgeFrame (p .edges)) _ (rows-map q edgeFrame (λ x. refl) (p .edges))
-    (rows-append q (map transitionFrame (p .automaton .transitions)) _ (rows-map q transitionFrame (λ x. refl) (p .automaton .transitions))
-    (rows-append q (map initialFrame (p .automaton .initial)) _ (rows-map q initialFrame (λ x. refl) (p .automaton .initial))
-    (rows-map q rejectingFrame (λ x. refl) (p .automaton .rejecting))))))
-    refl
+rows-rows : (q : ℕ) (rs : List TableRow) → rowsOf q (map (rowFrame q) rs) ≡ rs
+unfolding rowsOf
+rows-rows q [] = refl
+rows-rows q (r ∷ rs) = rw (row-read q r, rows-rows q rs)
+
+rows-rule : (q : ℕ) (ts : List Transition) (rs : List TableRow) → rowsOf q (ruleFrames q ts rs) ≡ rs
+rows-rule q ts [] = no-rows q transitionFrame (λ x. refl) ts
+rows-rule q ts (r ∷ rs) = rows-rows q (r ∷ rs)
+
+pub rows-framed : (p : Program) (rs : List TableRow) (n : ℕ) → rowsOf (p .automaton .states) (framesWith p rs ++ endFrame n ∷ []) ≡ rs
+unfolding rowsOf framesWith
+rows-framed p rs n =
+    let q = p .automaton .states in
+    let ts = p .automaton .transitions in
+    simp (rows-append, rows-nodes, no-rows q edgeFrame (λ x. refl), rows-rule q ts rs, no-rows q initialFrame (λ x. refl), no-rows q rejectingFrame (λ x. refl), append-nil)
 
 -- ---- for a well-formed program
 
@@ -106,19 +111,26 @@ module _ (p : Program) (w : WellFormed p) where
   pub state-bytes : (b q : ℕ) → b < 256 → ltb q (p .automaton .states) ≡ true → Bytes (b ∷ q ∷ [])
   state-bytes b q h f = omega (arith, limit, ltb-true q (p .automaton .states) f)
 
-  sections-bytes : Frames (framesOf p)
-  unfolding framesOf
-  sections-bytes =
-      let state : ℕ → Bool = λ q. ltb q (p .automaton .states) in
-      let nodes = bytes-nodes 0 (p .nodes) (omega (arith, limit)) (w .nodes-fit) in
-      let edges = bytes-map edgeFrame (edgeFits p) edge-bytes (p .edges) (w .edges-fit) in
-      let transitions = bytes-map transitionFrame (transitionFits p) transition-bytes (p .automaton .transitions) (w .transitions-fit) in
-      let initial = bytes-map initialFrame state (λ q. state-bytes 0x49 q (omega arith)) (p .automaton .initial) (w .initial-fit) in
-      let rejecting = bytes-map rejectingFrame state (λ q. state-bytes 0x46 q (omega arith)) (p .automaton .rejecting) (w .rejecting-fit) in
-      bytes-first _ _ (omega (arith, limit)) (bytes-append _ _ nodes (bytes-append _ _ edges (bytes-append _ _ transitions (bytes-append _ _ initial rejecting))))
+  module _ (rs : List TableRow) (v : WellFormedRows p rs) where
+    rule-bytes : Frames (ruleFrames (p .automaton .states) (p .automaton .transitions) rs)
+    rule-bytes = go rs (v .rows-fit)
+      where
+        go : (rs : List TableRow) → All (rowFits (p .automaton)) rs → Frames (ruleFrames (p .automaton .states) (p .automaton .transitions) rs)
+        go [] a = bytes-map transitionFrame (transitionFits p) transition-bytes (p .automaton .transitions) (w .transitions-fit)
+        go (r ∷ rs) a = bytes-map (rowFrame (p .automaton .states)) (rowFits (p .automaton)) (row-bytes p limit) (r ∷ rs) a
 
-  pub all-bytes : Frames (framesOf p ++ endFrame (length (framesOf p)) ∷ [])
-  unfolding Frames
-  all-bytes =
-      let n : length (framesOf p) ≤ maxFrames = omega (arith, length-frames p, limit) in
-      bytes-append (framesOf p) _ sections-bytes (omega arith)
+    sections-bytes : Frames (framesWith p rs)
+    unfolding framesWith
+    sections-bytes =
+        let state : ℕ → Bool = λ q. ltb q (p .automaton .states) in
+        let nodes = bytes-nodes 0 (p .nodes) (omega (arith, limit)) (w .nodes-fit) in
+        let edges = bytes-map edgeFrame (edgeFits p) edge-bytes (p .edges) (w .edges-fit) in
+        let initial = bytes-map initialFrame state (λ q. state-bytes 0x49 q (omega arith)) (p .automaton .initial) (w .initial-fit) in
+        let rejecting = bytes-map rejectingFrame state (λ q. state-bytes 0x46 q (omega arith)) (p .automaton .rejecting) (w .rejecting-fit) in
+        bytes-first _ _ (omega (arith, limit)) (bytes-append _ _ nodes (bytes-append _ _ edges (bytes-append _ _ rule-bytes (bytes-append _ _ initial rejecting))))
+
+    pub all-bytes : Frames (framesWith p rs ++ endFrame (length (framesWith p rs)) ∷ [])
+    unfolding Frames
+    all-bytes =
+        let n = frames-most p rs limit (v .rows-limited) in
+        bytes-append (framesWith p rs) _ sections-bytes (omega arith)

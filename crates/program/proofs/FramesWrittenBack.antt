@@ -4,7 +4,7 @@ use mathlib.Core.Bool.{Bool, true, false, cond}
 use mathlib.Core.Logic.{_≢_}
 use mathlib.Core.Option.{some}
 use mathlib.Core.List.{List, [], _∷_, _++_, map, append-nil, append-assoc, map-append}
-use Prim.Native.Nat.{ℕ, zero, suc, _+_, _-_, _/_, _%_, _≤_, _<_}
+use Prim.Native.Nat.{ℕ, zero, suc, _+_, _-_, _*_, _/_, _%_, _≤_, _<_}
 use native.Mathlib.Omega.{arith}
 use native.Mathlib.Nat.{zero-add}
 use lib.Dec.{ltb, eqb}
@@ -13,18 +13,19 @@ use lib.ListN.{length, getD, length-append, drop-of-length-le}
 use lib.Seq.{append-snoc}
 use Rattle.text.specs.Lines.{lines, Bytes, pad, maxNumbers, lineOf}
 use Rattle.text.specs.declared.Line.{Line}
+use Rattle.automaton.specs.Automaton.{Transition}
 use Rattle.program.specs.Program.{Program}
 use Rattle.program.specs.Chosen.{sizesFit}
-use Rattle.program.specs.Frames.{kindOrder, rowSize, size, num, kind, word, rest, keyOf, nodesFrame, edgeFrame, transitionFrame, initialFrame, rejectingFrame, endFrame, edgeKey, transitionKey, initialKey, rejectingKey}
-use Rattle.program.specs.WellFormed.{WellFormed}
-use Rattle.program.specs.Writing.{nodesFrames, framesOf, text, written}
-use Rattle.program.specs.Reading.{Progress, start, rowIn, more, accepted, refused, judge, programAfter, afterAs, after, pairsOf, withTransitions, sizesDecide, tableDecides, finished, readFrom, readFile, rowsFrom, rowsIn}
+use Rattle.program.specs.Frames.{kindOrder, rowSize, size, num, kind, word, rest, packed, keyOf, nodesFrame, edgeFrame, transitionFrame, actionNumbers, rowFrame, initialFrame, rejectingFrame, endFrame, edgeKey, transitionKey, rowKey, initialKey, rejectingKey}
+use Rattle.program.specs.WellFormed.{WellFormed, WellFormedRows}
+use Rattle.program.specs.Writing.{nodesFrames, ruleFrames, framesWith, text, writtenWith}
+use Rattle.program.specs.Reading.{Progress, start, transitionIn, rowIn, more, accepted, refused, judge, programAfter, afterAs, after, pairsOf, withTransitions, sizesDecide, tableDecides, finished, readFrom, readFile, rowsFrom, rowsIn}
 use Rattle.rows.specs.Rows.{TableRow, tableRefusal, tableTransitions}
 use Rattle.program.specs.declared.Verdict.the-variants.{Accepted}
-use Rattle.program.proofs.SectionsAscend.{Rising, none-yet}
-use Rattle.program.proofs.LinesJudged.{padded, either, byteOf, kind-ordered, by-kind, Met, met}
+use Rattle.program.proofs.SectionsAscend.{Rising, rising-ascending, none-yet}
+use Rattle.program.proofs.LinesJudged.{padded, bytes-small, either, byteOf, kind-ordered, by-kind, Met, met}
 use Rattle.program.proofs.ProgressSound.{Begun, Sound, start-sound, after-sound, ended-begun, sound-accepted}
-use Rattle.program.proofs.TableWellFormed.{table-well-formed}
+use Rattle.program.proofs.TableWellFormed.{TableOf, table-well-formed}
 use Rattle.program.proofs.FilesAsFrames.{readFrames, rowsOf, Frames, going, read-text, rows-text, accepted-text}
 
 -- ---- a frame, from the line that is kept of it
@@ -57,18 +58,11 @@ frame-is s (x ∷ f) m =
     let e : size q (kindOrder x) - 1 ≡ length f = omega (arith, m .counted) in
     rw (e, ← (kind-ordered x .byte (m .known))) (ap (λ (t : List ℕ). x ∷ t) (spelled 7 f (omega (arith, m .counted, size-small q (kindOrder x)))))
 
-bytes-small : (m : ℕ) (f : List ℕ) (i : ℕ) → Bytes f → getD (pad m f) i 0 < 256
-bytes-small zero f i b = omega arith
-bytes-small (suc m) [] zero b = omega arith
-bytes-small (suc m) [] (suc i) b = bytes-small m [] i b
-bytes-small (suc m) (x ∷ f) zero b = b .0
-bytes-small (suc m) (x ∷ f) (suc i) b = bytes-small m f i (b .1)
-
 -- ---- one frame more
 
 -- the frames after the header
-abbrev sections : Program → List (List ℕ)
-sections p = nodesFrames 0 (p .nodes) ++ (map edgeFrame (p .edges) ++ (map transitionFrame (p .automaton .transitions)
+abbrev sections : Program → List TableRow → List (List ℕ)
+sections p rs = nodesFrames 0 (p .nodes) ++ (map edgeFrame (p .edges) ++ (ruleFrames (p .automaton .states) (p .automaton .transitions) rs
     ++ (map initialFrame (p .automaton .initial) ++ map rejectingFrame (p .automaton .rejecting))))
 
 nodes-more : (f : ℕ) (ns : List ℕ) (n : ℕ) → nodesFrames f (ns ++ n ∷ []) ≡ nodesFrames f ns ++ nodesFrame (f + length ns) n ∷ []
@@ -78,21 +72,65 @@ nodes-more f (m ∷ ns) n =
     let e : f + 1 + length ns ≡ f + suc (length ns) = omega arith in
     rw (nodes-more (f + 1) ns n, e)
 
+-- a transition comes where there is no row, and a row where there is no transition
+rule-on : (q : ℕ) (ts : List Transition) (rs : List TableRow) (t : Transition) → rs ≡ [] → ruleFrames q (ts ++ t ∷ []) rs ≡ ruleFrames q ts rs ++ transitionFrame t ∷ []
+rule-on q ts rs t e = rw e (map-append transitionFrame ts (t ∷ []))
+
+rule-more : (q : ℕ) (ts : List Transition) (rs : List TableRow) (x : TableRow) → ts ≡ [] → ruleFrames q ts (rs ++ x ∷ []) ≡ ruleFrames q ts rs ++ rowFrame q x ∷ []
+rule-more q ts [] x e = rw e
+rule-more q ts (r ∷ rs) x e = map-append (rowFrame q) (r ∷ rs) (x ∷ [])
+
 module _ (s : Progress) (l : Line) (bytes : (i : ℕ) → num l i < 256) (b : Begun s) where
+  abbrev there : ℕ
+  there = s .program .automaton .states
+
+  -- the frame of a row is the line's
+  row-framed : rowFrame there (rowIn there l) ≡ frameAs there 5 l
+  row-framed = go (ltb 8 there) refl
+    where
+      four : (a b c d : ℕ) → a < 256 → b < 256 → c < 256 → d < 256 → actionNumbers (packed a b c d) ≡ a ∷ b ∷ c ∷ d ∷ []
+      four a b c d h i j k =
+          let w : packed a b c d / 0x1000000 ≡ a = omega arith in
+          let x : packed a b c d / 0x10000 % 256 ≡ b = omega arith in
+          let y : packed a b c d / 0x100 % 256 ≡ c = omega arith in
+          let z : packed a b c d % 256 ≡ d = omega arith in
+          rw (w, x, y, z)
+
+      go : (t : Bool) → ltb 8 there ≡ t → rowFrame there (rowIn there l) ≡ frameAs there 5 l
+      go true e =
+          let w : (num l 1 * 256 + num l 2) / 256 ≡ num l 1 = omega (arith, bytes 2) in
+          let x : (num l 1 * 256 + num l 2) % 256 ≡ num l 2 = omega (arith, bytes 2) in
+          rw (e, w, x) (ap (λ (t : List ℕ). 0x55 ∷ num l 1 ∷ num l 2 ∷ (t ++ num l 7 ∷ [])) (four (num l 3) (num l 4) (num l 5) (num l 6) (bytes 3) (bytes 4) (bytes 5) (bytes 6)))
+      go false e =
+          rw e (ap (λ (t : List ℕ). 0x55 ∷ num l 1 ∷ (t ++ num l 6 ∷ [])) (four (num l 2) (num l 3) (num l 4) (num l 5) (bytes 2) (bytes 3) (bytes 4) (bytes 5)))
+
   -- sections after the frame's own are empty
   empty : {A : Type 0} (key : A → ℕ) (xs : List A) (j k : ℕ) → ((x : A) → keyOf j 0 0 ≤ key x) → k < j → s .last < keyOf k (word l) (rest l) → Rising 0 (map key xs) (s .last) → xs ≡ []
   empty key xs j k h z m r = none-yet key 0 (s .last) xs (λ x. omega (arith, h x, bytes 1, bytes 2, bytes 3, bytes 4, bytes 5, bytes 6, bytes 7)) r
 
-  one-more : (k : ℕ) → 1 < k → k ≤ 8 → Met s k l → eqb k 5 ≡ false → sections (programAfter (s .program) k l) ≡ cond (eqb k 8) (sections (s .program)) (sections (s .program) ++ frameAs (s .program .automaton .states) k l ∷ [])
-  one-more = by-kind (λ k. Met s k l → eqb k 5 ≡ false → sections (programAfter (s .program) k l) ≡ cond (eqb k 8) (sections (s .program)) (sections (s .program) ++ frameAs (s .program .automaton .states) k l ∷ []))
-      (λ m t. rw (no-edges 2 m (omega arith), no-transitions 2 m (omega arith), no-initial 2 m (omega arith), no-rejecting 2 m (omega arith), nodes-more 0 (s .program .nodes) (num l 2))
+  -- the rows after a line of the kind at this place
+  abbrev rowsThen : ℕ → List TableRow
+  rowsThen k = more (eqb k 5) (rowIn there l) (s .rows)
+
+  abbrev OneMore : ℕ → Type 0
+  OneMore k = Met s k l → sections (programAfter (s .program) k l) (rowsThen k)
+      ≡ cond (eqb k 8) (sections (s .program) (s .rows)) (sections (s .program) (s .rows) ++ frameAs there k l ∷ [])
+
+  one-more : (k : ℕ) → 1 < k → k ≤ 8 → OneMore k
+  one-more = by-kind OneMore
+      (λ m. rw (no-edges 2 m (omega arith), no-rows 2 m (omega arith), no-transitions 2 m (omega arith), no-initial 2 m (omega arith), no-rejecting 2 m (omega arith), nodes-more 0 (s .program .nodes) (num l 2))
       (simp (append-nil, zero-add, m .nodes refl .0)))
-      (λ m t. rw (no-transitions 3 m (omega arith), no-initial 3 m (omega arith), no-rejecting 3 m (omega arith)) (simp (map-append, append-nil, append-assoc)))
-      (λ m t. rw (no-initial 4 m (omega arith), no-rejecting 4 m (omega arith)) (simp (map-append, append-nil, append-assoc)))
-      (λ m t. absurd (let z : _≡_ {A = ℕ} 0 1 = cc in omega arith))
-      (λ m t. rw (no-rejecting 6 m (omega arith)) (simp (map-append, append-nil, append-assoc)))
-      (λ m t. simp (map-append, append-assoc))
-      (λ m t. refl)
+      (λ m. rw (no-rows 3 m (omega arith), no-transitions 3 m (omega arith), no-initial 3 m (omega arith), no-rejecting 3 m (omega arith)) (simp (map-append, append-nil, append-assoc)))
+      (λ m.
+      rw (no-initial 4 m (omega arith), no-rejecting 4 m (omega arith), rule-on there (s .program .automaton .transitions) (s .rows) (transitionIn l) (no-rows 4 m (omega arith)))
+      (simp (append-nil, append-assoc)))
+      (λ m.
+      let none : s .program .automaton .transitions ≡ [] = drop-of-length-le (s .program .automaton .transitions) {i = 0} (omega (arith, m .row refl .1)) in
+      rw (no-initial 5 m (omega arith), no-rejecting 5 m (omega arith), rule-more there (s .program .automaton .transitions) (s .rows) (rowIn there l) none, row-framed)
+      (simp (append-nil, append-assoc)))
+      (λ m. rw (no-rejecting 6 m (omega arith)) (simp (map-append, append-nil, append-assoc)))
+      (λ m. simp (map-append, append-assoc))
+      (λ m. refl)
     where
       no-edges : (k : ℕ) → Met s k l → k < 3 → s .program .edges ≡ []
       no-edges k m z = empty edgeKey _ 3 k (λ x. omega arith) z (m .later) (b .edges .rise)
@@ -100,16 +138,19 @@ module _ (s : Progress) (l : Line) (bytes : (i : ℕ) → num l i < 256) (b : Be
       no-transitions : (k : ℕ) → Met s k l → k < 4 → s .program .automaton .transitions ≡ []
       no-transitions k m z = empty transitionKey _ 4 k (λ x. omega arith) z (m .later) (b .transitions .rise)
 
+      no-rows : (k : ℕ) → Met s k l → k < 5 → s .rows ≡ []
+      no-rows k m z = empty (rowKey there) _ 5 k (λ x. omega arith) z (m .later) (b .rows .rise)
+
       no-initial : (k : ℕ) → Met s k l → k < 6 → s .program .automaton .initial ≡ []
       no-initial k m z = empty initialKey _ 6 k (λ x. omega arith) z (m .later) (b .initial .rise)
 
       no-rejecting : (k : ℕ) → Met s k l → k < 7 → s .program .automaton .rejecting ≡ []
       no-rejecting k m z = empty rejectingKey _ 7 k (λ x. omega arith) z (m .later) (b .rejecting .rise)
 
-  frames-after : (k : ℕ) (f : List ℕ) → 1 < k → k ≤ 8 → Met s k l → eqb k 5 ≡ false → f ≡ frameAs (s .program .automaton .states) k l
-      → framesOf (programAfter (s .program) k l) ≡ cond (eqb k 8) (framesOf (s .program)) (framesOf (s .program) ++ f ∷ [])
-  unfolding framesOf
-  frames-after k f h j m t e = rw (ne-eqb k 1 (λ i. omega arith), e) (go (eqb k 8) _ _ _ _ (one-more k h j m t))
+  frames-after : (k : ℕ) (f : List ℕ) → 1 < k → k ≤ 8 → Met s k l → f ≡ frameAs there k l
+      → framesWith (programAfter (s .program) k l) (rowsThen k) ≡ cond (eqb k 8) (framesWith (s .program) (s .rows)) (framesWith (s .program) (s .rows) ++ f ∷ [])
+  unfolding framesWith
+  frames-after k f h j m e = rw (e, ne-eqb k 1 (λ i. omega arith)) (go (eqb k 8) _ _ _ _ (rw (ne-eqb k 1 (λ i. omega arith)) at (one-more k h j m)))
     where
       go : (t : Bool) (x : List ℕ) (a b c : List (List ℕ)) → a ≡ cond t b c → x ∷ a ≡ cond t (x ∷ b) (x ∷ c)
       go true x a b c e = ap (λ (d : List (List ℕ)). x ∷ d) e
@@ -121,8 +162,8 @@ module _ (s : Progress) (l : Line) (bytes : (i : ℕ) → num l i < 256) (b : Be
 record Read (s : Progress) (done : List (List ℕ)) : Type 0 where
   count : length done ≡ s .frames
   rows : s .rows ≡ rowsOf (s .program .automaton .states) done
-  so-far : 0 < s .frames → s .ended ≡ false → s .rows ≡ [] → framesOf (s .program) ≡ done
-  whole : s .ended ≡ true → s .rows ≡ [] → framesOf (s .program) ++ endFrame (length (framesOf (s .program))) ∷ [] ≡ done
+  so-far : 0 < s .frames → s .ended ≡ false → framesWith (s .program) (s .rows) ≡ done
+  whole : s .ended ≡ true → framesWith (s .program) (s .rows) ++ endFrame (length (framesWith (s .program) (s .rows))) ∷ [] ≡ done
 
 nothing-read : Read start []
 unfolding rowsOf
@@ -130,15 +171,9 @@ nothing-read =
     record {
       count = refl;
       rows = refl;
-      so-far = λ h e t. absurd (omega arith);
-      whole = λ e t. absurd (let z : _≡_ {A = ℕ} 0 1 = cc in omega arith);
+      so-far = λ h e. absurd (omega arith);
+      whole = λ e. absurd (let z : _≡_ {A = ℕ} 0 1 = cc in omega arith);
     }
-
--- no row was there, and none has come
-no-row : (t : Bool) (x : TableRow) (xs : List TableRow) → more t x xs ≡ [] → (t ≡ false) × (xs ≡ [])
-no-row false x xs e = (refl, e)
-no-row true x [] e = absurd (let z : _≡_ {A = ℕ} 1 0 = ap length e in omega arith)
-no-row true x (y ∷ xs) e = absurd (let z = ap length e in omega arith)
 
 -- one frame more is one row more, if it is one
 rows-more : (q : ℕ) (fs : List (List ℕ)) (f : List ℕ) → rowsOf q (fs ++ f ∷ []) ≡ more (eqb (kind (lineOf f)) 5) (rowIn q (lineOf f)) (rowsOf q fs)
@@ -172,34 +207,32 @@ module _ (s : Progress) (done : List (List ℕ)) (f : List ℕ) (l : Line) (byte
   rows-after k t = rw (r .rows) (sym (t states))
 
   header-read : Met s 1 l → f ≡ frameAs (s .program .automaton .states) 1 l → RowBy 1 → Read (afterAs s 1 l) (done ++ f ∷ [])
-  unfolding afterAs framesOf nodesFrames rowsOf
+  unfolding afterAs framesWith nodesFrames rowsOf
   header-read m e t =
       let z = m .header refl .0 in
       let d : done ≡ [] = drop-of-length-le done {i = 0} (omega (arith, r .count)) in
       record {
         count = counted;
         rows = rw (g .fresh z, d) (rw d at (sym (t (num l 2))));
-        so-far = λ h n u. rw (g .fresh z, d) (ap (λ (t : List ℕ). t ∷ []) (sym e));
-        whole = λ n u. absurd (let z : _≡_ {A = ℕ} 0 1 = cc in omega arith);
+        so-far = λ h n. rw (g .fresh z, d) (ap (λ (t : List ℕ). t ∷ []) (sym e));
+        whole = λ n. absurd (let z : _≡_ {A = ℕ} 0 1 = cc in omega arith);
       }
 
   later-read : (k : ℕ) → 1 < k → k ≤ 8 → Met s k l → f ≡ frameAs (s .program .automaton .states) k l → RowBy k → Read (afterAs s k l) (done ++ f ∷ [])
   unfolding afterAs
   later-read k h j m e t =
       let z = m .begun h in
-      let none : more (eqb k 5) (rowIn states l) (s .rows) ≡ [] → (eqb k 5 ≡ false) × (s .rows ≡ []) = no-row (eqb k 5) (rowIn states l) (s .rows) in
-      let w : (u : more (eqb k 5) (rowIn states l) (s .rows) ≡ []) → framesOf (programAfter (s .program) k l) ≡ cond (eqb k 8) (framesOf (s .program)) (framesOf (s .program) ++ f ∷ []) =
-      λ u. frames-after s l bytes (g .begun z) k f h j m (none u .0) e in
-      let q : more (eqb k 5) (rowIn states l) (s .rows) ≡ [] → framesOf (s .program) ≡ done = λ u. r .so-far z o (none u .1) in
+      let w = frames-after s l bytes (g .begun z) k f h j m e in
+      let q = r .so-far z o in
       record {
         count = counted;
         rows = rw (ne-eqb k 1 (λ i. omega arith)) (rows-after k t);
-        so-far = λ a n u. (rw n at (w u)) ∙ ap (λ (t : List (List ℕ)). t ++ f ∷ []) (q u);
-        whole = λ n u.
+        so-far = λ a n. (rw n at w) ∙ ap (λ (t : List (List ℕ)). t ++ f ∷ []) q;
+        whole = λ n.
             let i = eqb-true k 8 n in
             let x : length done / 256 ≡ num l 1 = omega (arith, m .end i, r .count, bytes 2) in
             let y : length done % 256 ≡ num l 2 = omega (arith, m .end i, r .count, bytes 2) in
-            rw ((rw n at (w u)) ∙ q u, x, y, e, i);
+            rw ((rw n at w) ∙ q, x, y, e, i);
       }
 
   by-kind-read : (k : ℕ) → k ≤ 8 → Met s k l → f ≡ frameAs (s .program .automaton .states) k l → RowBy k → Read (afterAs s k l) (done ++ f ∷ [])
@@ -216,16 +249,14 @@ after-read s done f b g r o j =
 
 -- ---- to the end
 
--- the table of these rows is accepted, and its transitions are the program's
-pub record TableOf (p : Program) (rs : List TableRow) : Type 0 where
-  pub met : tableRefusal rs (pairsOf p) ≡ 0
-  pub transitions : p .automaton .transitions ≡ tableTransitions rs (pairsOf p)
-
--- the program is well-formed; without a row it is written as these frames, and with rows its transitions are the table's
+-- the program is well-formed, its rows too, and with these it is written as these frames; where there are rows, they are its table
 pub record ReadAs (p : Program) (fs : List (List ℕ)) : Type 0 where
+  pub rs : List TableRow
+  pub rows-there : rowsOf (p .automaton .states) fs ≡ rs
   pub well-formed : WellFormed p
-  pub frames : rowsOf (p .automaton .states) fs ≡ [] → framesOf p ++ endFrame (length (framesOf p)) ∷ [] ≡ fs
-  pub table : rowsOf (p .automaton .states) fs ≢ [] → TableOf p (rowsOf (p .automaton .states) fs)
+  pub rows : WellFormedRows p rs
+  pub frames : framesWith p rs ++ endFrame (length (framesWith p rs)) ∷ [] ≡ fs
+  pub table : rs ≢ [] → TableOf p rs
 
 -- where the sizes accept a program they fit, and it is the one that they were asked for
 sizes-accept : (p : Program) → sizesDecide p .verdict ≡ Accepted → (sizesFit p ≡ true) × (sizesDecide p ≡ accepted p)
@@ -235,13 +266,21 @@ sizes-accept p h = go (sizesFit p) refl h
     go true e h = (e, refl)
     go false e h = absurd (let z : _≡_ {A = ℕ} 0 1 = cc in omega arith)
 
+-- with rows the transitions are not written
+rows-framed : (p : Program) (ts : List Transition) (x : TableRow) (rs : List TableRow) → framesWith (withTransitions p ts) (x ∷ rs) ≡ framesWith p (x ∷ rs)
+unfolding framesWith
+rows-framed p ts x rs = refl
+
 -- every line is good
 ends : (s : Progress) (done : List (List ℕ)) → Sound s → Read s done → s .ended ≡ true → finished (s .rows) (s .program) .verdict ≡ Accepted
     → ReadAs (finished (s .rows) (s .program) .program) done
 ends s done g r e h = go (s .rows) refl h
   where
-    none : {A : Type 0} (x : TableRow) (rs : List TableRow) → s .rows ≡ x ∷ rs → rowsOf (s .program .automaton .states) done ≡ [] → A
-    none x rs i u = absurd (let z : _≡_ {A = ℕ} 0 (suc (length rs)) = ap length (sym u ∙ sym (r .rows) ∙ i) in omega arith)
+    b : Begun s
+    b = ended-begun s g e
+
+    rows-good : WellFormedRows (s .program) (s .rows)
+    rows-good = record { rows-fit = b .rows .fit; rows-ascend = rising-ascending 0 _ (s .last) (b .rows .rise); rows-limited = b .rows-limited }
 
     by-table : (x : TableRow) (rs : List TableRow) → s .rows ≡ x ∷ rs → (t : Bool) → eqb (tableRefusal (x ∷ rs) (pairsOf (s .program))) 0 ≡ t
         → tableDecides t (tableRefusal (x ∷ rs) (pairsOf (s .program))) (x ∷ rs) (s .program) .verdict ≡ Accepted
@@ -249,17 +288,29 @@ ends s done g r e h = go (s .rows) refl h
     by-table x rs i false t h = absurd (let z : _≡_ {A = ℕ} 0 1 = cc in omega arith)
     by-table x rs i true t h =
         let v = sizes-accept (withTransitions (s .program) (tableTransitions (x ∷ rs) (pairsOf (s .program)))) h in
+        let w = rw i at rows-good in
         rw (v .1)
         (record {
-          well-formed = table-well-formed (s .program) (sound-accepted s g e (v .0)) (x ∷ rs) (rw i at (ended-begun s g e .rows-fit));
-          frames = none x rs i;
-          table = λ u. rw (← (r .rows), i) (record { met = eqb-true _ 0 t; transitions = refl });
+          rs = x ∷ rs;
+          rows-there = sym (r .rows) ∙ i;
+          well-formed = table-well-formed (s .program) (sound-accepted s g e (v .0)) (x ∷ rs) (w .rows-fit);
+          rows = record { rows-fit = w .rows-fit; rows-ascend = w .rows-ascend; rows-limited = w .rows-limited };
+          frames = rw (rows-framed (s .program) (tableTransitions (x ∷ rs) (pairsOf (s .program))) x rs) (rw i at (r .whole e));
+          table = λ u. record { met = eqb-true _ 0 t; transitions = refl };
         })
 
     go : (rs : List TableRow) → s .rows ≡ rs → finished rs (s .program) .verdict ≡ Accepted → ReadAs (finished rs (s .program) .program) done
     go [] i h =
         let v = sizes-accept (s .program) h in
-        rw (v .1) (record { well-formed = sound-accepted s g e (v .0); frames = λ u. r .whole e i; table = λ n. absurd (n (sym (r .rows) ∙ i)) })
+        rw (v .1)
+        (record {
+          rs = [];
+          rows-there = sym (r .rows) ∙ i;
+          well-formed = sound-accepted s g e (v .0);
+          rows = rw i at rows-good;
+          frames = rw i at (r .whole e);
+          table = λ n. absurd (n refl);
+        })
     go (x ∷ rs) i h = by-table x rs i (eqb (tableRefusal (x ∷ rs) (pairsOf (s .program))) 0) refl h
 
 from : (fs done : List (List ℕ)) (s : Progress) → Frames fs → Sound s → Read s done → readFrames s fs .verdict ≡ Accepted → ReadAs (readFrames s fs .program) (done ++ fs)
@@ -287,19 +338,21 @@ module _ (file : List ℕ) where
 
   pub record FileRead : Type 0 where
     pub well-formed : WellFormed itsProgram
-    pub comes-back : rowsIn file ≡ [] → written itsProgram ≡ file
+    pub rows : WellFormedRows itsProgram (rowsIn file)
+    pub comes-back : writtenWith itsProgram (rowsIn file) ≡ file
     pub table : rowsIn file ≢ [] → TableOf itsProgram (rowsIn file)
 
   pub accepted-file : readFile file .verdict ≡ Accepted → FileRead
-  unfolding readFile written
+  unfolding readFile writtenWith
   accepted-file h =
       let w = accepted-text file start h in
       let e = ap (λ (f : List ℕ). readFrom start (lines f)) (w .1) ∙ read-text (w .0) start (w .2) in
       let q = itsProgram .automaton .states in
-      let t : rowsIn file ≡ rowsOf q (w .0) = ap (λ (f : List ℕ). rowsFrom q (lines f)) (w .1) ∙ rows-text q (w .0) (w .2) in
       let r : ReadAs (readFrom start (lines file) .program) (w .0) = rw e (frames-back (w .0) (w .2) (rw e at h)) in
+      let t : rowsIn file ≡ r .rs = ap (λ (f : List ℕ). rowsFrom q (lines f)) (w .1) ∙ rows-text q (w .0) (w .2) ∙ r .rows-there in
       record {
         well-formed = r .well-formed;
-        comes-back = λ u. ap text (r .frames (sym t ∙ u)) ∙ sym (w .1);
-        table = λ u. rw t (r .table (λ z. u (t ∙ z)));
+        rows = rw t (r .rows);
+        comes-back = rw t (ap text (r .frames) ∙ sym (w .1));
+        table = rw t (r .table);
       }

@@ -3,6 +3,7 @@ pub mod ReadingTurns
 pub mod SectionsAscend
 pub mod LinesJudged
 pub mod ProgramLimits
+pub mod RowsFramed
 pub mod ProgramRanged
 pub mod ChosenSizes
 pub mod ProgressSound
@@ -10,6 +11,7 @@ pub mod RefusalsSmall
 pub mod FilesAsFrames
 pub mod FramesFitBytes
 pub mod TableWellFormed
+pub mod TableDetermined
 pub mod FramesWrittenBack
 pub mod FramesReadAgain
 pub mod Theorems

@@ -9,7 +9,7 @@ use lib.Dec.{ltb, leb, eqb}
 use lib.ListN.{length, getD}
 use borrow.Author.Tests.{ltb-true, leb-true, leb-false, eqb-true, eqb-false, ltb-false, not-true, not-false, lt-ltb, ne-eqb}
 use Rattle.base.proofs.Bools.{both}
-use Rattle.text.specs.Lines.{pad, maxNumbers, lineFrom}
+use Rattle.text.specs.Lines.{Bytes, pad, maxNumbers, lineFrom}
 use Rattle.text.specs.declared.Line.{Line}
 use Rattle.program.specs.Program.{within, countsFit, edgeFits, transitionFits}
 use Rattle.program.specs.Frames.{kindOrder, size, num, word, rest, keyOf}
@@ -32,6 +32,14 @@ pad-past (suc n) (x ∷ xs) (suc i) h = pad-past n xs i (omega arith)
 pub padded : (m : Option (List ℕ)) → Padded (lineFrom m)
 padded none = pad-past maxNumbers []
 padded (some xs) = pad-past maxNumbers xs
+
+-- the numbers of a frame of bytes are bytes
+pub bytes-small : (m : ℕ) (f : List ℕ) (i : ℕ) → Bytes f → getD (pad m f) i 0 < 256
+bytes-small zero f i b = omega arith
+bytes-small (suc m) [] zero b = omega arith
+bytes-small (suc m) [] (suc i) b = bytes-small m [] i b
+bytes-small (suc m) (x ∷ f) zero b = b .0
+bytes-small (suc m) (x ∷ f) (suc i) b = bytes-small m f i (b .1)
 
 -- ---- tests
 

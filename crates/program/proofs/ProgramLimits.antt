@@ -13,11 +13,13 @@ use Rattle.text.proofs.RoundTrip.{length-hex}
 use Rattle.automaton.specs.Sizes.{maxStates, maxLabels}
 use Rattle.automaton.specs.Automaton.{Transition, eventFits}
 use Rattle.automaton.proofs.LabelsFit.{event-small}
+use Rattle.rows.specs.Rows.{maxRows, TableRow}
+use Rattle.program.specs.Sizes.{maxFrames}
 use Rattle.program.specs.Program.{Program, within, countsFit, transitionFits}
 use Rattle.program.specs.Frames.{packed, keyOf, nodesFrame, edgeFrame, transitionFrame, initialFrame, rejectingFrame, initialKey, rejectingKey}
 use Rattle.program.specs.WellFormed.{All, WellFormed}
 use Rattle.tables.specs.Keys.{Ascending}
-use Rattle.program.specs.Writing.{nodesFrames, framesOf, text, written}
+use Rattle.program.specs.Writing.{nodesFrames, framesWith, framesOf, text, writtenWith, written}
 use Rattle.program.proofs.SectionsAscend.{few}
 use Rattle.program.proofs.LinesJudged.{at-most}
 use Rattle.base.proofs.Bools.{both}
@@ -59,19 +61,28 @@ limits p c n e t si ai sr ar =
       rejecting = states-few 7 q (p .automaton .rejecting) y sr ar;
     }
 
--- how many frames a program is, without the end frame
-abbrev pub frameCount : Program → ℕ
-frameCount p =
-    1 + length (p .nodes) + length (p .edges) + length (p .automaton .transitions) + length (p .automaton .initial) + length (p .automaton .rejecting)
+-- how many frames a program and rows are, without the end frame
+abbrev pub ruleCount : List Transition → List TableRow → ℕ
+ruleCount ts [] = length ts
+ruleCount ts (r ∷ rs) = length (r ∷ rs)
+
+abbrev pub frameCount : Program → List TableRow → ℕ
+frameCount p rs =
+    1 + length (p .nodes) + length (p .edges) + ruleCount (p .automaton .transitions) rs + length (p .automaton .initial) + length (p .automaton .rejecting)
 
 count-nodes : (f : ℕ) (ns : List ℕ) → length (nodesFrames f ns) ≡ length ns
 unfolding nodesFrames
 count-nodes f [] = refl
 count-nodes f (n ∷ ns) = ap suc (count-nodes (f + 1) ns)
 
-pub length-frames : (p : Program) → length (framesOf p) ≡ frameCount p
-unfolding framesOf
-length-frames p = simp (length-append, length-map, count-nodes) (omega arith)
+pub length-frames : (p : Program) (rs : List TableRow) → length (framesWith p rs) ≡ frameCount p rs
+unfolding framesWith
+length-frames p [] = simp (length-append, length-map, count-nodes) (omega arith)
+length-frames p (r ∷ rs) = simp (length-append, length-map, count-nodes) (omega arith)
+
+pub frames-most : (p : Program) (rs : List TableRow) → Limits p → length rs ≤ maxRows → length (framesWith p rs) ≤ maxFrames
+frames-most p [] l h = omega (arith, length-frames p [], l)
+frames-most p (r ∷ rs) l h = omega (arith, length-frames p (r ∷ rs), l)
 
 pub well-formed-limits : (p : Program) → WellFormed p → Limits p
 well-formed-limits p w =
@@ -124,7 +135,7 @@ nothing = refl
 
 -- 9 for the header, and 16 * 7 + 256 * 11 + 512 * 9 + 16 * 5 + 16 * 5 for the sections
 sections-short : (p : Program) → WellFormed p → length (text (framesOf p)) ≤ 7705
-unfolding framesOf
+unfolding framesWith
 sections-short p w =
     simp (
       text-append,
@@ -140,5 +151,5 @@ sections-short p w =
 
 -- and 7 for the end frame
 pub written-short : (p : Program) → WellFormed p → length (written p) ≤ 7712
-unfolding written
+unfolding writtenWith
 written-short p w = simp (text-append, length-append, length-line, nothing) (omega (arith, sections-short p w))

@@ -12,7 +12,7 @@ use Rattle.automaton.specs.Automaton.{Transition}
 use Rattle.program.specs.Sizes.{maxFrames}
 use Rattle.program.specs.Program.{Program, within, countsFit, edgeFits, transitionFits}
 use Rattle.program.specs.Chosen.{sizesFit}
-use Rattle.program.specs.Frames.{size, num, kind, word, rest, packed, keyOf, edgeKey, transitionKey, initialKey, rejectingKey}
+use Rattle.program.specs.Frames.{size, num, kind, word, rest, packed, keyOf, edgeKey, transitionKey, rowKey, initialKey, rejectingKey}
 use Rattle.program.specs.WellFormed.{All, WellFormed}
 use Rattle.program.specs.Reading.{Progress, start, edgeIn, transitionIn, rowIn, more, judge, programAfter, afterAs, after}
 use Rattle.program.specs.RoomParts.{Room, RoomForRow}
@@ -20,6 +20,7 @@ use Rattle.rows.specs.Rows.{TableRow, rowFits}
 use Rattle.program.proofs.SectionsAscend.{rising-ascending, none-yet, Section, no-section, length-more, limited-more, all-more, section-more}
 use Rattle.program.proofs.LinesJudged.{Padded, at-most, kind-ordered, by-kind, Met, met}
 use Rattle.program.proofs.ProgramLimits.{Limits, limits, transition-small, frameCount}
+use Rattle.program.proofs.RowsFramed.{row-key}
 
 -- ---- after the header
 
@@ -37,12 +38,12 @@ pub record Begun (s : Progress) : Type 0 where
   pub edges-limited : length (s .program .edges) ≤ 256
   pub transitions : Section (transitionFits (s .program)) transitionKey (s .program .automaton .transitions) (s .last)
   pub transitions-limited : length (s .program .automaton .transitions) ≤ 512
-  pub rows-fit : All (rowFits (s .program .automaton)) (s .rows)
+  pub rows : Section (rowFits (s .program .automaton)) (rowKey (s .program .automaton .states)) (s .rows) (s .last)
   pub rows-limited : length (s .rows) ≤ 256
   pub tabular : Tabular (s .rows) (s .program .automaton .transitions) (s .last)
   pub initial : Section (λ q. ltb q (s .program .automaton .states)) initialKey (s .program .automaton .initial) (s .last)
   pub rejecting : Section (λ q. ltb q (s .program .automaton .states)) rejectingKey (s .program .automaton .rejecting) (s .last)
-  pub counted : s .frames ≡ frameCount (s .program) + length (s .rows) + cond (s .ended) 1 0
+  pub counted : s .frames ≡ frameCount (s .program) [] + length (s .rows) + cond (s .ended) 1 0
 
 pub begun-limits : (s : Progress) → Begun s → Limits (s .program)
 begun-limits s b =
@@ -61,7 +62,7 @@ header-begun l c =
       edges-limited = omega arith;
       transitions = no-section _ _ _;
       transitions-limited = omega arith;
-      rows-fit = tt;
+      rows = no-section _ _ _;
       rows-limited = omega arith;
       tabular = record { no-transition = λ h. refl; behind = λ h. absurd (omega arith) };
       initial = no-section _ _ _;
@@ -71,9 +72,9 @@ header-begun l c =
 
 -- one frame more is one element more in one section, one row more, or the end
 one-more : (p : Program) (rows : List TableRow) (x : TableRow) (l : Line) (k : ℕ) → 1 < k → k ≤ 8
-    → frameCount (programAfter p k l) + length (more (eqb k 5) x rows) + cond (eqb k 8) 1 0 ≡ frameCount p + length rows + 1
+    → frameCount (programAfter p k l) [] + length (more (eqb k 5) x rows) + cond (eqb k 8) 1 0 ≡ frameCount p [] + length rows + 1
 one-more p rows x l =
-    by-kind (λ k. frameCount (programAfter p k l) + length (more (eqb k 5) x rows) + cond (eqb k 8) 1 0 ≡ frameCount p + length rows + 1)
+    by-kind (λ k. frameCount (programAfter p k l) [] + length (more (eqb k 5) x rows) + cond (eqb k 8) 1 0 ≡ frameCount p [] + length rows + 1)
     (simp length-append (omega arith)) (simp length-append (omega arith)) (simp length-append (omega arith)) (simp length-append (omega arith))
     (simp length-append (omega arith)) (simp length-append (omega arith)) (omega arith)
 
@@ -148,7 +149,8 @@ module _ (s : Progress) (k : ℕ) (l : Line) (pad : Padded l) (b : Begun s) (m :
         transitions = section-more (eqb k 4) _ (transitionFits p) transitionKey (s .last) key (a .transitions) (m .later)
             (λ e. let i = eqb-true k 4 e in (m .transition i .0, rw (past 4 (rw i (omega arith)), past-four (rw i (omega arith)), i))) (b .transitions);
         transitions-limited = limited-more (eqb k 4) _ 512 (a .transitions) (b .transitions-limited) (λ e. m .transition (eqb-true k 4 e) .1);
-        rows-fit = all-more (eqb k 5) (rowIn states l) (rowFits a) (s .rows) (b .rows-fit) (λ e. m .row (eqb-true k 5 e) .0);
+        rows = section-more (eqb k 5) (rowIn states l) (rowFits a) (rowKey states) (s .last) key (s .rows) (m .later)
+            (λ e. let i = eqb-true k 5 e in (m .row i .0, rw i (row-key states l (λ z. past 7 (rw i z))))) (b .rows);
         rows-limited = limited-more (eqb k 5) (rowIn states l) 256 (s .rows) (b .rows-limited) (λ e. m .row (eqb-true k 5 e) .2);
         tabular = tabular-on (eqb k 5) (eqb k 4) refl refl;
         initial = section-more (eqb k 6) (num l 1) state initialKey (s .last) key (a .initial) (m .later)

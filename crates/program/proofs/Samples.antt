@@ -11,9 +11,10 @@ use Rattle.program.specs.Program.{Program}
 use Rattle.program.specs.Chosen.{largest, numbers as marksLength}
 use Rattle.program.specs.Sample.{bytes, header, F}
 use Rattle.program.specs.declared.Verdict.the-variants.{Accepted}
-use Rattle.program.specs.Writing.{nodesFrames, framesOf, text, written}
+use Rattle.program.specs.Writing.{nodesFrames, framesWith, text, writtenWith, written}
 use Rattle.program.specs.Reading.{accepted, refused, full, judgeAs, judge, afterAs, after, readFrom, readFile}
-use Rattle.rows.specs.Rows.{pairsFrom, timesMet, tableRefusal, nextState}
+use Rattle.program.specs.Frames.{rowFrame}
+use Rattle.rows.specs.Rows.{TableRow, pairsFrom, timesMet, tableRefusal, nextState}
 
 abbrev pub sample : Program
 sample =
@@ -45,7 +46,7 @@ unfolding reading
 sample-read = refl
 
 sample-written : written sample ≡ bytes F
-unfolding written framesOf nodesFrames text hex
+unfolding writtenWith framesWith nodesFrames text hex
 sample-written = refl
 
 -- ---- refusals, each with its line
@@ -131,7 +132,7 @@ unfolding reading hearing
 heard-read = refl
 
 heard-written : written hearing ≡ headed heard "45000A"
-unfolding hearing written framesOf nodesFrames text hex
+unfolding hearing writtenWith framesWith nodesFrames text hex
 heard-written = refl
 
 -- the first label past the actions, the calls and the returns, and the last before the next kind of label
@@ -192,7 +193,7 @@ tabled =
     record {
       routines = 1;
       nodes = 2 ∷ [];
-      edges = [];
+      edges = record { routine = 0; source = 0; label = 0; target = 1 } ∷ record { routine = 0; source = 0; label = 0x40; target = 0 } ∷ [];
       automaton =
           record {
             states = 2;
@@ -200,15 +201,34 @@ tabled =
             transitions =
                 record { before = 0; label = 0; after = 1 } ∷ record { before = 0; label = 1; after = 0 }
                 ∷ record { before = 1; label = 0; after = 1 } ∷ record { before = 1; label = 1; after = 1 } ∷ [];
-            initial = [];
-            rejecting = [];
+            initial = 0 ∷ [];
+            rejecting = 1 ∷ [];
           };
     }
 
 -- the row without a bit meets no pair; action 1 leads from state 0 to state 0
-table-read : readFile (rule ("55000000000000" ∷ "55010000000101" ∷ "55010000000200" ∷ "55020000000301" ∷ []) "450006") ≡ accepted tabled
-unfolding reading tabled
+tableFile : List ℕ
+tableFile =
+    rule ("5300000001" ∷ "5300004000" ∷ "55000000000000" ∷ "55010000000101" ∷ "55010000000200" ∷ "55020000000301" ∷ "4900" ∷ "4601" ∷ []) "45000A"
+
+abbrev tableRow : ℕ → ℕ → ℕ → TableRow
+tableRow states actions next = record { states = states; actions = actions; next = next }
+
+-- its edges, its initial and its rejecting state are there, and its transitions are those of the table
+table-read : readFile tableFile ≡ accepted tabled
+unfolding reading tabled tableFile
 table-read = refl
+
+table-written : writtenWith tabled (tableRow 0 0 0 ∷ tableRow 1 1 1 ∷ tableRow 1 2 0 ∷ tableRow 2 3 1 ∷ []) ≡ tableFile
+unfolding tabled tableFile writtenWith framesWith nodesFrames text hex
+table-written = refl
+
+-- with 8 states a row has one number of state bits, with 9 it has two
+row-of-8-states : rowFrame 8 (tableRow 0x81 0x01020304 7) ≡ 0x55 ∷ 0x81 ∷ 1 ∷ 2 ∷ 3 ∷ 4 ∷ 7 ∷ []
+row-of-8-states = refl
+
+row-of-9-states : rowFrame 9 (tableRow 0x181 0x01020304 8) ≡ 0x55 ∷ 1 ∷ 0x81 ∷ 1 ∷ 2 ∷ 3 ∷ 4 ∷ 8 ∷ []
+row-of-9-states = refl
 
 one-row : readFile (rule ("55030000000301" ∷ []) "450003") .verdict ≡ Accepted
 unfolding reading

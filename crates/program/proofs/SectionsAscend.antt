@@ -1,7 +1,8 @@
 -- A section of a program: a list whose elements pass a test and whose keys ascend.
-use mathlib.Core.Path.{_≡_, refl, ap, _∙_}
+use mathlib.Core.Path.{_≡_, refl, sym, ap, _∙_}
+use mathlib.Core.Logic.{⊎-elim}
 use mathlib.Core.Bool.{Bool, true, false, cond}
-use mathlib.Core.List.{List, [], _∷_, _++_, map, List·Memᴰ, List·Memᴰ·head, List·Memᴰ·tail}
+use mathlib.Core.List.{List, [], _∷_, _++_, map, List·Memᴰ, List·Memᴰ·head, List·Memᴰ·tail, List·Memᴰ·cases-cons}
 use Prim.Native.Nat.{ℕ, zero, suc, _+_, _≤_, _<_}
 use native.Mathlib.Omega.{arith}
 use lib.Dec.{ltb}
@@ -113,3 +114,29 @@ module _ (f : ℕ → ℕ) (grows : (a b : ℕ) → f a < f b → a < b) (n : �
   unfolding Ascending All
   few lo [] s a = omega arith
   few lo (q ∷ qs) s a = omega (arith, above q qs (ltb-true q n (a .0)) (s .1) (a .1))
+
+-- two lists whose keys ascend and that have the same elements are one list
+module _ {A : Type 0} (key : A → ℕ) where
+  key-above : (lo : ℕ) (xs : List A) {x : A} → Ascending lo (map key xs) → List·Memᴰ x xs → lo < key x
+  unfolding Ascending
+  key-above lo [] s m = elim m [ ]
+  key-above lo (y ∷ xs) s (List·Memᴰ·head e) = rw e (s .0)
+  key-above lo (y ∷ xs) s (List·Memᴰ·tail m) = omega (arith, s .0, key-above (key y) xs (s .1) m)
+
+  -- what is in the first and not its head is in the second and not its head
+  rest-in : (x : A) (xs ys : List A) → Ascending (key x) (map key xs) → ((z : A) → List·Memᴰ z (x ∷ xs) → List·Memᴰ z (x ∷ ys)) → (z : A) → List·Memᴰ z xs → List·Memᴰ z ys
+  rest-in x xs ys s h z m =
+      ⊎-elim (λ e. absurd (let k = key-above (key x) xs s m in let i = ap key e in omega arith)) (λ k. k) (List·Memᴰ·cases-cons (h z (List·Memᴰ·tail m)))
+
+  pub same-list : (lo hi : ℕ) (xs ys : List A) → Ascending lo (map key xs) → Ascending hi (map key ys) → ((x : A) → List·Memᴰ x xs → List·Memᴰ x ys) → ((x : A) → List·Memᴰ x ys → List·Memᴰ x xs) → xs ≡ ys
+  unfolding Ascending
+  same-list lo hi [] [] s t f g = refl
+  same-list lo hi [] (y ∷ ys) s t f g = elim (g y (List·Memᴰ·head refl)) [ ]
+  same-list lo hi (x ∷ xs) [] s t f g = elim (f x (List·Memᴰ·head refl)) [ ]
+  same-list lo hi (x ∷ xs) (y ∷ ys) s t f g =
+      let e : x ≡ y =
+      ⊎-elim (λ e. e)
+      (λ m. ⊎-elim (λ e. sym e) (λ n. absurd (let j = key-above (key y) ys (t .1) m in let k = key-above (key x) xs (s .1) n in omega arith)) (List·Memᴰ·cases-cons (g y (List·Memᴰ·head refl))))
+      (List·Memᴰ·cases-cons (f x (List·Memᴰ·head refl))) in
+      let u : Ascending (key x) (map key ys) = rw e (t .1) in
+      λ i. e i ∷ same-list (key x) (key x) xs ys (s .1) u (rest-in x xs ys (s .1) (rw (← e) at f)) (rest-in x ys xs u (rw (← e) at g)) i

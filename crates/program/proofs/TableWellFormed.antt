@@ -9,7 +9,7 @@ use lib.ListN.{length}
 use borrow.Author.Tests.{ltb-true, lt-ltb, leb-true}
 use Rattle.base.proofs.Bools.{both}
 use Rattle.tables.specs.Keys.{Ascending}
-use Rattle.rows.specs.Rows.{TableRow, noBitFrom, rowFits, Pair, pairAt, transitionFor, tableTransitions}
+use Rattle.rows.specs.Rows.{TableRow, noBitFrom, rowFits, Pair, pairAt, transitionFor, tableRefusal, tableTransitions}
 use Rattle.rows.proofs.PairsComplete.{transitions-length, pair-fits}
 use Rattle.rows.proofs.TableLoop.{few-pairs}
 use Rattle.rows.proofs.PairsAscend.{action-below, next-pair, ascending-by}
@@ -26,6 +26,11 @@ all-mapped : {A B : Type 0} (test : B → Bool) (f : A → B) (xs : List A) → 
 unfolding All
 all-mapped test f [] h = tt
 all-mapped test f (x ∷ xs) h = (h x (List·Memᴰ·head refl), all-mapped test f xs (λ y m. h y (List·Memᴰ·tail m)))
+
+-- the table of these rows is accepted, and its transitions are the program's
+pub record TableOf (p : Program) (rs : List TableRow) : Type 0 where
+  pub met : tableRefusal rs (pairsOf p) ≡ 0
+  pub transitions : p .automaton .transitions ≡ tableTransitions rs (pairsOf p)
 
 -- ---- the transitions of a table
 
@@ -67,7 +72,7 @@ module _ (p : Program) (w : WellFormed p) (rs : List TableRow) (fit : All (rowFi
       let c = action-below actions (i + 1) (some .1) in
       ⊎-elim (λ e. omega (arith, limit, e)) (λ e. omega (arith, limit, e)) (next-pair actions i (some .1))
 
-  table-ascends : Ascending 0 (map transitionKey (tableTransitions rs (pairsOf p)))
+  pub table-ascends : Ascending 0 (map transitionKey (tableTransitions rs (pairsOf p)))
   table-ascends = rw (map-map transitionKey (transitionFor rs) (pairsOf p)) (ascending-by key actions next-above 0 _ 0 (omega arith))
 
   table-limited : length (tableTransitions rs (pairsOf p)) ≤ 512

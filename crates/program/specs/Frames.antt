@@ -1,11 +1,13 @@
 -- Frames: the numbers of one line, the kind first.
 use Prim.Native.Nat.{ℕ, _+_, _*_, _/_, _%_}
 use mathlib.Core.Bool.{cond}
-use mathlib.Core.List.{List, [], _∷_}
+use mathlib.Core.List.{List, [], _∷_, _++_}
 use lib.Dec.{ltb, eqb}
 use lib.ListN.{getD}
+use Rattle.text.specs.Lines.{lineOf}
 use Rattle.text.specs.declared.Line.{Line}
 use Rattle.automaton.specs.Automaton.{Transition}
+use Rattle.rows.specs.Rows.{TableRow}
 use Rattle.program.specs.Program.{Edge}
 
 -- a kind's place in the table of kinds, from 1; 0 for an unknown kind. A file has 54 or 55 and not both (`ordered`), so
@@ -61,6 +63,18 @@ edgeFrame e = 0x53 ∷ e .routine ∷ e .source ∷ e .label ∷ e .target ∷ [
 abbrev pub transitionFrame : Transition → List ℕ
 transitionFrame t = 0x54 ∷ t .before ∷ t .label ∷ t .after ∷ []
 
+-- the state bits of a row: two numbers, high first, where there are more than 8 states, else one
+abbrev pub stateNumbers : ℕ → ℕ → List ℕ
+stateNumbers states bits = cond (ltb 8 states) (bits / 256 ∷ bits % 256 ∷ []) (bits ∷ [])
+
+-- the action bits of a row: four numbers, high first
+abbrev pub actionNumbers : ℕ → List ℕ
+actionNumbers bits = bits / 0x1000000 ∷ bits / 0x10000 % 256 ∷ bits / 0x100 % 256 ∷ bits % 256 ∷ []
+
+-- a row (paper: a frame 55), where there are so many states: its state bits, its action bits and the next state
+abbrev pub rowFrame : ℕ → TableRow → List ℕ
+rowFrame states r = 0x55 ∷ (stateNumbers states (r .states) ++ (actionNumbers (r .actions) ++ (r .next ∷ [])))
+
 abbrev pub initialFrame : ℕ → List ℕ
 initialFrame q = 0x49 ∷ q ∷ []
 
@@ -77,6 +91,10 @@ edgeKey e = keyOf 3 (packed (e .routine) (e .source) (e .label) (e .target)) 0
 
 abbrev pub transitionKey : Transition → ℕ
 transitionKey t = keyOf 4 (packed (t .before) (t .label) (t .after) 0) 0
+
+-- a row's numbers are those of its frame
+abbrev pub rowKey : ℕ → TableRow → ℕ
+rowKey states r = let l = lineOf (rowFrame states r) in keyOf 5 (word l) (rest l)
 
 abbrev pub initialKey : ℕ → ℕ
 initialKey q = keyOf 6 (packed q 0 0 0) 0

@@ -1,4 +1,4 @@
--- Well-formed programs: complete, in range, ascending, within the limits.
+-- Well-formed programs, and the rows that a file may have: complete, in range, ascending, within the limits.
 use Prim.Native.Nat.{_≤_}
 use mathlib.Core.Path.{_≡_}
 use mathlib.Core.Bool.{Bool, true}
@@ -7,10 +7,11 @@ use lib.ListN.{length}
 use lib.Dec.{ltb}
 use Rattle.tables.specs.Keys.{Ascending}
 use Rattle.automaton.specs.Sizes.{maxTransitions}
+use Rattle.rows.specs.Rows.{maxRows, TableRow, rowFits}
 use Rattle.program.specs.Sizes.{maxEdges}
 use Rattle.program.specs.Program.{Program, nodesFit, countsFit, edgeFits, transitionFits}
 use Rattle.program.specs.Chosen.{sizesFit}
-use Rattle.program.specs.Frames.{edgeKey, transitionKey, initialKey, rejectingKey}
+use Rattle.program.specs.Frames.{edgeKey, transitionKey, rowKey, initialKey, rejectingKey}
 
 -- every element passes a test
 unfoldable pub All : {A : Type 0} → (A → Bool) → List A → Type 0
@@ -32,3 +33,9 @@ pub record WellFormed (p : Program) : Type 0 where
   pub rejecting-fit : All (λ q. ltb q (p .automaton .states)) (p .automaton .rejecting)
   pub rejecting-ascend : Ascending 0 (map rejectingKey (p .automaton .rejecting))
   pub sized : sizesFit p ≡ true
+
+-- the rows of a file (paper: frames 55), where this is its program
+pub record WellFormedRows (p : Program) (rs : List TableRow) : Type 0 where
+  pub rows-fit : All (rowFits (p .automaton)) rs
+  pub rows-ascend : Ascending 0 (map (rowKey (p .automaton .states)) rs)
+  pub rows-limited : length rs ≤ maxRows
