@@ -10,7 +10,7 @@ use Rattle.tables.specs.Keys.{member}
 use Rattle.program.specs.Reading.{judgeAs, judge, afterAs, after, readFrom, readFile}
 use Rattle.program.specs.Chosen.{largest, numbers as numbersIn}
 use Rattle.program.specs.Checks.{firstMet, checked}
-use Rattle.program.specs.Writing.{nodesFrames, framesOf, text, written}
+use Rattle.program.specs.Writing.{nodesFrames, framesWith, text, writtenWith}
 use Rattle.reach.specs.Configurations.{number, routineOf, nodeOf, rootOf, stateOf, none-set}
 use Rattle.reach.specs.Worklist.{lowest, mark, wake, markWhen, summary, onEvent, eventWhen, onReturns, rootWhen, onCall, onLabel, labelWhen, onSteps, wakeRoots, calls, wakeWhen, wakeStates, callerWhen, wakeCallers, learn, takeFrom, takeAt, work, opened, analysisAt}
 use Rattle.reach.specs.Sizes.{summaries, enoughIterations}
@@ -35,7 +35,7 @@ use Rattle.demands.proofs.CasesReanalyzed.{p5-reanalyzed, p6-reanalyzed
 
 -- what the rows compute with: to unfold one of these three is to unfold all that it names
 editing : Unit {0}
-unfolding lines numbers largest numbersIn judgeAs judge afterAs after readFrom readFile editFrom readEdit hasEdge without inserted editedProgram wantedEdit others insertedAll exchangedProgram any anyAstray exchangeFrom wantedExchange firstMet checked repaired same analyzeAnswer marksAfter workAfter written framesOf nodesFrames text hex roomWanted roomAnswer
+unfolding lines numbers largest numbersIn judgeAs judge afterAs after readFrom readFile editFrom readEdit hasEdge without inserted editedProgram wantedEdit others insertedAll exchangedProgram any anyAstray exchangeFrom wantedExchange firstMet checked repaired same analyzeAnswer marksAfter workAfter writtenWith framesWith nodesFrames text hex roomWanted roomAnswer
 editing = tt
 
 analyzing : Unit {0}

@@ -20,7 +20,7 @@ use Rattle.automaton.specs.Decoded.{transitionOf}
 use Rattle.program.specs.Program.{Program, transitionFits}
 use Rattle.program.specs.Frames.{headerFrame, nodesFrame, edgeFrame, transitionFrame, endFrame}
 use Rattle.program.proofs.ProgramLimits.{transition-fits, text-append}
-use Rattle.program.specs.Writing.{nodesFrames, framesOf, text, written}
+use Rattle.program.specs.Writing.{nodesFrames, framesWith, framesOf, text, writtenWith, written}
 use Rattle.program.specs.WellFormed.{All}
 use Rattle.program.specs.Decoded.{edgeOf}
 use Rattle.writer.specs.Parts.{lowerByte, startsWithin, keyFrame, byteFrame, byteFrames, automatonFrames, RoomFor, Put}
@@ -188,7 +188,7 @@ module _ {F : ℕ → ℕ → List ℕ} {xs : List ℕ} {n : ℕ} {fs : List (Li
 module _ (p : Program) where
   -- the lines of the header and of the end have four and three numbers
   pub file-long : length (written p) ≡ 9 + (length (text (nodesFrames 0 (p .nodes))) + (length (text (map edgeFrame (p .edges))) + length (text (automatonFrames (p .automaton))))) + 7
-  unfolding written framesOf
+  unfolding writtenWith framesWith
   file-long =
       let h : List ℕ = headerFrame (p .routines) (p .automaton .states) (p .automaton .actions) in
       let n : List (List ℕ) = nodesFrames 0 (p .nodes) in
@@ -205,7 +205,7 @@ module _ (p : Program) where
       → Put (endFrame (length (framesOf p)) ∷ []) d out l pos
       → length (written p) ≤ length o
       → (pos ≡ length (written p)) × (out ≡ written p ++ drop (length (written p)) o)
-  unfolding written framesOf
+  unfolding writtenWith framesWith
   file-put {o = o} h n e r z room =
       let w = put-both h (put-both (put-both n (put-both e r)) z) in
       (w .past ∙ zero-add _, w .there ∙ sets-eq (written p) o 0 (omega arith) ∙ rw zero-add)

@@ -5,13 +5,13 @@ use lib.ListN.{length, length-append, length-map, length-take}
 use borrow.Author.Needs.{needs}
 use Rattle.automaton.specs.Sizes.{maxStates, maxTransitions}
 use Rattle.program.specs.Sizes.{maxRoutines, maxEdges}
-use Rattle.program.specs.Writing.{framesOf}
+use Rattle.program.specs.Writing.{framesWith}
 use Rattle.writer.proofs.FramesPut.{nodes-long}
 use Rattle.writer.proofs.put.frame_count.Statement.{statement}
 use Rattle.writer.proofs.put.frame_count.Tie as tie
 
 returns : tie.Need-returns
-unfolding framesOf
+unfolding framesWith
 returns c =
     let p = c .before .before .before .before .before .args .p in
     let n : length (p .nodes .list) ≡ maxRoutines = search needs in
