@@ -25,7 +25,7 @@ use Rattle.program.specs.declared.Verdict.the-variants.{Accepted}
 use Rattle.program.proofs.SectionsAscend.{Rising, rising-ascending, none-yet}
 use Rattle.program.proofs.LinesJudged.{padded, bytes-small, either, byteOf, kind-ordered, by-kind, Met, met}
 use Rattle.program.proofs.ProgressSound.{Begun, Sound, start-sound, after-sound, ended-begun, sound-accepted}
-use Rattle.program.proofs.TableWellFormed.{TableOf, table-well-formed}
+use Rattle.program.proofs.TableWellFormed.{TableOf, all-else-kept, table-well-formed}
 use Rattle.program.proofs.FilesAsFrames.{readFrames, rowsOf, Frames, going, read-text, rows-text, accepted-text}
 
 -- ---- a frame, from the line that is kept of it
@@ -266,11 +266,6 @@ sizes-accept p h = go (sizesFit p) refl h
     go true e h = (e, refl)
     go false e h = absurd (let z : _≡_ {A = ℕ} 0 1 = cc in omega arith)
 
--- with rows the transitions are not written
-rows-framed : (p : Program) (ts : List Transition) (x : TableRow) (rs : List TableRow) → framesWith (withTransitions p ts) (x ∷ rs) ≡ framesWith p (x ∷ rs)
-unfolding framesWith
-rows-framed p ts x rs = refl
-
 -- every line is good
 ends : (s : Progress) (done : List (List ℕ)) → Sound s → Read s done → s .ended ≡ true → finished (s .rows) (s .program) .verdict ≡ Accepted
     → ReadAs (finished (s .rows) (s .program) .program) done
@@ -295,7 +290,7 @@ ends s done g r e h = go (s .rows) refl h
           rows-there = sym (r .rows) ∙ i;
           well-formed = table-well-formed (s .program) (sound-accepted s g e (v .0)) (x ∷ rs) (w .rows-fit);
           rows = record { rows-fit = w .rows-fit; rows-ascend = w .rows-ascend; rows-limited = w .rows-limited };
-          frames = rw (rows-framed (s .program) (tableTransitions (x ∷ rs) (pairsOf (s .program))) x rs) (rw i at (r .whole e));
+          frames = rw (all-else-kept (s .program) (tableTransitions (x ∷ rs) (pairsOf (s .program))) x rs) (rw i at (r .whole e));
           table = λ u. record { met = eqb-true _ 0 t; transitions = refl };
         })
 

@@ -1,4 +1,4 @@
--- The program that a table completes is well-formed.
+-- The program that a table completes: all but its transitions is as it was, and it is well-formed.
 use Prim.Native.Nat.{ℕ, _+_, _≤_, _<_}
 use mathlib.Core.Path.{_≡_, refl}
 use mathlib.Core.Logic.{⊎-elim}
@@ -9,6 +9,7 @@ use lib.ListN.{length}
 use borrow.Author.Tests.{ltb-true, lt-ltb, leb-true}
 use Rattle.base.proofs.Bools.{both}
 use Rattle.tables.specs.Keys.{Ascending}
+use Rattle.automaton.specs.Automaton.{Transition}
 use Rattle.rows.specs.Rows.{TableRow, noBitFrom, rowFits, Pair, pairAt, transitionFor, tableRefusal, tableTransitions}
 use Rattle.rows.proofs.PairsComplete.{transitions-length, pair-fits}
 use Rattle.rows.proofs.TableLoop.{few-pairs}
@@ -17,6 +18,7 @@ use Rattle.rows.proofs.RowsMet.{next-below}
 use Rattle.program.specs.Program.{Program, within, transitionFits}
 use Rattle.program.specs.Frames.{transitionKey}
 use Rattle.program.specs.WellFormed.{All, WellFormed}
+use Rattle.program.specs.Writing.{framesWith}
 use Rattle.program.specs.Reading.{pairsOf, withTransitions}
 use Rattle.program.proofs.SectionsAscend.{all-in}
 use Rattle.program.proofs.ProgramLimits.{Limits, well-formed-limits}
@@ -26,6 +28,11 @@ all-mapped : {A B : Type 0} (test : B → Bool) (f : A → B) (xs : List A) → 
 unfolding All
 all-mapped test f [] h = tt
 all-mapped test f (x ∷ xs) h = (h x (List·Memᴰ·head refl), all-mapped test f xs (λ y m. h y (List·Memᴰ·tail m)))
+
+-- with rows all is written but the transitions, and it is the same: the edges, the initial and the rejecting states are kept
+pub all-else-kept : (p : Program) (ts : List Transition) (x : TableRow) (rs : List TableRow) → framesWith (withTransitions p ts) (x ∷ rs) ≡ framesWith p (x ∷ rs)
+unfolding framesWith
+all-else-kept p ts x rs = refl
 
 -- the table of these rows is accepted, and its transitions are the program's
 pub record TableOf (p : Program) (rs : List TableRow) : Type 0 where

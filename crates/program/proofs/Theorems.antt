@@ -48,7 +48,8 @@ module _ (p : Program) (w : WellFormed p) (rs : List TableRow) (v : WellFormedRo
   pub rows-again : rowsIn (writtenWith p rs) ≡ rs
   rows-again = ap (λ (o : Outcome). rowsFrom (o .program .automaton .states) (lines (writtenWith p rs))) read-again-with ∙ rows-written
 
-no-rows : (p : Program) → WellFormedRows p []
+-- No row is a good list of rows.
+pub no-rows : (p : Program) → WellFormedRows p []
 unfolding All Ascending
 no-rows p = record { rows-fit = tt; rows-ascend = tt; rows-limited = omega arith }
 
