@@ -14,6 +14,7 @@ use Rattle.program.specs.Writing.{written}
 use Rattle.program.specs.declared.Verdict.{Verdict}
 use Rattle.program.specs.declared.Verdict.the-variants.{Accepted, Refused}
 use Rattle.program.specs.declared.Length.the-variants.{Of}
+use Rattle.program.proofs.Theorems.{no-rows}
 use Rattle.program.proofs.ChecksPassed.{passes, few-checks}
 use Rattle.reach.specs.Marks.{freshMarks}
 use Rattle.analysis.proofs.AnswersByChecks.{same-equal, by-marks}
@@ -103,7 +104,7 @@ module _ {k : Form} {b : Lent} {a : Back} {routines : ℕ} (m : Mended k b a rou
       ∙ repaired-wrote (m .the-change) (changedProgram (m .the-change) (programIn b)) (b .marks) (b .output) (b .work) (b .second) routines
 
   mended-file : ChangedFile k b a
-  mended-file = record { change = m .the-change; wanted = m .wanted; file = record { well-formed = mended-well-formed; is-written = mended-wrote } }
+  mended-file = record { change = m .the-change; wanted = m .wanted; file = record { well-formed = mended-well-formed; rows = no-rows _; table = λ n. absurd (n refl); is-written = mended-wrote } }
 
 -- what an accepted repair writes
 pub changed-files : (k : Form) (r : Repair) (b : Lent) (a : Back) → Gives (entry k r) b a → a .refusal ≡ 0 → ChangedFile k b a

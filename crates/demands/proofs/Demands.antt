@@ -11,6 +11,8 @@ use Rattle.automaton.specs.declared.Event.the-variants as event
 use Rattle.program.specs.Sizes.{outputSize}
 use Rattle.program.specs.declared.sizes.Sizes.{Sizes}
 use Rattle.program.specs.Chosen.{sizesOf, Admitted}
+use Rattle.text.specs.declared.Line.{Line}
+use Rattle.program.specs.Frames.{num}
 use Rattle.program.specs.Program.{Program}
 use Rattle.program.specs.WellFormed.{WellFormed}
 use Rattle.program.specs.Reading.{readFile, rowsIn}
@@ -40,11 +42,12 @@ use Rattle.desk.specs.Entries.{Entry, read, sizes, write, analyze, next-violati
 use Rattle.demands.specs.Refusals.{marksLength}
 use Rattle.demands.specs.Lists.{Repair, Call, entry, wrote, Gave}
 use Rattle.demands.specs.Inputs.{SameInputs}
-use Rattle.demands.specs.Demands.{Demand1, Acceptance, withWritten, WrittenFile, ChangedFile, Tabulated, SizesTold, Needed, Numbering, Demand2, Safe, Next, Procedure, noLimit, withLimit, givenUp, Heeds, OnActions, movesBefore, OneLook, Demand3, keepingOf}
+use Rattle.demands.specs.Demands.{Demand1, Acceptance, Before, comparedBy, lineKey, KeysOfFrames, withWritten, WrittenFile, ChangedFile, Tabulated, SizesTold, Needed, Numbering, Demand2, Safe, Next, Procedure, noLimit, withLimit, givenUp, Heeds, OnActions, movesBefore, OneLook, Demand3, keepingOf}
 use Rattle.demands.specs.Cases.{Case, Holds, table}
 use Rattle.demands.proofs.RefusalsReturned.{gives-demanded}
 use Rattle.demands.proofs.OneAnswer.{given-once}
 use Rattle.demands.proofs.FilesAccepted.{file-acceptance, comes-back, written-accepted, tabulated}
+use Rattle.demands.proofs.FramesCompared.{compared-left-to-right, frame-keys}
 use Rattle.demands.proofs.ChangesAccepted.{changed-files}
 use Rattle.demands.proofs.BenchTooLong.{too-long}
 use Rattle.demands.proofs.ConfigurationsNumbered.{numbered}
@@ -69,7 +72,7 @@ demand-1 = gives-demanded
 pub one-answer : (e : Entry) (b : Lent) (a c : Back) → Gives e b a → Gives e b c → a ≡ c
 one-answer = given-once
 
--- which files are accepted
+-- which files are accepted, with rows or without, and as which program
 pub accepted-files : (b : Lent) (a : Back) → Gives read b a → Acceptance b a
 accepted-files = file-acceptance
 
@@ -84,6 +87,15 @@ written-file = written-accepted
 -- what an accepted repair writes, by an edit line or by an exchange, is the file of the changed program, which is well-formed
 pub changed-file : (k : Form) (r : Repair) (b : Lent) (a : Back) → Gives (entry k r) b a → a .refusal ≡ 0 → ChangedFile k b a
 changed-file = changed-files
+
+-- frames compared by their keys are compared left to right: by the place of their kind in the table of kinds, and then number by number; the first that
+-- differs decides
+pub left-to-right : (l m : Line) → ((i : ℕ) → num l i < 256) → ((i : ℕ) → num m i < 256) → (lineKey l < lineKey m) ↔ Before (comparedBy l) (comparedBy m)
+left-to-right = compared-left-to-right
+
+-- and the keys by which edges, transitions, rows, initial and rejecting states ascend are those of their frames
+pub keys-of-frames : KeysOfFrames
+keys-of-frames = frame-keys
 
 -- the transitions of an accepted file with rows are those of its table
 pub table-of-rows : (b : Lent) (a : Back) → Gives read b a → a .refusal ≡ 0 → rowsIn (b .file) ≢ [] → Tabulated (programIn b) (rowsIn (b .file))

@@ -12,8 +12,9 @@ use Rattle.program.specs.Reading.{Outcome, accepted, readFile, rowsIn, refusal}
 use Rattle.program.specs.declared.Verdict.{Verdict}
 use Rattle.program.specs.declared.Verdict.the-variants.{Accepted, Refused}
 use Rattle.program.specs.declared.Length.the-variants.{NotAsked, Of}
-use Rattle.program.proofs.Theorems.{accepted-well-formed, few-lines, written-back, no-row-written, same-without-rows, rows-read, read-again, written-limited}
-use Rattle.program.proofs.FramesWrittenBack.{TableOf}
+use Rattle.program.proofs.Theorems.{accepted-well-formed, accepted-rows, few-lines, written-back, no-row-written, same-without-rows, rows-read, read-again, read-again-with, rows-again, written-limited}
+use Rattle.program.proofs.TableWellFormed.{TableOf}
+use Rattle.program.proofs.TableDetermined.{determined}
 use Rattle.rows.specs.Rows.{TableRow}
 use Rattle.rows.proofs.TableListed.{met-once, table-listed, one-transition}
 use Rattle.program.proofs.ChecksPassed.{passes, few-checks}
@@ -33,23 +34,49 @@ not-refused b = go (readFile (b .file) .verdict) refl
 is-accepted : (b : Lent) (a : Back) → Gives read b a → a .refusal ≡ 0 → readFile (b .file) .verdict ≡ Accepted
 is-accepted b a g z = not-refused b (sym (ap (λ (x : Back). x .refusal) g) ∙ z)
 
--- the file of a program is read as that program
-is-read : (p : Program) (file : List ℕ) → FileOf p file → readFile file ≡ accepted p
-is-read p file f = ap readFile (f .is-written) ∙ read-again p (f .well-formed)
+-- ---- a table, pair by pair, and as the definitions make it
+
+from-table : (p : Program) (rs : List TableRow) → TableOf p rs → Tabulated p rs
+from-table p rs t =
+    let q = p .automaton .states in
+    let k = p .automaton .actions in
+    record {
+      met-once = met-once rs q k (t .met);
+      by-row = λ x a s. rw (t .transitions) (table-listed rs q k (t .met) x a s);
+      one-each = λ x a h l. rw (t .transitions) (one-transition rs q k (t .met) x a h l);
+    }
+
+to-table : (p : Program) (rs : List TableRow) (file : List ℕ) → FileOf p rs file → rs ≢ [] → TableOf p rs
+to-table p rs file f n = let t = f .table n in determined p (f .well-formed) rs (f .rows .rows-fit) (t .met-once) (t .by-row)
+
+-- ---- accepted files
+
+-- the file of a program and rows is read as that program, and the rows are its rows
+module _ (p : Program) (rs : List TableRow) (file : List ℕ) (f : FileOf p rs file) where
+  is-read : readFile file ≡ accepted p
+  is-read = ap readFile (f .is-written) ∙ read-again-with p (f .well-formed) rs (f .rows) (to-table p rs file f)
+
+  rows-are : rowsIn file ≡ rs
+  rows-are = ap rowsIn (f .is-written) ∙ rows-again p (f .well-formed) rs (f .rows) (to-table p rs file f)
+
+-- and an accepted file is that of its program and its rows
+is-file : (file : List ℕ) → readFile file .verdict ≡ Accepted → FileOf (readFile file .program) (rowsIn file) file
+is-file file h = record {
+  well-formed = accepted-well-formed file h;
+  rows = accepted-rows file h;
+  table = λ n. from-table (readFile file .program) (rowsIn file) (rows-read file h n);
+  is-written = sym (written-back file h);
+}
 
 pub file-acceptance : (b : Lent) (a : Back) → Gives read b a → Acceptance b a
 file-acceptance b a g =
     record {
       accepted = (
-        λ z.
-            let h = is-accepted b a g (z .0) in
-            (programIn b, record { well-formed = accepted-well-formed (b .file) h; is-written = sym (written-back (b .file) h (z .1)) }),
-        λ f. (
-          ap (λ (x : Back). x .refusal) g ∙ ap (λ (o : Outcome). refusal (o .verdict)) (is-read (f .0) (b .file) (f .1)),
-          ap rowsIn (f .1 .is-written) ∙ no-row-written (f .0) (f .1 .well-formed),
-        ),
+        λ z. (programIn b, rowsIn (b .file), is-file (b .file) (is-accepted b a g z)),
+        λ f. ap (λ (x : Back). x .refusal) g ∙ ap (λ (o : Outcome). refusal (o .verdict)) (is-read (f .0) (f .1) (b .file) (f .2)),
       );
-      its-program = λ p f. ap (λ (o : Outcome). o .program) (is-read p (b .file) f);
+      its-program = λ p rs f. ap (λ (o : Outcome). o .program) (is-read p rs (b .file) f);
+      its-rows = λ p rs f. rows-are p rs (b .file) f;
       its-size = λ p f. rw (f .is-written) (written-limited p (f .well-formed));
     }
 
@@ -96,15 +123,5 @@ written-accepted b a c g z r =
 
 -- ---- the table of an accepted file with rows
 
-from-table : (p : Program) (rs : List TableRow) → TableOf p rs → Tabulated p rs
-from-table p rs t =
-    let q = p .automaton .states in
-    let k = p .automaton .actions in
-    record {
-      met-once = met-once rs q k (t .met);
-      by-row = λ x a s. rw (t .transitions) (table-listed rs q k (t .met) x a s);
-      one-each = λ x a h l. rw (t .transitions) (one-transition rs q k (t .met) x a h l);
-    }
-
 pub tabulated : (b : Lent) (a : Back) → Gives read b a → a .refusal ≡ 0 → rowsIn (b .file) ≢ [] → Tabulated (programIn b) (rowsIn (b .file))
-tabulated b a g z n = from-table (programIn b) (rowsIn (b .file)) (rows-read (b .file) (is-accepted b a g z) n)
+tabulated b a g z = is-file (b .file) (is-accepted b a g z) .table

@@ -3,6 +3,7 @@ pub mod ChangeRefusalsTold
 pub mod RefusalsReturned
 pub mod OneAnswer
 pub mod FilesAccepted
+pub mod FramesCompared
 pub mod ConfigurationsNumbered
 pub mod AnalysisAnswers
 pub mod LimitAnswers

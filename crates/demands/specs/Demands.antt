@@ -3,7 +3,7 @@
 use mathlib.Core.Path.{_≡_}
 use mathlib.Core.Logic.{_↔_, _≢_, _⊎_}
 use mathlib.Core.Bool.{Bool, true, false, _&&_}
-use mathlib.Core.List.{List, [], List·Memᴰ}
+use mathlib.Core.List.{List, [], _∷_, List·Memᴰ}
 use Prim.Native.Nat.{ℕ, _+_, _*_, _≤_, _<_}
 use lib.Dec.{ltb, eqb}
 use lib.ListN.{getD, length}
@@ -16,9 +16,13 @@ use Rattle.automaton.specs.NextStates.{EventOf}
 use Rattle.automaton.specs.declared.Event.{Event}
 use Rattle.automaton.specs.declared.Event.the-variants as event
 use Rattle.rows.specs.Rows.{TableRow, meets, timesMet}
-use Rattle.program.specs.Program.{Program}
-use Rattle.program.specs.WellFormed.{WellFormed}
-use Rattle.program.specs.Writing.{written}
+use Rattle.text.specs.Lines.{lineOf}
+use Rattle.text.specs.declared.Line.{Line}
+use Rattle.program.specs.Program.{Edge, Program}
+use Rattle.program.specs.Frames.{num, kind, word, rest, keyOf, edgeFrame, transitionFrame, rowFrame, initialFrame}
+use Rattle.program.specs.Frames.{rejectingFrame, edgeKey, transitionKey, rowKey, initialKey, rejectingKey}
+use Rattle.program.specs.WellFormed.{WellFormed, WellFormedRows}
+use Rattle.program.specs.Writing.{writtenWith}
 use Rattle.program.specs.Reading.{readFile, rowsIn}
 use Rattle.reach.specs.Configurations.{Earlier, InRange, number, routineOf, nodeOf, rootOf, stateOf, none-set, PartsOf}
 use Rattle.reach.specs.Runs.{Activation, Run, Occurs}
@@ -57,19 +61,7 @@ pub record Demand1 (e : Entry) (b : Lent) (a : Back) : Type 0 where
   pub work-cleared : hasWork e ≡ true → (a .refusal ≡ 0) ⊎ ((a .refusal ≡ 17) ⊎ (a .refusal ≡ 22))
       → a .work ≡ zeroed (b .work)
 
--- a file is what is written of a well-formed program
-pub record FileOf (p : Program) (file : List ℕ) : Type 0 where
-  pub well-formed : WellFormed p
-  pub is-written : file ≡ written p
-
--- a file is accepted and has no row exactly when it is that of some program; this is then its program, and it has at
--- most 7,712 bytes
-pub record Acceptance (b : Lent) (a : Back) : Type 0 where
-  pub accepted : ((a .refusal ≡ 0) × (rowsIn (b .file) ≡ [])) ↔ ((p : Program) × FileOf p (b .file))
-  pub its-program : (p : Program) → FileOf p (b .file) → programIn b ≡ p
-  pub its-size : (p : Program) → FileOf p (b .file) → length (b .file) ≤ outputSize
-
--- the program of an accepted file with rows: its transitions are those of the table
+-- a program and rows (paper: frames 55): its transitions are those of their table
 pub record Tabulated (p : Program) (rs : List TableRow) : Type 0 where
   -- each pair of a state and an action of the program is met by exactly one row
   pub met-once : (q a : ℕ) → q < p .automaton .states → a < p .automaton .actions
@@ -82,6 +74,48 @@ pub record Tabulated (p : Program) (rs : List TableRow) : Type 0 where
   pub one-each : (q a : ℕ) → q < p .automaton .states → a < p .automaton .actions
       → (s : ℕ) × (listed q a s (p .automaton .transitions) ≡ true)
       × ((s′ : ℕ) → listed q a s′ (p .automaton .transitions) ≡ true → s′ ≡ s)
+
+-- a file is what is written of a well-formed program and rows, which are in range, ascending and at most 256: the edges, the
+-- initial and the rejecting states (paper: start and forbidden states) stand in it frame by frame, and either the
+-- transitions, where there is no row, or the rows, where there are some, and then the transitions are those of their table
+pub record FileOf (p : Program) (rs : List TableRow) (file : List ℕ) : Type 0 where
+  pub well-formed : WellFormed p
+  pub rows : WellFormedRows p rs
+  pub table : rs ≢ [] → Tabulated p rs
+  pub is-written : file ≡ writtenWith p rs
+
+-- a file is accepted exactly when it is that of some program and rows; these are then its program and its rows; without
+-- a row it has at most 7,712 bytes
+pub record Acceptance (b : Lent) (a : Back) : Type 0 where
+  pub accepted : (a .refusal ≡ 0) ↔ ((p : Program) × (rs : List TableRow) × FileOf p rs (b .file))
+  pub its-program : (p : Program) (rs : List TableRow) → FileOf p rs (b .file) → programIn b ≡ p
+  pub its-rows : (p : Program) (rs : List TableRow) → FileOf p rs (b .file) → rowsIn (b .file) ≡ rs
+  pub its-size : (p : Program) → FileOf p [] (b .file) → length (b .file) ≤ outputSize
+
+-- ---- the order of the frames of a file (paper: ascending, compared left to right)
+
+-- of two lists of numbers, compared left to right, this is the earlier: the first number that differs decides
+abbrev pub Before : List ℕ → List ℕ → Type 0
+Before [] ns = ⊥
+Before (m ∷ ms) [] = ⊥
+Before (m ∷ ms) (n ∷ ns) = (m < n) ⊎ ((m ≡ n) × Before ms ns)
+
+-- the numbers that a line is compared by: the place of its kind in the table of kinds, and those after it, of which a
+-- frame has at most seven; 0 for each that lacks
+abbrev pub comparedBy : Line → List ℕ
+comparedBy l = kind l ∷ num l 1 ∷ num l 2 ∷ num l 3 ∷ num l 4 ∷ num l 5 ∷ num l 6 ∷ num l 7 ∷ []
+
+-- the key of a line
+abbrev pub lineKey : Line → ℕ
+lineKey l = keyOf (kind l) (word l) (rest l)
+
+-- the keys by which the parts of a program and its rows ascend are those of their frames
+pub record KeysOfFrames : Type 0 where
+  pub edge : (e : Edge) → edgeKey e ≡ lineKey (lineOf (edgeFrame e))
+  pub transition : (t : Transition) → transitionKey t ≡ lineKey (lineOf (transitionFrame t))
+  pub row : (states : ℕ) (r : TableRow) → rowKey states r ≡ lineKey (lineOf (rowFrame states r))
+  pub initial : (q : ℕ) → initialKey q ≡ lineKey (lineOf (initialFrame q))
+  pub rejecting : (q : ℕ) → rejectingKey q ≡ lineKey (lineOf (rejectingFrame q))
 
 -- the sizes that are told of an accepted file (paper: R, P and Q): the counts of its program's routines and states, the
 -- largest count of nodes, and how many bytes its marks have (paper: the sheet), at most 16,384
@@ -122,11 +156,11 @@ pub record WrittenFile (b : Lent) (a c : Back) : Type 0 where
   pub its-size : length (wrote a) ≤ outputSize
 
 -- what an accepted repair writes, by an edit line or the text of an exchange: the file of the changed program, which is
--- well-formed
+-- well-formed, without a row
 pub record ChangedFile (k : Form) (b : Lent) (a : Back) : Type 0 where
   pub change : Change
   pub wanted : wantedChange k (programIn b) (b .text) ≡ Read change
-  pub file : FileOf (changedProgram change (programIn b)) (wrote a)
+  pub file : FileOf (changedProgram change (programIn b)) [] (wrote a)
 
 -- ---- the numbers of configurations (paper: standings), for all sizes together
 
