@@ -12,7 +12,7 @@ use Rattle.program.specs.Reading.{Outcome, accepted, readFile, rowsIn, refusal}
 use Rattle.program.specs.declared.Verdict.{Verdict}
 use Rattle.program.specs.declared.Verdict.the-variants.{Accepted, Refused}
 use Rattle.program.specs.declared.Length.the-variants.{NotAsked, Of}
-use Rattle.program.proofs.Theorems.{accepted-well-formed, accepted-rows, few-lines, written-back, no-row-written, same-without-rows, rows-read, read-again, read-again-with, rows-again, written-limited}
+use Rattle.program.proofs.Theorems.{accepted-well-formed, accepted-rows, few-lines, written-back, no-row-written, same-without-rows, rows-read, read-again, read-again-with, rows-again, limited-with, written-limited}
 use Rattle.program.proofs.TableWellFormed.{TableOf}
 use Rattle.program.proofs.TableDetermined.{determined}
 use Rattle.rows.specs.Rows.{TableRow}
@@ -77,7 +77,7 @@ file-acceptance b a g =
       );
       its-program = λ p rs f. ap (λ (o : Outcome). o .program) (is-read p rs (b .file) f);
       its-rows = λ p rs f. rows-are p rs (b .file) f;
-      its-size = λ p f. rw (f .is-written) (written-limited p (f .well-formed));
+      its-size = λ p rs f. rw (f .is-written) (limited-with p (f .well-formed) rs (f .rows));
     }
 
 -- ---- what is written of an accepted file

@@ -84,13 +84,13 @@ pub record FileOf (p : Program) (rs : List TableRow) (file : List ℕ) : Type 0 
   pub table : rs ≢ [] → Tabulated p rs
   pub is-written : file ≡ writtenWith p rs
 
--- a file is accepted exactly when it is that of some program and rows; these are then its program and its rows; without
--- a row it has at most 7,712 bytes
+-- a file is accepted exactly when it is that of some program and rows; these are then its program and its rows, and it
+-- has at most 7,712 bytes
 pub record Acceptance (b : Lent) (a : Back) : Type 0 where
   pub accepted : (a .refusal ≡ 0) ↔ ((p : Program) × (rs : List TableRow) × FileOf p rs (b .file))
   pub its-program : (p : Program) (rs : List TableRow) → FileOf p rs (b .file) → programIn b ≡ p
   pub its-rows : (p : Program) (rs : List TableRow) → FileOf p rs (b .file) → rowsIn (b .file) ≡ rs
-  pub its-size : (p : Program) → FileOf p [] (b .file) → length (b .file) ≤ outputSize
+  pub its-size : (p : Program) (rs : List TableRow) → FileOf p rs (b .file) → length (b .file) ≤ outputSize
 
 -- ---- the order of the frames of a file (paper: ascending, compared left to right)
 

@@ -14,7 +14,7 @@ use Rattle.program.specs.Program.{Edge, Program, within, placed, edgeFit
 use Rattle.program.specs.Frames.{kind, edgeFrame, transitionFrame, rowFrame, initialFrame, rejectingFrame, endFrame}
 use Rattle.program.specs.Reading.{rowIn}
 use Rattle.program.specs.WellFormed.{All, WellFormed, WellFormedRows}
-use Rattle.program.specs.Writing.{nodesFrames, ruleFrames, framesWith}
+use Rattle.program.specs.Writing.{nodesFrames, transitionFrames, framesWith}
 use Rattle.program.proofs.SectionsAscend.{all-at}
 use Rattle.program.proofs.LinesJudged.{at-most}
 use Rattle.base.proofs.Bools.{both}
@@ -68,16 +68,16 @@ unfolding rowsOf
 rows-rows q [] = refl
 rows-rows q (r ∷ rs) = rw (row-read q r, rows-rows q rs)
 
-rows-rule : (q : ℕ) (ts : List Transition) (rs : List TableRow) → rowsOf q (ruleFrames q ts rs) ≡ rs
-rows-rule q ts [] = no-rows q transitionFrame (λ x. refl) ts
-rows-rule q ts (r ∷ rs) = rows-rows q (r ∷ rs)
+rows-there : (q : ℕ) (ts : List Transition) (rs : List TableRow) → rowsOf q (transitionFrames q ts rs) ≡ rs
+rows-there q ts [] = no-rows q transitionFrame (λ x. refl) ts
+rows-there q ts (r ∷ rs) = rows-rows q (r ∷ rs)
 
 pub rows-framed : (p : Program) (rs : List TableRow) (n : ℕ) → rowsOf (p .automaton .states) (framesWith p rs ++ endFrame n ∷ []) ≡ rs
 unfolding rowsOf framesWith
 rows-framed p rs n =
     let q = p .automaton .states in
     let ts = p .automaton .transitions in
-    simp (rows-append, rows-nodes, no-rows q edgeFrame (λ x. refl), rows-rule q ts rs, no-rows q initialFrame (λ x. refl), no-rows q rejectingFrame (λ x. refl), append-nil)
+    simp (rows-append, rows-nodes, no-rows q edgeFrame (λ x. refl), rows-there q ts rs, no-rows q initialFrame (λ x. refl), no-rows q rejectingFrame (λ x. refl), append-nil)
 
 -- ---- for a well-formed program
 
@@ -112,10 +112,10 @@ module _ (p : Program) (w : WellFormed p) where
   state-bytes b q h f = omega (arith, limit, ltb-true q (p .automaton .states) f)
 
   module _ (rs : List TableRow) (v : WellFormedRows p rs) where
-    rule-bytes : Frames (ruleFrames (p .automaton .states) (p .automaton .transitions) rs)
-    rule-bytes = go rs (v .rows-fit)
+    transitions-bytes : Frames (transitionFrames (p .automaton .states) (p .automaton .transitions) rs)
+    transitions-bytes = go rs (v .rows-fit)
       where
-        go : (rs : List TableRow) → All (rowFits (p .automaton)) rs → Frames (ruleFrames (p .automaton .states) (p .automaton .transitions) rs)
+        go : (rs : List TableRow) → All (rowFits (p .automaton)) rs → Frames (transitionFrames (p .automaton .states) (p .automaton .transitions) rs)
         go [] a = bytes-map transitionFrame (transitionFits p) transition-bytes (p .automaton .transitions) (w .transitions-fit)
         go (r ∷ rs) a = bytes-map (rowFrame (p .automaton .states)) (rowFits (p .automaton)) (row-bytes p limit) (r ∷ rs) a
 
@@ -127,7 +127,7 @@ module _ (p : Program) (w : WellFormed p) where
         let edges = bytes-map edgeFrame (edgeFits p) edge-bytes (p .edges) (w .edges-fit) in
         let initial = bytes-map initialFrame state (λ q. state-bytes 0x49 q (omega arith)) (p .automaton .initial) (w .initial-fit) in
         let rejecting = bytes-map rejectingFrame state (λ q. state-bytes 0x46 q (omega arith)) (p .automaton .rejecting) (w .rejecting-fit) in
-        bytes-first _ _ (omega (arith, limit)) (bytes-append _ _ nodes (bytes-append _ _ edges (bytes-append _ _ rule-bytes (bytes-append _ _ initial rejecting))))
+        bytes-first _ _ (omega (arith, limit)) (bytes-append _ _ nodes (bytes-append _ _ edges (bytes-append _ _ transitions-bytes (bytes-append _ _ initial rejecting))))
 
     pub all-bytes : Frames (framesWith p rs ++ endFrame (length (framesWith p rs)) ∷ [])
     unfolding Frames

@@ -16,10 +16,10 @@ use Rattle.program.specs.Program.{Edge, Program, within, edgeFits, trans
 use Rattle.program.specs.Frames.{packed, keyOf, headerFrame, nodesFrame, edgeFrame, transitionFrame, rowFrame, initialFrame, rejectingFrame, endFrame, edgeKey, transitionKey, rowKey, initialKey, rejectingKey}
 use Rattle.program.specs.WellFormed.{All, WellFormed, WellFormedRows}
 use Rattle.tables.specs.Keys.{Ascending}
-use Rattle.program.specs.Writing.{nodesFrames, ruleFrames, framesWith}
+use Rattle.program.specs.Writing.{nodesFrames, transitionFrames, framesWith}
 use Rattle.program.specs.Reading.{Progress, start, accepted, judgeAs, judge, afterAs, after, finished}
 use Rattle.program.proofs.LinesJudged.{at-most}
-use Rattle.program.proofs.ProgramLimits.{Limits, ruleCount, frameCount, length-frames, well-formed-limits}
+use Rattle.program.proofs.ProgramLimits.{Limits, transitionCount, frameCount, length-frames, well-formed-limits}
 use Rattle.program.proofs.RowsFramed.{row-read, row-below}
 use Rattle.program.proofs.TableWellFormed.{TableOf}
 use Rattle.program.proofs.FramesFitBytes.{edge-bytes, transition-bytes, state-bytes}
@@ -154,16 +154,16 @@ module _ (p : Program) (w : WellFormed p) where
   unfolding after afterAs
   row-comes last n done x = rw (row-read (p .automaton .states) x)
 
-  rule-read : (rs : List TableRow) → WellFormedRows p rs → (last n : ℕ) → 0 < n → last < keyOf 4 0 0
-      → Leads (at last n ([], made p (p .nodes) (p .edges) [] [] [])) (ruleFrames (p .automaton .states) (p .automaton .transitions) rs)
-      (n + ruleCount (p .automaton .transitions) rs) (rs, made p (p .nodes) (p .edges) (unlessRows rs) [] []) (keyOf 6 0 0)
+  transitions-read : (rs : List TableRow) → WellFormedRows p rs → (last n : ℕ) → 0 < n → last < keyOf 4 0 0
+      → Leads (at last n ([], made p (p .nodes) (p .edges) [] [] [])) (transitionFrames (p .automaton .states) (p .automaton .transitions) rs)
+      (n + transitionCount (p .automaton .transitions) rs) (rs, made p (p .nodes) (p .edges) (unlessRows rs) [] []) (keyOf 6 0 0)
   unfolding judge judgeAs after afterAs
-  rule-read [] v last n h z =
+  transitions-read [] v last n h z =
       let ns = p .nodes in let es = p .edges in let ts = p .automaton .transitions in
       section transitionFrame transitionKey (λ xs. ([], made p ns es xs [] [])) (transitionFits p) (keyOf 4 0 0) (keyOf 6 0 0) 512 (λ x. omega arith) (λ x f. omega (arith, transition-bytes p w x f))
       (λ last n done x h z f c. rw (lt-ltb last (transitionKey x) z, lt-ltb 0 n h, here, f, lt-leb 512 (length done) c))
       (λ last n done x. refl) ts last n h z (omega arith) (w .transitions-ascend) (w .transitions-fit) (w .transitions-limited)
-  rule-read (r ∷ rs) v last n h z =
+  transitions-read (r ∷ rs) v last n h z =
       let q = p .automaton .states in
       section (rowFrame q) (rowKey q) (λ xs. (xs, made p (p .nodes) (p .edges) [] [] [])) (rowFits (p .automaton)) (keyOf 5 0 0) (keyOf 6 0 0) 256 (λ x. omega arith) (row-below p limit)
       row-clean row-comes (r ∷ rs) last n h (omega arith) (omega arith) (v .rows-ascend) (v .rows-fit) (v .rows-limited)
@@ -174,7 +174,7 @@ module _ (p : Program) (w : WellFormed p) where
     known = (rs, made p (p .nodes) (p .edges) (unlessRows rs) (p .automaton .initial) (p .automaton .rejecting))
 
     after-nodes : (last : ℕ) → last < keyOf 3 0 0 → Leads (at last (1 + length (p .nodes)) ([], made p (p .nodes) [] [] [] []))
-        (map edgeFrame (p .edges) ++ (ruleFrames (p .automaton .states) (p .automaton .transitions) rs ++ (map initialFrame (p .automaton .initial) ++ map rejectingFrame (p .automaton .rejecting))))
+        (map edgeFrame (p .edges) ++ (transitionFrames (p .automaton .states) (p .automaton .transitions) rs ++ (map initialFrame (p .automaton .initial) ++ map rejectingFrame (p .automaton .rejecting))))
         (frameCount p rs) known (keyOf 8 0 0)
     unfolding judge judgeAs after afterAs
     after-nodes last z =
@@ -184,7 +184,7 @@ module _ (p : Program) (w : WellFormed p) where
         (section edgeFrame edgeKey (λ xs. ([], made p ns xs [] [] [])) (edgeFits p) (keyOf 3 0 0) (keyOf 4 0 0) 256 (λ x. omega arith) (λ x f. omega (arith, edge-bytes p w x f))
         (λ last n done x h z f c. rw (lt-ltb last (edgeKey x) z, lt-ltb 0 n h, here, f, lt-leb 256 (length done) c))
         (λ last n done x. refl) es last _ (omega arith) z (omega arith) (w .edges-ascend) (w .edges-fit) (w .edges-limited))
-        (λ last z. followed (ruleFrames (p .automaton .states) (p .automaton .transitions) rs) _ (rule-read rs v last _ (omega arith) z)
+        (λ last z. followed (transitionFrames (p .automaton .states) (p .automaton .transitions) rs) _ (transitions-read rs v last _ (omega arith) z)
         (λ last z. followed (map initialFrame is) _
         (section initialFrame initialKey (λ xs. (rs, made p ns es ts xs [])) state (keyOf 6 0 0) (keyOf 7 0 0) 16 (λ x. omega arith) (λ x f. omega (arith, state-bytes p w 0x49 x (omega arith) f))
         (λ last n done x h z f c. rw (lt-ltb last (initialKey x) z, lt-ltb 0 n h, here, f))

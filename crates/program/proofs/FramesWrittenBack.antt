@@ -18,7 +18,7 @@ use Rattle.program.specs.Program.{Program}
 use Rattle.program.specs.Chosen.{sizesFit}
 use Rattle.program.specs.Frames.{kindOrder, rowSize, size, num, kind, word, rest, packed, keyOf, nodesFrame, edgeFrame, transitionFrame, actionNumbers, rowFrame, initialFrame, rejectingFrame, endFrame, edgeKey, transitionKey, rowKey, initialKey, rejectingKey}
 use Rattle.program.specs.WellFormed.{WellFormed, WellFormedRows}
-use Rattle.program.specs.Writing.{nodesFrames, ruleFrames, framesWith, text, writtenWith}
+use Rattle.program.specs.Writing.{nodesFrames, transitionFrames, framesWith, text, writtenWith}
 use Rattle.program.specs.Reading.{Progress, start, transitionIn, rowIn, more, accepted, refused, judge, programAfter, afterAs, after, pairsOf, withTransitions, sizesDecide, tableDecides, finished, readFrom, readFile, rowsFrom, rowsIn}
 use Rattle.rows.specs.Rows.{TableRow, tableRefusal, tableTransitions}
 use Rattle.program.specs.declared.Verdict.the-variants.{Accepted}
@@ -35,7 +35,7 @@ abbrev first : ℕ → (ℕ → ℕ) → List ℕ
 first zero g = []
 first (suc n) g = g 0 ∷ first n (λ i. g (suc i))
 
--- the frame of a line whose kind has place k, where there are so many states
+-- the frame of a line whose kind has place k, where count are so many states
 abbrev frameAs : ℕ → ℕ → Line → List ℕ
 frameAs q k l = byteOf k ∷ first (size q k - 1) (λ i. num l (suc i))
 
@@ -62,7 +62,7 @@ frame-is s (x ∷ f) m =
 
 -- the frames after the header
 abbrev sections : Program → List TableRow → List (List ℕ)
-sections p rs = nodesFrames 0 (p .nodes) ++ (map edgeFrame (p .edges) ++ (ruleFrames (p .automaton .states) (p .automaton .transitions) rs
+sections p rs = nodesFrames 0 (p .nodes) ++ (map edgeFrame (p .edges) ++ (transitionFrames (p .automaton .states) (p .automaton .transitions) rs
     ++ (map initialFrame (p .automaton .initial) ++ map rejectingFrame (p .automaton .rejecting))))
 
 nodes-more : (f : ℕ) (ns : List ℕ) (n : ℕ) → nodesFrames f (ns ++ n ∷ []) ≡ nodesFrames f ns ++ nodesFrame (f + length ns) n ∷ []
@@ -72,21 +72,22 @@ nodes-more f (m ∷ ns) n =
     let e : f + 1 + length ns ≡ f + suc (length ns) = omega arith in
     rw (nodes-more (f + 1) ns n, e)
 
--- a transition comes where there is no row, and a row where there is no transition
-rule-on : (q : ℕ) (ts : List Transition) (rs : List TableRow) (t : Transition) → rs ≡ [] → ruleFrames q (ts ++ t ∷ []) rs ≡ ruleFrames q ts rs ++ transitionFrame t ∷ []
-rule-on q ts rs t e = rw e (map-append transitionFrame ts (t ∷ []))
+-- a transition comes where count is no row, and a row where count is no transition
+transition-more : (q : ℕ) (ts : List Transition) (rs : List TableRow) (t : Transition) → rs ≡ [] → transitionFrames q (ts ++ t ∷ []) rs ≡ transitionFrames q ts rs ++ transitionFrame t ∷ []
+transition-more q ts rs t e = rw e (map-append transitionFrame ts (t ∷ []))
 
-rule-more : (q : ℕ) (ts : List Transition) (rs : List TableRow) (x : TableRow) → ts ≡ [] → ruleFrames q ts (rs ++ x ∷ []) ≡ ruleFrames q ts rs ++ rowFrame q x ∷ []
-rule-more q ts [] x e = rw e
-rule-more q ts (r ∷ rs) x e = map-append (rowFrame q) (r ∷ rs) (x ∷ [])
+row-more : (q : ℕ) (ts : List Transition) (rs : List TableRow) (x : TableRow) → ts ≡ [] → transitionFrames q ts (rs ++ x ∷ []) ≡ transitionFrames q ts rs ++ rowFrame q x ∷ []
+row-more q ts [] x e = rw e
+row-more q ts (r ∷ rs) x e = map-append (rowFrame q) (r ∷ rs) (x ∷ [])
 
 module _ (s : Progress) (l : Line) (bytes : (i : ℕ) → num l i < 256) (b : Begun s) where
-  abbrev there : ℕ
-  there = s .program .automaton .states
+  -- how many states there are
+  abbrev stateCount : ℕ
+  stateCount = s .program .automaton .states
 
   -- the frame of a row is the line's
-  row-framed : rowFrame there (rowIn there l) ≡ frameAs there 5 l
-  row-framed = go (ltb 8 there) refl
+  row-framed : rowFrame stateCount (rowIn stateCount l) ≡ frameAs stateCount 5 l
+  row-framed = go (ltb 8 stateCount) refl
     where
       four : (a b c d : ℕ) → a < 256 → b < 256 → c < 256 → d < 256 → actionNumbers (packed a b c d) ≡ a ∷ b ∷ c ∷ d ∷ []
       four a b c d h i j k =
@@ -96,7 +97,7 @@ module _ (s : Progress) (l : Line) (bytes : (i : ℕ) → num l i < 256) (b : Be
           let z : packed a b c d % 256 ≡ d = omega arith in
           rw (w, x, y, z)
 
-      go : (t : Bool) → ltb 8 there ≡ t → rowFrame there (rowIn there l) ≡ frameAs there 5 l
+      go : (t : Bool) → ltb 8 stateCount ≡ t → rowFrame stateCount (rowIn stateCount l) ≡ frameAs stateCount 5 l
       go true e =
           let w : (num l 1 * 256 + num l 2) / 256 ≡ num l 1 = omega (arith, bytes 2) in
           let x : (num l 1 * 256 + num l 2) % 256 ≡ num l 2 = omega (arith, bytes 2) in
@@ -110,11 +111,11 @@ module _ (s : Progress) (l : Line) (bytes : (i : ℕ) → num l i < 256) (b : Be
 
   -- the rows after a line of the kind at this place
   abbrev rowsThen : ℕ → List TableRow
-  rowsThen k = more (eqb k 5) (rowIn there l) (s .rows)
+  rowsThen k = more (eqb k 5) (rowIn stateCount l) (s .rows)
 
   abbrev OneMore : ℕ → Type 0
   OneMore k = Met s k l → sections (programAfter (s .program) k l) (rowsThen k)
-      ≡ cond (eqb k 8) (sections (s .program) (s .rows)) (sections (s .program) (s .rows) ++ frameAs there k l ∷ [])
+      ≡ cond (eqb k 8) (sections (s .program) (s .rows)) (sections (s .program) (s .rows) ++ frameAs stateCount k l ∷ [])
 
   one-more : (k : ℕ) → 1 < k → k ≤ 8 → OneMore k
   one-more = by-kind OneMore
@@ -122,11 +123,11 @@ module _ (s : Progress) (l : Line) (bytes : (i : ℕ) → num l i < 256) (b : Be
       (simp (append-nil, zero-add, m .nodes refl .0)))
       (λ m. rw (no-rows 3 m (omega arith), no-transitions 3 m (omega arith), no-initial 3 m (omega arith), no-rejecting 3 m (omega arith)) (simp (map-append, append-nil, append-assoc)))
       (λ m.
-      rw (no-initial 4 m (omega arith), no-rejecting 4 m (omega arith), rule-on there (s .program .automaton .transitions) (s .rows) (transitionIn l) (no-rows 4 m (omega arith)))
+      rw (no-initial 4 m (omega arith), no-rejecting 4 m (omega arith), transition-more stateCount (s .program .automaton .transitions) (s .rows) (transitionIn l) (no-rows 4 m (omega arith)))
       (simp (append-nil, append-assoc)))
       (λ m.
       let none : s .program .automaton .transitions ≡ [] = drop-of-length-le (s .program .automaton .transitions) {i = 0} (omega (arith, m .row refl .1)) in
-      rw (no-initial 5 m (omega arith), no-rejecting 5 m (omega arith), rule-more there (s .program .automaton .transitions) (s .rows) (rowIn there l) none, row-framed)
+      rw (no-initial 5 m (omega arith), no-rejecting 5 m (omega arith), row-more stateCount (s .program .automaton .transitions) (s .rows) (rowIn stateCount l) none, row-framed)
       (simp (append-nil, append-assoc)))
       (λ m. rw (no-rejecting 6 m (omega arith)) (simp (map-append, append-nil, append-assoc)))
       (λ m. simp (map-append, append-assoc))
@@ -139,7 +140,7 @@ module _ (s : Progress) (l : Line) (bytes : (i : ℕ) → num l i < 256) (b : Be
       no-transitions k m z = empty transitionKey _ 4 k (λ x. omega arith) z (m .later) (b .transitions .rise)
 
       no-rows : (k : ℕ) → Met s k l → k < 5 → s .rows ≡ []
-      no-rows k m z = empty (rowKey there) _ 5 k (λ x. omega arith) z (m .later) (b .rows .rise)
+      no-rows k m z = empty (rowKey stateCount) _ 5 k (λ x. omega arith) z (m .later) (b .rows .rise)
 
       no-initial : (k : ℕ) → Met s k l → k < 6 → s .program .automaton .initial ≡ []
       no-initial k m z = empty initialKey _ 6 k (λ x. omega arith) z (m .later) (b .initial .rise)
@@ -147,7 +148,7 @@ module _ (s : Progress) (l : Line) (bytes : (i : ℕ) → num l i < 256) (b : Be
       no-rejecting : (k : ℕ) → Met s k l → k < 7 → s .program .automaton .rejecting ≡ []
       no-rejecting k m z = empty rejectingKey _ 7 k (λ x. omega arith) z (m .later) (b .rejecting .rise)
 
-  frames-after : (k : ℕ) (f : List ℕ) → 1 < k → k ≤ 8 → Met s k l → f ≡ frameAs there k l
+  frames-after : (k : ℕ) (f : List ℕ) → 1 < k → k ≤ 8 → Met s k l → f ≡ frameAs stateCount k l
       → framesWith (programAfter (s .program) k l) (rowsThen k) ≡ cond (eqb k 8) (framesWith (s .program) (s .rows)) (framesWith (s .program) (s .rows) ++ f ∷ [])
   unfolding framesWith
   frames-after k f h j m e = rw (e, ne-eqb k 1 (λ i. omega arith)) (go (eqb k 8) _ _ _ _ (rw (ne-eqb k 1 (λ i. omega arith)) at (one-more k h j m)))
@@ -249,7 +250,7 @@ after-read s done f b g r o j =
 
 -- ---- to the end
 
--- the program is well-formed, its rows too, and with these it is written as these frames; where there are rows, they are its table
+-- the program is well-formed, its rows too, and with these it is written as these frames; where count are rows, they are its table
 pub record ReadAs (p : Program) (fs : List (List ℕ)) : Type 0 where
   pub rs : List TableRow
   pub rows-there : rowsOf (p .automaton .states) fs ≡ rs

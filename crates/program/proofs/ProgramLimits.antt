@@ -1,6 +1,6 @@
 -- The limits of a well-formed program, and the longest file.
 use mathlib.Core.Path.{_≡_, refl, ap}
-use mathlib.Core.Bool.{true, _&&_}
+use mathlib.Core.Bool.{Bool, true, false, _&&_}
 use mathlib.Core.List.{List, [], _∷_, _++_, map, append-assoc}
 use Prim.Native.Nat.{ℕ, suc, _+_, _*_, _≤_, _<_}
 use native.Mathlib.Omega.{arith}
@@ -16,10 +16,10 @@ use Rattle.automaton.proofs.LabelsFit.{event-small}
 use Rattle.rows.specs.Rows.{maxRows, TableRow}
 use Rattle.program.specs.Sizes.{maxFrames}
 use Rattle.program.specs.Program.{Program, within, countsFit, transitionFits}
-use Rattle.program.specs.Frames.{packed, keyOf, nodesFrame, edgeFrame, transitionFrame, initialFrame, rejectingFrame, initialKey, rejectingKey}
+use Rattle.program.specs.Frames.{packed, keyOf, nodesFrame, edgeFrame, transitionFrame, rowFrame, initialFrame, rejectingFrame, initialKey, rejectingKey}
 use Rattle.program.specs.WellFormed.{All, WellFormed}
 use Rattle.tables.specs.Keys.{Ascending}
-use Rattle.program.specs.Writing.{nodesFrames, framesWith, framesOf, text, writtenWith, written}
+use Rattle.program.specs.Writing.{nodesFrames, transitionFrames, framesWith, text, writtenWith}
 use Rattle.program.proofs.SectionsAscend.{few}
 use Rattle.program.proofs.LinesJudged.{at-most}
 use Rattle.base.proofs.Bools.{both}
@@ -62,13 +62,13 @@ limits p c n e t si ai sr ar =
     }
 
 -- how many frames a program and rows are, without the end frame
-abbrev pub ruleCount : List Transition → List TableRow → ℕ
-ruleCount ts [] = length ts
-ruleCount ts (r ∷ rs) = length (r ∷ rs)
+abbrev pub transitionCount : List Transition → List TableRow → ℕ
+transitionCount ts [] = length ts
+transitionCount ts (r ∷ rs) = length (r ∷ rs)
 
 abbrev pub frameCount : Program → List TableRow → ℕ
 frameCount p rs =
-    1 + length (p .nodes) + length (p .edges) + ruleCount (p .automaton .transitions) rs + length (p .automaton .initial) + length (p .automaton .rejecting)
+    1 + length (p .nodes) + length (p .edges) + transitionCount (p .automaton .transitions) rs + length (p .automaton .initial) + length (p .automaton .rejecting)
 
 count-nodes : (f : ℕ) (ns : List ℕ) → length (nodesFrames f ns) ≡ length ns
 unfolding nodesFrames
@@ -133,23 +133,32 @@ nothing : length (text []) ≡ 0
 unfolding text
 nothing = refl
 
--- 9 for the header, and 16 * 7 + 256 * 11 + 512 * 9 + 16 * 5 + 16 * 5 for the sections
-sections-short : (p : Program) → WellFormed p → length (text (framesOf p)) ≤ 7705
+-- 512 transitions are 512 * 9 bytes, and 256 rows at most 256 * 17
+transitions-short : (q : ℕ) (ts : List Transition) (rs : List TableRow) → length ts ≤ 512 → length rs ≤ maxRows → length (text (transitionFrames q ts rs)) ≤ 4608
+transitions-short q ts [] h k = rw (length-section transitionFrame 4 (λ t. refl) ts) (omega arith)
+transitions-short q ts (r ∷ rs) h k = go (ltb 8 q) refl
+  where
+    go : (t : Bool) → ltb 8 q ≡ t → length (text (map (rowFrame q) (r ∷ rs))) ≤ 4608
+    go true e = rw (length-section (rowFrame q) 8 (λ x. rw e) (r ∷ rs)) (omega arith)
+    go false e = rw (length-section (rowFrame q) 7 (λ x. rw e) (r ∷ rs)) (omega arith)
+
+-- 9 for the header, and 16 * 7 + 256 * 11 + 4608 + 16 * 5 + 16 * 5 for the sections
+sections-short : (p : Program) → WellFormed p → (rs : List TableRow) → length rs ≤ maxRows → length (text (framesWith p rs)) ≤ 7705
 unfolding framesWith
-sections-short p w =
+sections-short p w rs k =
+    let limit = well-formed-limits p w in
     simp (
       text-append,
       length-append,
       length-line,
       length-nodes,
       length-section edgeFrame 5 (λ e. refl),
-      length-section transitionFrame 4 (λ t. refl),
       length-section initialFrame 2 (λ q. refl),
       length-section rejectingFrame 2 (λ q. refl),
     )
-    (omega (arith, well-formed-limits p w))
+    (omega (arith, limit, transitions-short (p .automaton .states) (p .automaton .transitions) rs (limit .transitions) k))
 
 -- and 7 for the end frame
-pub written-short : (p : Program) → WellFormed p → length (written p) ≤ 7712
+pub written-short : (p : Program) → WellFormed p → (rs : List TableRow) → length rs ≤ maxRows → length (writtenWith p rs) ≤ 7712
 unfolding writtenWith
-written-short p w = simp (text-append, length-append, length-line, nothing) (omega (arith, sections-short p w))
+written-short p w rs k = simp (text-append, length-append, length-line, nothing) (omega (arith, sections-short p w rs k))

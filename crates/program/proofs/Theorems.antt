@@ -72,9 +72,12 @@ rows-read file h = accepted-file file h .table
 pub read-again : (p : Program) → WellFormed p → readFile (written p) ≡ accepted p
 read-again p w = read-again-with p w [] (no-rows p) (λ n. absurd (n refl))
 
--- A well-formed program's file has at most 7,712 bytes.
+-- A well-formed program's file has at most 7,712 bytes, with rows or without.
+pub limited-with : (p : Program) → WellFormed p → (rs : List TableRow) → WellFormedRows p rs → length (writtenWith p rs) ≤ 7712
+limited-with p w rs v = written-short p w rs (v .rows-limited)
+
 pub written-limited : (p : Program) → WellFormed p → length (written p) ≤ 7712
-written-limited = written-short
+written-limited p w = limited-with p w [] (no-rows p)
 
 -- A refusal's number is 1 to 8, 19, 20 or 23, and its line at most 819, whatever the file.
 pub few-lines : (file : List ℕ) → (n line : ℕ) → readFile file .verdict ≡ Refused n line → (0 < n) × (n ≤ 23) × (line ≤ 819) × ((n ≤ 8) ⊎ (19 ≤ n)) × (n ≢ 21) × (n ≢ 22)

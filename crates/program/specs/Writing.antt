@@ -14,18 +14,18 @@ unfoldable pub nodesFrames : ℕ → List ℕ → List (List ℕ)
 nodesFrames f [] = []
 nodesFrames f (n ∷ ns) = nodesFrame f n ∷ nodesFrames (f + 1) ns
 
--- the frames of the rule, where there are so many states: one for each transition (paper: a frame 54) or, in a file with
--- rows, one for each row (paper: a frame 55)
-abbrev pub ruleFrames : ℕ → List Transition → List TableRow → List (List ℕ)
-ruleFrames states ts [] = map transitionFrame ts
-ruleFrames states ts (r ∷ rs) = map (rowFrame states) (r ∷ rs)
+-- the frames of an automaton's transitions, where it has so many states: one for each (paper: a frame 54) or, in a file
+-- with rows, one for each row of their table (paper: a frame 55)
+abbrev pub transitionFrames : ℕ → List Transition → List TableRow → List (List ℕ)
+transitionFrames states ts [] = map transitionFrame ts
+transitionFrames states ts (r ∷ rs) = map (rowFrame states) (r ∷ rs)
 
 -- the frames before the end frame of a program and rows, in the order of the table of kinds
 unfoldable pub framesWith : Program → List TableRow → List (List ℕ)
 framesWith p rs =
     headerFrame (p .routines) (p .automaton .states) (p .automaton .actions)
     ∷ (nodesFrames 0 (p .nodes) ++ (map edgeFrame (p .edges)
-    ++ (ruleFrames (p .automaton .states) (p .automaton .transitions) rs
+    ++ (transitionFrames (p .automaton .states) (p .automaton .transitions) rs
     ++ (map initialFrame (p .automaton .initial) ++ map rejectingFrame (p .automaton .rejecting)))))
 
 -- those of a program that is written with its transitions
