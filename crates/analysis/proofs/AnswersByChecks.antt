@@ -19,8 +19,8 @@ use Rattle.base.proofs.Bools.{both}
 use Rattle.checks.specs.Checked.{Checked}
 use Rattle.reader.specs.declared.Reading.{Reading}
 use Rattle.reach.specs.Configurations.{none-set}
-use Rattle.reach.specs.Marks.{freshMarks, violationsFrom, firstFrom}
-use Rattle.analysis.specs.Answers.{limited, followedBy, analyzeBy, analyzeAnswer, onSuccess, marksAfter, workAfter, same, owned, foundOf, nextBy, nextAnswer}
+use Rattle.reach.specs.Marks.{freshMarks, violations, violationsFrom, firstFrom}
+use Rattle.analysis.specs.Answers.{limited, followedBy, analyzeBy, analyzeAnswer, onSuccess, marksAfter, workAfter, same, owned, foundOf, foundBy, nextAnswer}
 use Rattle.worklist.specs.Parts.{within}
 
 -- what those ask who are called where nothing is refused
@@ -41,12 +41,13 @@ module _ (file marks work : List ℕ) {r : Reading} (k : Checked file (Of (lengt
         λ i. onSuccess (w i) (none-set (sizesOf (e i))) work,
       )
 
-  pub next-answered : (low : ℕ) → (nextBy v (programOf (r .program)) marks low ≡ nextAnswer file marks work low) × (onSuccess v (none-set (sizesOf (programOf (r .program)))) work ≡ workAfter file marks work)
+  pub next-answered : (low : ℕ) → let p = programOf (r .program) in
+      (foundBy (followedBy v (owned p marks)) (firstFrom low (violations p)) ≡ nextAnswer file marks work low) × (onSuccess v (none-set (sizesOf (programOf (r .program)))) work ≡ workAfter file marks work)
   unfolding nextAnswer workAfter
   next-answered low =
       let e = k .program in
       let w = sym h ∙ k .verdict in
-      (λ i. nextBy (w i) (e i) marks low, λ i. onSuccess (w i) (none-set (sizesOf (e i))) work)
+      (λ i. foundBy (followedBy (w i) (owned (e i) marks)) (firstFrom low (violations (e i))), λ i. onSuccess (w i) (none-set (sizesOf (e i))) work)
 
 -- ---- the same bytes
 
@@ -103,5 +104,5 @@ module _ (p : Program) (marks : List ℕ) where
       by-marks (λ v. v ≡ Refused n line → n ≡ 17) (λ t e. absurd (let z : _≡_ {A = ℕ} 0 1 = cc in omega arith)) (λ t e. cc)
 
   pub own-found : (low i : ℕ) → owned p marks ≡ Accepted → firstFrom low (violationsFrom (sizesOf p) p marks 0) ≡ within (numbers (sizesOf p)) i
-      → foundOf (within (numbers (sizesOf p)) i) ≡ nextBy Accepted p marks low
+      → foundOf (within (numbers (sizesOf p)) i) ≡ foundBy (owned p marks) (firstFrom low (violations p))
   own-found low i e f = rw e (ap foundOf (sym (rw (accepted-own e) at f)))

@@ -3,6 +3,7 @@ use Prim.Native.Nat.{ℕ, _≤_, _<_}
 use mathlib.Core.Path.{_≡_, refl, sym, ap, subst, _∙_}
 use mathlib.Core.Bool.{Bool, true, false}
 use mathlib.Core.List.{List, [], _∷_}
+use native.Mathlib.Omega.{arith}
 use lib.Dec.{ltb}
 use lib.ListN.{length}
 use borrow.Author.Tests.{lt-ltb, le-ltb, ltb-true, ltb-false, leb-true, leb-false}
@@ -20,7 +21,7 @@ use Rattle.reach.specs.Ranged.{Sized}
 use Rattle.program.specs.declared.sizes.Sizes.{Sizes}
 use Rattle.reach.proofs.ShapeKept.{marks-length}
 use Rattle.reach.proofs.TakingsBounded.{iterations-bound}
-use Rattle.worklist.specs.Parts.{Analyzed}
+use Rattle.worklist.specs.Parts.{analysisWithin, Analyzed}
 use Rattle.worklist.proofs.AnalysisLimited.{limit-enough}
 use Rattle.analysis.specs.Answers.{limited, followedBy}
 
@@ -50,6 +51,13 @@ unlimited v p wf = rw (enough-accepted p (enoughIterations (sizesOf p)) (iterati
     go Accepted = refl
     go (Refused n line) = refl
 
+-- a limit that is enough leaves the whole analysis
+enough-whole : {Z : Sizes} {limit : ℕ} (p : Program) → WellFormed p → Z ≡ sizesOf p → analysis p .iterations ≤ limit → {m : List ℕ} {n : ℕ} {t : Bool} → Analyzed Z p limit m n t
+    → (m ≡ freshMarks p) × (n ≡ analysis p .iterations)
+enough-whole {Z} {limit} p wf e h a =
+    let w = ap (λ (z : Sizes). analysisWithin z limit p) e ∙ limit-enough (sizesOf p) (usable p wf) p (ranged p wf) limit h in
+    (a .marks ∙ ap (λ (s : Worklist). s .marks) w, a .iterations ∙ ap (λ (s : Worklist). s .iterations) w)
+
 -- what is left of an analysis, where it has ended and where it has not
 module _ (p : Program) (wf : WellFormed p) (limit : ℕ) {m : List ℕ} {n : ℕ} {t : Bool} (a : Analyzed (sizesOf p) p limit m n t) where
   pub gives-up : t ≡ false → limited p limit ≡ Refused 22 0
@@ -63,10 +71,10 @@ module _ (p : Program) (wf : WellFormed p) (limit : ℕ) {m : List ℕ} {n : ℕ
     ended-accepted = enough-accepted p limit enough
 
     pub ended-marks : m ≡ freshMarks p
-    ended-marks = a .marks ∙ ap (λ (s : Worklist). s .marks) (limit-enough (sizesOf p) (usable p wf) p (ranged p wf) limit enough)
+    ended-marks = enough-whole p wf refl enough a .0
 
     pub ended-count : n ≡ analysis p .iterations
-    ended-count = a .iterations ∙ ap (λ (s : Worklist). s .iterations) (limit-enough (sizesOf p) (usable p wf) p (ranged p wf) limit enough)
+    ended-count = enough-whole p wf refl enough a .1
 
     pub ended-length : length m ≡ numbers (sizesOf p)
     ended-length = ap length ended-marks ∙ marks-length (sizesOf p) (usable p wf) p
@@ -77,7 +85,5 @@ own-sized p e wf = subst (λ (y : Sizes). Sized y p) (sym e) (sized p wf)
 
 -- without a limit the marks are the program's own
 pub own-marks : {Z : Sizes} {limit : ℕ} (p : Program) → WellFormed p → Z ≡ sizesOf p → limit ≡ enoughIterations Z → {m : List ℕ} {n : ℕ} {t : Bool} → Analyzed Z p limit m n t → m ≡ freshMarks p
-own-marks {Z} {limit} p wf e l {m} {n} {t} a =
-    let b : Analyzed Z p (enoughIterations Z) m n t = subst (λ (k : ℕ). Analyzed Z p k m n t) l a in
-    let c : Analyzed (sizesOf p) p (enoughIterations (sizesOf p)) m n t = subst (λ (y : Sizes). Analyzed y p (enoughIterations y) m n t) e b in
-    c .marks ∙ ap (λ (s : Worklist). s .marks) (limit-enough (sizesOf p) (usable p wf) p (ranged p wf) (enoughIterations (sizesOf p)) (iterations-bound (sizesOf p) (usable p wf) p))
+own-marks p wf e l a =
+    enough-whole p wf e (omega (arith, iterations-bound (sizesOf p) (usable p wf) p, l ∙ ap enoughIterations e)) a .0

@@ -56,6 +56,9 @@ followedBy (verdict.Refused n line) v = verdict.Refused n line
 abbrev pub checkedLimit : List ℕ → List ℕ → List ℕ → ℕ → Verdict
 checkedLimit file marks work limit = followedBy (checkedMarks file marks work) (limited (readFile file .program) limit)
 
+abbrev pub checkedOwn : List ℕ → List ℕ → List ℕ → Verdict
+checkedOwn file marks work = followedBy (checkedMarks file marks work) (owned (readFile file .program) marks)
+
 -- ---- `analyze`
 
 -- the counts of configurations, of violations and of iterations, or the refusal
@@ -91,13 +94,10 @@ abbrev pub foundBy : Verdict → Option ℕ → NextAnswer
 foundBy verdict.Accepted v = foundOf v
 foundBy (verdict.Refused n line) v = next.Refused n line
 
--- foreign marks are refused; else the first violation not below the number is found, or none
-abbrev pub nextBy : Verdict → Program → List ℕ → ℕ → NextAnswer
-nextBy verdict.Accepted p marks low = foundBy (owned p marks) (firstFrom low (violations p))
-nextBy (verdict.Refused n line) p marks low = next.Refused n line
-
+-- the first violation not below the number is found, or none
 unfoldable pub nextAnswer : List ℕ → List ℕ → List ℕ → ℕ → NextAnswer
-nextAnswer file marks work low = nextBy (checkedMarks file marks work) (readFile file .program) marks low
+nextAnswer file marks work low =
+    foundBy (checkedOwn file marks work) (firstFrom low (violations (readFile file .program)))
 
 -- ---- the numbers of the answers; 0 where there is none
 

@@ -21,11 +21,10 @@ ghost use lib.ListN.{length};
 ghost use Rattle.program.specs.Chosen.{sizesOf, numbers};
 ghost use Rattle.program.specs.WellFormed.{WellFormed};
 ghost use Rattle.program.specs.Decoded.{programOf};
-ghost use Rattle.program.specs.declared.Verdict.the-variants.{Accepted};
 ghost use Rattle.reach.specs.Configurations.{none-set};
-ghost use Rattle.reach.specs.Marks.{freshMarks};
+ghost use Rattle.reach.specs.Marks.{freshMarks, violations, firstFrom};
 ghost use Rattle.analysis.specs.Answers.{limited, analyzeBy, analyzeAnswer, onSuccess, marksAfter};
-ghost use Rattle.analysis.specs.Answers.{workAfter, owned, foundOf, nextBy, nextAnswer};
+ghost use Rattle.analysis.specs.Answers.{workAfter, owned, foundOf, foundBy, nextAnswer};
 ghost use Rattle.worklist.specs.Parts.{within, Analyzed};
 
 // The counts of configurations, violations and iterations; or a refusal, at a line.
@@ -130,7 +129,8 @@ fn search_own(p: DecodedProgram, marks: &[u8], work: &mut [u8], low: usize) -> N
     requires { ⌜ WellFormed (programOf p) ⌝ }
     requires { ⌜ (length (now marks) ≡ numbers (sizesOf (programOf p)))
         × (length (now work) ≡ numbers (sizesOf (programOf p))) ⌝ }
-    ensures { λ r. ⌜ (r ≡ nextBy Accepted (programOf p) (now (marks .entry)) low) × (now (work .exit) ≡ none-set (sizesOf (programOf p))) ⌝ }
+    ensures { λ r. ⌜ (r ≡ foundBy (owned (programOf p) (now (marks .entry))) (firstFrom low (violations (programOf p))))
+        × (now (work .exit) ≡ none-set (sizesOf (programOf p))) ⌝ }
 {
     let own = check_own(p, marks, work);
     match own {

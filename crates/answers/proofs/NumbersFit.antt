@@ -33,7 +33,7 @@ use Rattle.reach.proofs.TakingsBounded.{iterations-bound}
 use Rattle.reach.proofs.MarksShown.{fresh-shows, few-marks}
 use Rattle.reach.specs.Violations.{Violation, First, nowhere, at}
 use Rattle.reach.proofs.ViolationsExact.{few-violations, next-violation}
-use Rattle.analysis.specs.Answers.{limited, followedBy, analyzeBy, analyzeAnswer, foundOf, foundBy, nextBy, nextAnswer}
+use Rattle.analysis.specs.Answers.{limited, followedBy, analyzeBy, analyzeAnswer, owned, foundOf, foundBy, nextAnswer}
 use Rattle.analysis.proofs.AnswersByChecks.{by-marks}
 use Rattle.analysis.proofs.LimitDecides.{by-limit}
 use Rattle.exchange.specs.Changes.{Exchange, Change, step, whole, ChangeRead, Read, Refused as Denied, Form, ExchangeText}
@@ -108,7 +108,7 @@ module _ (file marks work : List ℕ) where
   pub next-fits : (low : ℕ) → NextFits (nextAnswer file marks work low)
   unfolding nextAnswer
   next-fits low =
-      by-checks file (Of (length marks)) NotAsked (Of (length work)) (λ v. NextFits (nextBy v p marks low))
+      by-checks file (Of (length marks)) NotAsked (Of (length work)) (λ v. NextFits (foundBy (followedBy v (owned p marks)) (firstFrom low (violations p))))
       (λ w. by-marks p marks (λ v. NextFits (foundBy v (firstFrom low (violations p))))
       (λ t. number w (firstFrom low (violations p)) (next-violation (sizesOf p) (usable p w) (fresh-shows (sizesOf p) (usable p w) p (ranged p w)) low)) (λ t. (omega arith, omega arith)))
       (λ n line h. (h, omega arith))

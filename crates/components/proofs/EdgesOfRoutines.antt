@@ -10,6 +10,7 @@ use Rattle.program.specs.declared.sizes.Sizes.{Sizes}
 use Rattle.program.specs.Program.{Edge, Program, edgeFits}
 use Rattle.program.specs.Frames.{edgeKey}
 use Rattle.program.specs.WellFormed.{All, WellFormed}
+use Rattle.program.proofs.OtherEdges.{other-edges}
 use Rattle.tables.specs.Keys.{Ascending}
 use Rattle.reach.specs.Runs.{Step, stepOf, HasStep}
 use Rattle.reach.specs.Ranged.{Ranged, Sized}
@@ -52,22 +53,10 @@ edges-ascend c low (e ∷ es) a =
 
 pub only-well-formed : (c : ℕ → Bool) (p : Program) → WellFormed p → WellFormed (onlyOf c p)
 only-well-formed c p w =
-    record {
-      counts-fit = w .counts-fit;
-      complete = w .complete;
-      nodes-fit = w .nodes-fit;
-      edges-fit = edges-all (edgeFits p) c (p .edges) (w .edges-fit);
-      edges-ascend = edges-ascend c 0 (p .edges) (w .edges-ascend);
-      edges-limited = omega (arith, edges-few c (p .edges), w .edges-limited);
-      transitions-fit = w .transitions-fit;
-      transitions-ascend = w .transitions-ascend;
-      transitions-limited = w .transitions-limited;
-      initial-fit = w .initial-fit;
-      initial-ascend = w .initial-ascend;
-      rejecting-fit = w .rejecting-fit;
-      rejecting-ascend = w .rejecting-ascend;
-      sized = w .sized;
-    }
+    other-edges p w (edgesOf c (p .edges))
+    (edges-all (edgeFits p) c (p .edges) (w .edges-fit))
+    (edges-ascend c 0 (p .edges) (w .edges-ascend))
+    (omega (arith, edges-few c (p .edges), w .edges-limited))
 
 -- ---- the steps
 

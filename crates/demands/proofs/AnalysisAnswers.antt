@@ -29,7 +29,7 @@ use Rattle.reach.proofs.TakingsBounded.{iterations-taken, most-times}
 use Rattle.reach.proofs.AnalysisExact.{pending-clear}
 use Rattle.reach.proofs.MarksShown.{every-byte, fresh-shows, occurs-in-range}
 use Rattle.reach.proofs.ViolationsExact.{listed-iff, next-violation, violations-ascend}
-use Rattle.analysis.specs.Answers.{checkedMarks, limited, followedBy, analyzeBy, analyzeAnswer, analyzeRefusal, configurationCount, violationCount, iterationCount, onSuccess, marksAfter, owned, foundOf, foundBy, nextBy, nextAnswer, nextRefusal, nextFound}
+use Rattle.analysis.specs.Answers.{checkedMarks, limited, followedBy, analyzeBy, analyzeAnswer, analyzeRefusal, configurationCount, violationCount, iterationCount, onSuccess, marksAfter, owned, foundOf, foundBy, nextAnswer, nextRefusal, nextFound}
 use Rattle.analysis.specs.declared.NextAnswer.{NextAnswer}
 use Rattle.analysis.proofs.AnswersByChecks.{by-marks}
 use Rattle.analysis.proofs.LimitDecides.{by-limit}
@@ -176,7 +176,7 @@ next-given b a g z =
         by-marks p (b .marks) (λ v. nextRefusal (by v) ≡ 0 → Next Z p (b .from) (nextFound (by v)))
         (λ t y. found (firstFrom (b .from) (violations p)) (next-violation Z (usable p w) (fresh-shows Z (usable p w) p (ranged p w)) (b .from))) (λ t y. absurd (omega arith))
 
-    go : (v : Verdict) → checkedMarks (b .file) (b .marks) (b .work) ≡ v → nextRefusal (nextBy v p (b .marks) (b .from)) ≡ 0
-        → Next Z p (b .from) (nextFound (nextBy v p (b .marks) (b .from)))
+    go : (v : Verdict) → checkedMarks (b .file) (b .marks) (b .work) ≡ v → nextRefusal (by (followedBy v (owned p (b .marks)))) ≡ 0
+        → Next Z p (b .from) (nextFound (by (followedBy v (owned p (b .marks)))))
     go Accepted e y = own (checked-well-formed b e) y
     go (Refused n line) e y = not-none b e y

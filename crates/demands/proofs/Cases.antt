@@ -4,11 +4,11 @@ use Prim.Native.Nat.{ℕ}
 use lib.Dec.{eqb}
 use mathlib.Core.List.{List, _∷_, List·Memᴰ, List·Memᴰ·head, List·Memᴰ·tail, List·Memᴰ·not-nil}
 use Rattle.text.specs.Hex.{hex}
-use Rattle.text.specs.Lines.{lines, numbers}
+use Rattle.text.specs.Lines.{lines, numbersOf}
 use Rattle.automaton.specs.Automaton.{listed, heard, moves}
 use Rattle.tables.specs.Keys.{member}
 use Rattle.program.specs.Reading.{judgeAs, judge, afterAs, after, readFrom, readFile}
-use Rattle.program.specs.Chosen.{largest, numbers as numbersIn}
+use Rattle.program.specs.Chosen.{largest, numbers}
 use Rattle.program.specs.Checks.{firstMet, checked}
 use Rattle.program.specs.Writing.{nodesFrames, framesWith, text, writtenWith}
 use Rattle.reach.specs.Configurations.{number, routineOf, nodeOf, rootOf, stateOf, none-set}
@@ -35,7 +35,7 @@ use Rattle.demands.proofs.CasesReanalyzed.{p5-reanalyzed, p6-reanalyzed
 
 -- what the rows compute with: to unfold one of these three is to unfold all that it names
 editing : Unit {0}
-unfolding lines numbers largest numbersIn judgeAs judge afterAs after readFrom readFile editFrom readEdit hasEdge without inserted editedProgram wantedEdit others insertedAll exchangedProgram any anyAstray exchangeFrom wantedExchange firstMet checked repaired same analyzeAnswer marksAfter workAfter writtenWith framesWith nodesFrames text hex roomWanted roomAnswer
+unfolding lines numbersOf largest numbers judgeAs judge afterAs after readFrom readFile editFrom readEdit hasEdge without inserted editedProgram wantedEdit others insertedAll exchangedProgram any anyAstray exchangeFrom wantedExchange firstMet checked repaired same analyzeAnswer marksAfter workAfter writtenWith framesWith nodesFrames text hex roomWanted roomAnswer
 editing = tt
 
 analyzing : Unit {0}

@@ -7,12 +7,12 @@ use mathlib.Core.Logic.{_⊎_, inl, inr, _↔_}
 use mathlib.Core.List.{List, [], _∷_, List·Memᴰ·head, List·Memᴰ·tail, List·Memᴰ·not-nil}
 use native.Mathlib.Omega.{arith}
 use native.Mathlib.Nat.{pow-le-pow-right, div-eq-of-lt}
-use Rattle.text.specs.Lines.{lines, numbers}
+use Rattle.text.specs.Lines.{lines, numbersOf}
 use Rattle.automaton.specs.Automaton.{listed, heard, moves}
 use Rattle.automaton.specs.declared.Event.{Event}
 use Rattle.automaton.specs.declared.Event.the-variants.{Action, Call}
 use Rattle.program.specs.Program.{Edge, Program}
-use Rattle.program.specs.Chosen.{largest, numbers as numbersIn}
+use Rattle.program.specs.Chosen.{largest, numbers}
 use Rattle.program.specs.Reading.{judgeAs, judge, afterAs, after, readFrom, readFile}
 use Rattle.program.specs.Sample.{bytes, F}
 use Rattle.reach.specs.Runs.{Step, HasStep}
@@ -311,7 +311,7 @@ stepped-again = routines-0-1 _ (inl main-reanalyzed) (inl called-reanalyzed) (λ
 
 -- to unfold this is to unfold all that reading, editing and exchanging compute with
 changing : Unit {0}
-unfolding lines numbers largest numbersIn judgeAs judge afterAs after readFrom readFile inserted without editedProgram others insertedAll emptied exchangedProgram
+unfolding lines numbersOf largest numbers judgeAs judge afterAs after readFrom readFile inserted without editedProgram others insertedAll emptied exchangedProgram
 changing = tt
 
 abbrev programOf : List String → Program

@@ -9,7 +9,7 @@ use lib.Dec.{ltb, eqb}
 use lib.ListN.{length}
 use borrow.Author.Tests.{ltb-true, ltb-false, eqb-true, eqb-false, lt-ltb, ne-eqb}
 use Rattle.rows.specs.Rows.{TableRow, Pair, timesMet, pairRefusal, tableRefusal, tableTransitions}
-use Rattle.text.specs.Lines.{lines, numbers, lineFrom}
+use Rattle.text.specs.Lines.{lines, numbersOf, lineFrom}
 use Rattle.program.specs.Reading.{Progress, start, refused, judgeAs, judge, after, pairsOf, withTransitions, accepted, sizesDecide, tableDecides, finished, readFrom, readFile}
 use Rattle.program.specs.Chosen.{sizesFit}
 use Rattle.program.specs.Program.{Program}
@@ -37,7 +37,7 @@ ended-good e t z (by-table h r x) = x (t r)
 ended-good e t z (by-sizes h r x) = both z x
 
 line-good : {s : Progress} {l : List ℕ} {ls : List (List ℕ)} {n line : ℕ} → s .ended ≡ false → lineNumber s l ≡ 0
-    → ¬ (Faulty (after s (lineFrom (numbers l))) ls n line) → ¬ (Faulty s (l ∷ ls) n line)
+    → ¬ (Faulty (after s (lineFrom (numbersOf l))) ls n line) → ¬ (Faulty s (l ∷ ls) n line)
 line-good e z r (after-end h) = both h e
 line-good e z r (here h x) = x z
 line-good e z r (later h y f) = r f
@@ -88,21 +88,21 @@ told [] s = go (s .ended) refl
     go : (t : Bool) → s .ended ≡ t → Says s [] (cond t (finished (s .rows) (s .program)) (refused 8 (s .frames + 1)) .verdict)
     go true e = at-end s e (s .rows) refl
     go false e = unended e
-told (l ∷ ls) s = go (s .ended) refl (told ls (after s (lineFrom (numbers l))))
+told (l ∷ ls) s = go (s .ended) refl (told ls (after s (lineFrom (numbersOf l))))
   where
-    good : s .ended ≡ false → lineNumber s l ≡ 0 → (v : Verdict) → Says (after s (lineFrom (numbers l))) ls v → Says s (l ∷ ls) v
+    good : s .ended ≡ false → lineNumber s l ≡ 0 → (v : Verdict) → Says (after s (lineFrom (numbersOf l))) ls v → Says s (l ∷ ls) v
     good e z Accepted r = λ n line. line-good e z (r n line)
     good e z (Refused n line) r = later e z r
 
-    go : (t : Bool) → s .ended ≡ t → Says (after s (lineFrom (numbers l))) ls (readFrom (after s (lineFrom (numbers l))) ls .verdict)
-        → Says s (l ∷ ls) (cond t (refused 8 (s .frames + 1)) (cond (ltb 0 (lineNumber s l)) (refused (lineNumber s l) (s .frames + 1)) (readFrom (after s (lineFrom (numbers l))) ls)) .verdict)
+    go : (t : Bool) → s .ended ≡ t → Says (after s (lineFrom (numbersOf l))) ls (readFrom (after s (lineFrom (numbersOf l))) ls .verdict)
+        → Says s (l ∷ ls) (cond t (refused 8 (s .frames + 1)) (cond (ltb 0 (lineNumber s l)) (refused (lineNumber s l) (s .frames + 1)) (readFrom (after s (lineFrom (numbersOf l))) ls)) .verdict)
     go true e r = after-end e
     go false e r = by-fault (ltb 0 (lineNumber s l)) refl
       where
         by-fault : (t : Bool) → ltb 0 (lineNumber s l) ≡ t
-            → Says s (l ∷ ls) (cond t (refused (lineNumber s l) (s .frames + 1)) (readFrom (after s (lineFrom (numbers l))) ls) .verdict)
+            → Says s (l ∷ ls) (cond t (refused (lineNumber s l) (s .frames + 1)) (readFrom (after s (lineFrom (numbersOf l))) ls) .verdict)
         by-fault true h = here e (not-none (lineNumber s l) h)
-        by-fault false h = good e (let x = ltb-false 0 (lineNumber s l) h in omega arith) (readFrom (after s (lineFrom (numbers l))) ls .verdict) r
+        by-fault false h = good e (let x = ltb-false 0 (lineNumber s l) h in omega arith) (readFrom (after s (lineFrom (numbersOf l))) ls .verdict) r
 
 abbrev pub SaysFile : List ℕ → Verdict → Type 0
 SaysFile file v = Says start (lines file) v

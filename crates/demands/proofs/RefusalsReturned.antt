@@ -24,7 +24,7 @@ use Rattle.writer.specs.Answers.{answerBy, outputBy, checkedOutput, writeAnswer
 use Rattle.reach.specs.Configurations.{none-set}
 use Rattle.reach.specs.Worklist.{analysis}
 use Rattle.reach.specs.Marks.{freshMarks, firstFrom, violations}
-use Rattle.analysis.specs.Answers.{checkedMarks, limitRow, limited, followedBy, analyzeBy, analyzeAnswer, onSuccess, marksAfter, workAfter, same, foreignRow, foundOf, foundBy, nextBy, nextAnswer}
+use Rattle.analysis.specs.Answers.{checkedMarks, limitRow, limited, followedBy, analyzeBy, analyzeAnswer, onSuccess, marksAfter, workAfter, same, owned, foreignRow, foundOf, foundBy, nextAnswer}
 use Rattle.prune.specs.Pruning.{Pruned}
 use Rattle.exchange.specs.Changes.{Change, ChangeRead, Form, EditLine, ExchangeText}
 use Rattle.exchange.specs.Changes as change
@@ -265,7 +265,7 @@ next-good b =
     own false o r = late r (inr (spares (inl refl)))
 
     go : (v : Verdict) → Judged next-violation b (foreignRow (programIn b) (b .marks) ∷ []) v
-        → Demand1 next-violation b (nextBack b (nextBy v (programIn b) (b .marks) (b .from)) (onSuccess v (zeroed (b .work)) (b .work)))
+        → Demand1 next-violation b (nextBack b (foundBy (followedBy v (owned (programIn b) (b .marks))) (firstFrom (b .from) (violations (programIn b)))) (onSuccess v (zeroed (b .work)) (b .work)))
     go Accepted r = own (same (b .marks) (freshMarks (programIn b))) (firstFrom (b .from) (violations (programIn b))) r
     go (Refused n line) x = early x
 

@@ -8,10 +8,10 @@ use mathlib.Core.Bool.{Bool, true, false, _&&_, not}
 use mathlib.Core.List.{List, [], _∷_, _++_}
 use lib.Dec.{ltb, leb, eqb}
 use lib.ListN.{length}
-use Rattle.text.specs.Lines.{lines, numbers, lineFrom}
+use Rattle.text.specs.Lines.{lines, numbersOf, lineFrom}
 use Rattle.text.specs.declared.Line.{Line}
 use Rattle.program.specs.Program.{Program}
-use Rattle.program.specs.Chosen.{sizesOf, sizesFit, numbers as numbersIn}
+use Rattle.program.specs.Chosen.{sizesOf, sizesFit, numbers}
 use Rattle.program.specs.Frames.{size, kind}
 use Rattle.rows.specs.Rows.{TableRow, Pair, timesMet}
 use Rattle.program.specs.Reading.{Progress, start, ordered, ranged, full, miscounted, after, pairsOf}
@@ -55,7 +55,7 @@ lineRows s l =
     ∷ []
 
 abbrev pub lineNumber : Progress → List ℕ → ℕ
-lineNumber s l = firstMet (lineRows s (lineFrom (numbers l)))
+lineNumber s l = firstMet (lineRows s (lineFrom (numbersOf l)))
 
 -- the rows (of this table of refusals) for a state and an action, by the rows of a file
 abbrev pub pairRows : List TableRow → Pair → List Row
@@ -91,7 +91,7 @@ pub data Faulty : Progress → List (List ℕ) → ℕ → ℕ → Type 0 where
       → Faulty s (l ∷ ls) (lineNumber s l) (s .frames + 1)
   -- it meets none, and a later line decides
   later : {s : Progress} {l : List ℕ} {ls : List (List ℕ)} {n line : ℕ} → s .ended ≡ false → lineNumber s l ≡ 0
-      → Faulty (after s (lineFrom (numbers l))) ls n line → Faulty s (l ∷ ls) n line
+      → Faulty (after s (lineFrom (numbersOf l))) ls n line → Faulty s (l ∷ ls) n line
 
 abbrev pub FaultyFile : List ℕ → ℕ → ℕ → Type 0
 FaultyFile file n line = Faulty start (lines file) n line
@@ -127,7 +127,7 @@ editRows p l =
 
 -- how many bytes the marks of the file's program have
 abbrev pub marksLength : Lent → ℕ
-marksLength b = numbersIn (sizesOf (programIn b))
+marksLength b = numbers (sizesOf (programIn b))
 
 abbrev pub changeRows : Form → Program → List ℕ → List Row
 changeRows EditLine p s = editRows p (onlyLine s)

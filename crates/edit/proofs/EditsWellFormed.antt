@@ -15,6 +15,7 @@ use Rattle.program.specs.WellFormed.{All, WellFormed}
 use Rattle.tables.specs.Keys.{Ascending}
 use Rattle.base.proofs.Bools.{both, and-false, neither, or-swap}
 use Rattle.program.proofs.FramesFitBytes.{edge-bytes}
+use Rattle.program.proofs.OtherEdges.{other-edges}
 use Rattle.edit.specs.Edits.{oldEdge, newEdge}
 use Rattle.edit.specs.Editing.{sameEdge, hasEdge, without, inserted, withEdges, editRefusal, editedProgram}
 use Rattle.edit.specs.declared.Edit.{Edit}
@@ -169,36 +170,17 @@ module _ (p : Program) (w : WellFormed p) where
       other true k z = absurd (let s = same-key e x (edge-bytes p w e f) (edge-bytes p w x (a .0)) (eqb-true _ _ k) in let z : _≡_ {A = ℕ} 0 1 = cc in omega arith)
       other false k z = refl
 
-  pub with-edges : (es : List Edge) → All (edgeFits p) es → Ascending 0 (map edgeKey es) → length es ≤ maxEdges → WellFormed (withEdges p es)
-  with-edges es a s n =
-      record {
-        counts-fit = w .counts-fit;
-        complete = w .complete;
-        nodes-fit = w .nodes-fit;
-        edges-fit = a;
-        edges-ascend = s;
-        edges-limited = n;
-        transitions-fit = w .transitions-fit;
-        transitions-ascend = w .transitions-ascend;
-        transitions-limited = w .transitions-limited;
-        initial-fit = w .initial-fit;
-        initial-ascend = w .initial-ascend;
-        rejecting-fit = w .rejecting-fit;
-        rejecting-ascend = w .rejecting-ascend;
-        sized = w .sized;
-      }
-
   pub with-inserted : (e : Edge) (es : List Edge) → edgeFits p e ≡ true → hasEdge e es ≡ false → All (edgeFits p) es → Ascending 0 (map edgeKey es) → length es < maxEdges
       → WellFormed (withEdges p (inserted e es))
   with-inserted e es f h a s n =
-      with-edges (inserted e es)
+      other-edges p w (inserted e es)
       (all-inserted (edgeFits p) e es f a)
       (ascending-inserted 0 e es (omega arith) (fresh e es f a h) s)
       (omega (arith, length-inserted e es))
 
   with-dropped : (e : Edge) → WellFormed (withEdges p (without e (p .edges)))
   with-dropped e =
-      with-edges (without e (p .edges))
+      other-edges p w (without e (p .edges))
       (all-without (edgeFits p) e (p .edges) (w .edges-fit))
       (ascending-without 0 e (p .edges) (w .edges-ascend))
       (omega (arith, w .edges-limited, length-without e (p .edges)))

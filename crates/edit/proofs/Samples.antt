@@ -3,7 +3,7 @@
 use Prim.Native.String.{String}
 use mathlib.Core.Path.{_≡_, refl}
 use mathlib.Core.List.{[], _∷_}
-use Rattle.text.specs.Lines.{numbers}
+use Rattle.text.specs.Lines.{numbersOf}
 use Rattle.program.specs.Sample.{bytes}
 use Rattle.program.proofs.Samples.{sample}
 use Rattle.edit.specs.EditLines.{editFrom, readEdit}
@@ -24,7 +24,7 @@ step l = record { routine = 1; source = 0; label = l; target = 1 }
 
 -- to unfold this is to unfold all that reading computes with
 reading : Unit {0}
-unfolding numbers editFrom readEdit
+unfolding numbersOf editFrom readEdit
 reading = tt
 
 add-call : says "2B01004101" ≡ Read (Add (step (Call 1)))

@@ -5,7 +5,7 @@ use mathlib.Core.Bool.{Bool, cond, _&&_, _||_, not}
 use mathlib.Core.List.{List, []}
 use lib.Dec.{eqb}
 use lib.ListN.{length}
-use Rattle.text.specs.Lines.{numbers, lineOf, lineFrom, nextFrom}
+use Rattle.text.specs.Lines.{numbersOf, lineOf, lineFrom, nextFrom}
 use Rattle.text.specs.declared.Line.{Line}
 use Rattle.program.specs.Program.{Program, edgeFits}
 use Rattle.automaton.specs.Automaton.{labelFits}
@@ -20,7 +20,7 @@ use Rattle.edit.specs.declared.EditRead.the-variants.{Read, Refused}
 
 -- the line of a buffer that holds exactly one; a line without a number where it holds anything else
 abbrev pub onlyLine : List ℕ → Line
-onlyLine s = cond (eqb (nextFrom 0 (numbers s)) (length s)) (lineFrom (numbers s)) (lineOf [])
+onlyLine s = cond (eqb (nextFrom 0 (numbersOf s)) (length s)) (lineFrom (numbersOf s)) (lineOf [])
 
 -- 1 adds, 2 drops, 3 replaces; 0 for an unknown kind
 abbrev pub editKind : Line → ℕ

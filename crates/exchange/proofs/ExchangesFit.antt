@@ -8,7 +8,7 @@ use lib.Dec.{ltb, eqb}
 use lib.ListN.{length}
 use borrow.Author.Tests.{ltb-true, ltb-false, eqb-true, not-false}
 use Rattle.base.proofs.Bools.{both, neither, never}
-use Rattle.text.specs.Lines.{lines, numbers}
+use Rattle.text.specs.Lines.{lines, numbersOf}
 use Rattle.text.specs.declared.Line.{Line}
 use Rattle.tables.specs.Keys.{Ascending}
 use Rattle.program.specs.Sizes.{maxEdges}
@@ -69,7 +69,7 @@ module _ (b : Program) (f : ℕ) where
       let x = neither (badFrame l) (any badFrame (map lineIn qs)) h in
       let y = neither (outside b l) (any (outside b) (map lineIn qs)) o in
       let z = neither (astray f last l) (anyAstray f (frameKey l) (map lineIn qs)) a in
-      let e = edged last l (padded (numbers q)) (x .0) (y .0) (z .0) in
+      let e = edged last l (padded (numbersOf q)) (x .0) (y .0) (z .0) in
       let r = all-edged (frameKey l) qs (x .1) (y .1) (z .1) in
       record {
         all-fit = (e .fits, r .all-fit);

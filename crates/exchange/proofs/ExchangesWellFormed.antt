@@ -15,9 +15,10 @@ use Rattle.program.specs.Program.{Edge, Program, nodesFit, edgeFits}
 use Rattle.program.specs.Chosen.{sizesFit}
 use Rattle.program.specs.Frames.{edgeKey}
 use Rattle.program.specs.WellFormed.{All, WellFormed}
+use Rattle.program.proofs.OtherEdges.{other-nodes, other-edges}
 use Rattle.edit.specs.Editing.{sameEdge, hasEdge, withEdges}
 use Rattle.edit.proofs.EdgesRemaining.{lower, length-remaining, all-remaining, ascending-remaining}
-use Rattle.edit.proofs.EditsWellFormed.{same-equal, has-inserted, length-inserted, with-edges, with-inserted}
+use Rattle.edit.proofs.EditsWellFormed.{same-equal, has-inserted, length-inserted, with-inserted}
 use Rattle.exchange.specs.Changes.{Exchange}
 use Rattle.exchange.specs.Changing.{others, insertedAll, withNodes, emptied, exchangedProgram}
 use Rattle.exchange.specs.Wanted.{Fits}
@@ -29,7 +30,7 @@ pub emptied-well-formed : (f : ℕ) (p : Program) → WellFormed p → WellForme
 unfolding emptied
 emptied-well-formed f p w =
     rw (others-remaining f (p .edges))
-    (with-edges p w _
+    (other-edges p w _
     (all-remaining (own f) (edgeFits p) (p .edges) (w .edges-fit))
     (ascending-remaining (own f) 0 (p .edges) (w .edges-ascend))
     (omega (arith, w .edges-limited, length-remaining (own f) (p .edges))))
@@ -61,22 +62,13 @@ resized-well-formed : (f n : ℕ) (p : Program) → WellFormed p → nodesFit n 
 unfolding emptied
 resized-well-formed f n p w h z =
     let v = emptied-well-formed f p w in
-    record {
-      counts-fit = v .counts-fit;
-      complete = simp length-set (v .complete);
-      nodes-fit = all-set nodesFit (p .nodes) f n h (v .nodes-fit);
-      edges-fit = others-fit p f n (p .edges) (w .edges-fit);
-      edges-ascend = v .edges-ascend;
-      edges-limited = v .edges-limited;
-      transitions-fit = v .transitions-fit;
-      transitions-ascend = v .transitions-ascend;
-      transitions-limited = v .transitions-limited;
-      initial-fit = v .initial-fit;
-      initial-ascend = v .initial-ascend;
-      rejecting-fit = v .rejecting-fit;
-      rejecting-ascend = v .rejecting-ascend;
-      sized = z;
-    }
+    other-nodes p w (set (p .nodes) f n) (others f (p .edges))
+    (simp length-set (w .complete))
+    (all-set nodesFit (p .nodes) f n h (w .nodes-fit))
+    z
+    (others-fit p f n (p .edges) (w .edges-fit))
+    (v .edges-ascend)
+    (v .edges-limited)
 
 -- ---- the new edges added
 

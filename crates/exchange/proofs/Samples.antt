@@ -6,8 +6,8 @@ use mathlib.Core.Path.{_≡_, refl}
 use mathlib.Core.List.{List, [], _∷_}
 use lib.ListN.{replicate}
 use Rattle.text.specs.Hex.{hex}
-use Rattle.text.specs.Lines.{lines, numbers}
-use Rattle.program.specs.Chosen.{largest, numbers as marksLength}
+use Rattle.text.specs.Lines.{lines, numbersOf}
+use Rattle.program.specs.Chosen.{largest, numbers}
 use Rattle.program.specs.Program.{Edge, Program}
 use Rattle.program.specs.Frames.{nodesFrame}
 use Rattle.program.specs.Checks.{firstMet}
@@ -31,7 +31,7 @@ edge f n a m = record { routine = f; source = n; label = a; target = m }
 
 -- to unfold this is to unfold all that reading computes with
 reading : Unit {0}
-unfolding lines numbers firstMet any anyAstray others largest marksLength exchangeFrom wantedExchange
+unfolding lines numbersOf firstMet any anyAstray others largest numbers exchangeFrom wantedExchange
 reading = tt
 
 -- ---- texts that are read

@@ -8,7 +8,7 @@ use native.Mathlib.Omega.{arith}
 use lib.ListN.{length, drop, getD, drop-of-length-le}
 use lib.Seq.{drop-cons, drop-drop}
 use Rattle.base.proofs.Bools.{never}
-use Rattle.text.specs.Lines.{lines, numbers, lineFrom, lineAt}
+use Rattle.text.specs.Lines.{lines, numbersOf, lineFrom, lineAt}
 use Rattle.text.specs.declared.Line.{Line}
 use Rattle.text.specs.declared.ReadLine.{ReadLine}
 use Rattle.text.proofs.LinesSplit.{afterLine, lines-first, numbers-first, after-numbers}
@@ -34,13 +34,13 @@ module _ (text : List ℕ) (at : ℕ) where
   split : at < length text → textLines (drop at text) ≡ lineAt text at .line ∷ textLines (afterLine (drop at text))
   split h = rw (drop-cons text at 0 h) (first (getD text at 0) (drop (suc at) text))
     where
-      first : (b : ℕ) (t : List ℕ) → textLines (b ∷ t) ≡ lineFrom (numbers (b ∷ t)) ∷ textLines (afterLine (b ∷ t))
+      first : (b : ℕ) (t : List ℕ) → textLines (b ∷ t) ≡ lineFrom (numbersOf (b ∷ t)) ∷ textLines (afterLine (b ∷ t))
       first b t = rw (lines-first b t, numbers-first (b ∷ t))
 
   -- the next line starts past this one's 0A
   next : badFrame (lineAt text at .line) ≡ false → (afterLine (drop at text) ≡ drop (lineAt text at .next) text) × (at < lineAt text at .next)
   next h =
-      let w = has-numbers (numbers (drop at text)) h in
+      let w = has-numbers (numbersOf (drop at text)) h in
       let k : at + (2 * length (w .0) + 1) ≡ at + 2 * length (w .0) + 1 = omega arith in
       rw (w .1) (after-numbers (drop at text) (w .0) (w .1) ∙ drop-drop _ at text ∙ ap (λ (i : ℕ). drop i text) k, omega arith)
 
@@ -59,7 +59,7 @@ module _ (text : List ℕ) (at : ℕ) where
 
 module _ (p : Program) (text : List ℕ) where
   pub begins-bad : badFrame (lineAt text 0 .line) ≡ true → wantedExchange p text ≡ Refused 12
-  unfolding wantedExchange lines numbers any
+  unfolding wantedExchange lines numbersOf any
   begins-bad h = go text h
     where
       go : (t : List ℕ) → badFrame (lineAt t 0 .line) ≡ true → wantedExchange p t ≡ Refused 12
@@ -68,7 +68,7 @@ module _ (p : Program) (text : List ℕ) where
 
   begins : (b : Program) → ((l : Line) → outside b l ≡ outside (boundedBy (lineAt text 0 .line ∷ []) p) l) → badFrame (lineAt text 0 .line) ≡ false
       → Decides text (lineAt text 0 .next) p b (lineAt text 0 .line) (begun b (lineAt text 0 .line))
-  unfolding wantedExchange numbers
+  unfolding wantedExchange numbersOf
   begins b same h =
       record { decide = ap (exchangeFrom p) (split-good text 0 (has-some text h) h) ∙ sym (rest-all p b (lineAt text 0 .line) same (textLines (drop (lineAt text 0 .next) text)) h) }
     where

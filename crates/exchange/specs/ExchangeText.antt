@@ -5,7 +5,7 @@ use mathlib.Core.Bool.{Bool, true, false, cond, _||_, not}
 use mathlib.Core.List.{List, [], _∷_, map}
 use lib.Dec.{ltb, eqb}
 use lib.ListN.{length}
-use Rattle.text.specs.Lines.{lines, numbers, lineFrom}
+use Rattle.text.specs.Lines.{lines, numbersOf, lineFrom}
 use Rattle.text.specs.declared.Line.{Line}
 use Rattle.program.specs.Sizes.{maxEdges}
 use Rattle.program.specs.Program.{Program}
@@ -17,7 +17,7 @@ use Rattle.exchange.specs.Changes.{Exchange, whole, ChangeRead, Read, Re
 use Rattle.exchange.specs.Changing.{others, withNodes}
 
 abbrev pub lineIn : List ℕ → Line
-lineIn l = lineFrom (numbers l)
+lineIn l = lineFrom (numbersOf l)
 
 abbrev pub textLines : List ℕ → List Line
 textLines s = map lineIn (lines s)

@@ -8,7 +8,7 @@ use lib.Dec.{ltb}
 use lib.ListN.{length, length-append}
 use borrow.Author.Tests.{ltb-false}
 use Rattle.text.specs.Hex.{hex}
-use Rattle.text.specs.Lines.{lines, numbers, Bytes, lineOf}
+use Rattle.text.specs.Lines.{lines, numbersOf, Bytes, lineOf}
 use Rattle.text.proofs.RoundTrip.{numbers-hex, text-of}
 use Rattle.text.proofs.LinesSplit.{afterLine, lines-hex}
 use Rattle.program.specs.Writing.{text}
@@ -71,7 +71,7 @@ by-length zero (b ∷ t) s l h = absurd (omega arith)
 by-length (suc n) [] s l h = ([], refl, tt)
 by-length (suc n) (b ∷ t) s l h =
     let g = going s _ _ (rw (turn s b t) at h) in
-    let m = has-numbers s (numbers (b ∷ t)) (g .no-fault) in
+    let m = has-numbers s (numbersOf (b ∷ t)) (g .no-fault) in
     let w = text-of (b ∷ t) (m .0) (m .1) in
     let i = by-length n (afterLine (b ∷ t)) _ (omega (arith, simp length-append at (ap length (w .0)))) (g .rest-accepted) in
     (m .0 ∷ i .0, w .0 ∙ ap (λ (u : List ℕ). hex (m .0) ++ 10 ∷ u) (i .1) ∙ sym (append-assoc (hex (m .0)) (10 ∷ []) (text (i .0))), (w .1, i .2))

@@ -12,6 +12,7 @@ pub mod FilesAsFrames
 pub mod FramesFitBytes
 pub mod TableWellFormed
 pub mod TableDetermined
+pub mod OtherEdges
 pub mod FramesWrittenBack
 pub mod FramesReadAgain
 pub mod Theorems

@@ -8,13 +8,13 @@ use native.Mathlib.Omega.{arith}
 use lib.ListN.{length, drop, getD, drop-of-length-le}
 use lib.Seq.{drop-cons, drop-drop}
 use borrow.Author.Tests.{lt-ltb}
-use Rattle.text.specs.Lines.{lines, numbers, lineFrom, lineAt}
+use Rattle.text.specs.Lines.{lines, numbersOf, lineFrom, lineAt}
 use Rattle.text.proofs.LinesSplit.{afterLine, lines-first, numbers-first, after-numbers}
 use Rattle.program.specs.Reading.{Progress, refused, decided, judgeAs, judge, after, finished, readFrom}
 
 -- a text that is not empty: its first line decides, or the rest does
 pub turn : (s : Progress) (b : ℕ) (t : List ℕ)
-    → readFrom s (lines (b ∷ t)) ≡ decided s (judge s (lineFrom (numbers (b ∷ t)))) (readFrom (after s (lineFrom (numbers (b ∷ t)))) (lines (afterLine (b ∷ t))))
+    → readFrom s (lines (b ∷ t)) ≡ decided s (judge s (lineFrom (numbersOf (b ∷ t)))) (readFrom (after s (lineFrom (numbersOf (b ∷ t)))) (lines (afterLine (b ∷ t))))
 unfolding readFrom
 turn s b t = rw (lines-first b t, numbers-first (b ∷ t))
 
@@ -28,7 +28,7 @@ module _ (file : List ℕ) (at : ℕ) (s : Progress) where
   -- the next line starts past its 0A
   next : judge s (lineAt file at .line) ≡ 0 → (afterLine (drop at file) ≡ drop (lineAt file at .next) file) × (at < lineAt file at .next)
   next j =
-      let w = has-numbers s (numbers (drop at file)) j in
+      let w = has-numbers s (numbersOf (drop at file)) j in
       let k : at + (2 * length (w .0) + 1) ≡ at + 2 * length (w .0) + 1 = omega arith in
       rw (w .1) (after-numbers (drop at file) (w .0) (w .1) ∙ drop-drop _ at file ∙ ap (λ (i : ℕ). drop i file) k, omega arith)
 

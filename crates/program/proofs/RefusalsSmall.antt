@@ -8,7 +8,7 @@ use native.Mathlib.Omega.{arith}
 use lib.Dec.{ltb, eqb}
 use lib.ListN.{length}
 use borrow.Author.Tests.{ltb-true, ltb-false, eqb-false}
-use Rattle.text.specs.Lines.{numbers, lineFrom}
+use Rattle.text.specs.Lines.{numbersOf, lineFrom}
 use Rattle.text.specs.declared.Line.{Line}
 use Rattle.program.specs.Chosen.{sizesFit}
 use Rattle.program.specs.Frames.{size, kind}
@@ -69,17 +69,17 @@ small-refusals [] s g = go (s .ended)
     go true = small-finish (s .rows) (s .program)
     go false = (omega arith, omega arith, omega (arith, frames-few s g), inl (omega arith), λ e. omega arith, λ e. omega arith)
 small-refusals (l ∷ ls) s g =
-    let x = lineFrom (numbers l) in
-    go (s .ended) refl (judge s x) refl (λ o j. small-refusals ls (after s x) (after-sound s x (padded (numbers l)) g o j))
+    let x = lineFrom (numbersOf l) in
+    go (s .ended) refl (judge s x) refl (λ o j. small-refusals ls (after s x) (after-sound s x (padded (numbersOf l)) g o j))
   where
-    go : (t : Bool) → s .ended ≡ t → (n : ℕ) → judge s (lineFrom (numbers l)) ≡ n
-        → (s .ended ≡ false → judge s (lineFrom (numbers l)) ≡ 0 → Small (readFrom (after s (lineFrom (numbers l))) ls .verdict))
-        → Small (cond t (refused 8 (s .frames + 1)) (cond (ltb 0 n) (refused n (s .frames + 1)) (readFrom (after s (lineFrom (numbers l))) ls)) .verdict)
+    go : (t : Bool) → s .ended ≡ t → (n : ℕ) → judge s (lineFrom (numbersOf l)) ≡ n
+        → (s .ended ≡ false → judge s (lineFrom (numbersOf l)) ≡ 0 → Small (readFrom (after s (lineFrom (numbersOf l))) ls .verdict))
+        → Small (cond t (refused 8 (s .frames + 1)) (cond (ltb 0 n) (refused n (s .frames + 1)) (readFrom (after s (lineFrom (numbersOf l))) ls)) .verdict)
     go true e n f r = (omega arith, omega arith, omega (arith, frames-few s g), inl (omega arith), λ e. omega arith, λ e. omega arith)
     go false e n f r = by-fault (ltb 0 n) refl
       where
-        by-fault : (t : Bool) → ltb 0 n ≡ t → Small (cond t (refused n (s .frames + 1)) (readFrom (after s (lineFrom (numbers l))) ls) .verdict)
+        by-fault : (t : Bool) → ltb 0 n ≡ t → Small (cond t (refused n (s .frames + 1)) (readFrom (after s (lineFrom (numbersOf l))) ls) .verdict)
         by-fault true h =
-            let k = judge-small s (lineFrom (numbers l)) in
+            let k = judge-small s (lineFrom (numbersOf l)) in
             (ltb-true 0 n h, omega arith, omega (arith, frames-few s g), inl (omega arith), λ e. omega arith, λ e. omega arith)
         by-fault false h = r e (omega (arith, ltb-false 0 n h))

@@ -5,10 +5,10 @@ use mathlib.Core.List.{List, [], _∷_, _++_}
 use Prim.Native.Nat.{ℕ}
 use Prim.Native.String.{String}
 use Rattle.text.specs.Hex.{hex}
-use Rattle.text.specs.Lines.{lines, numbers}
+use Rattle.text.specs.Lines.{lines, numbersOf}
 use Rattle.automaton.specs.Automaton.{Transition}
 use Rattle.program.specs.Program.{Program}
-use Rattle.program.specs.Chosen.{largest, numbers as marksLength}
+use Rattle.program.specs.Chosen.{largest, numbers}
 use Rattle.program.specs.Sample.{bytes, header, F}
 use Rattle.program.specs.declared.Verdict.the-variants.{Accepted}
 use Rattle.program.specs.Writing.{nodesFrames, framesWith, text, writtenWith, written}
@@ -38,7 +38,7 @@ sample =
 
 -- to unfold this is to unfold all that reading computes with
 reading : Unit {0}
-unfolding lines numbers judgeAs judge afterAs after pairsFrom timesMet tableRefusal nextState largest marksLength readFrom readFile
+unfolding lines numbersOf judgeAs judge afterAs after pairsFrom timesMet tableRefusal nextState largest numbers readFrom readFile
 reading = tt
 
 sample-read : readFile (bytes F) ≡ accepted sample

@@ -4,7 +4,7 @@ use mathlib.Core.Bool.{Bool, false, cond, _&&_, _||_, not}
 use mathlib.Core.List.{List, [], _∷_, _++_}
 use lib.Dec.{ltb, leb, eqb}
 use lib.ListN.{length}
-use Rattle.text.specs.Lines.{lines, numbers, lineFrom}
+use Rattle.text.specs.Lines.{lines, numbersOf, lineFrom}
 use Rattle.text.specs.declared.Line.{Line}
 use Rattle.automaton.specs.Automaton.{Transition, Automaton}
 use Rattle.automaton.specs.Sizes.{maxTransitions}
@@ -204,7 +204,7 @@ decided s n rest = cond (s .ended) (refused 8 (s .frames + 1)) (cond (ltb 0 n) (
 
 unfoldable pub readFrom : Progress → List (List ℕ) → Outcome
 readFrom s [] = cond (s .ended) (finished (s .rows) (s .program)) (refused 8 (s .frames + 1))
-readFrom s (l ∷ ls) = decided s (judge s (lineFrom (numbers l))) (readFrom (after s (lineFrom (numbers l))) ls)
+readFrom s (l ∷ ls) = decided s (judge s (lineFrom (numbersOf l))) (readFrom (after s (lineFrom (numbersOf l))) ls)
 
 unfoldable pub readFile : List ℕ → Outcome
 readFile file = readFrom start (lines file)
@@ -216,7 +216,7 @@ rowFirst states l rs = cond (eqb (kind l) 5) (rowIn states l ∷ rs) rs
 
 unfoldable pub rowsFrom : ℕ → List (List ℕ) → List TableRow
 rowsFrom states [] = []
-rowsFrom states (l ∷ ls) = rowFirst states (lineFrom (numbers l)) (rowsFrom states ls)
+rowsFrom states (l ∷ ls) = rowFirst states (lineFrom (numbersOf l)) (rowsFrom states ls)
 
 abbrev pub rowsIn : List ℕ → List TableRow
 rowsIn file = rowsFrom (readFile file .program .automaton .states) (lines file)

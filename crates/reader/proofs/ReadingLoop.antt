@@ -4,7 +4,7 @@ use mathlib.Core.Bool.{true, false}
 use mathlib.Core.List.{List, []}
 use Prim.Native.Nat.{ℕ, _+_, _-_, _≤_, _<_}
 use lib.ListN.{length, drop}
-use Rattle.text.specs.Lines.{lines, numbers, lineAt}
+use Rattle.text.specs.Lines.{lines, numbersOf, lineAt}
 use Rattle.program.specs.Sizes.{maxFrames}
 use Rattle.program.specs.Reading.{start, refused, judge, after, finished, readFrom, readFile}
 use Rattle.program.specs.Frames.{kind}
@@ -48,7 +48,7 @@ module _ (file : List ℕ) (s : Reader) (rows : List TableRow) (at : ℕ) (r : R
 
   module _ (e : s .ended ≡ false) (j : judge (progressOf s rows) (lineAt file at .line) ≡ 0) where
     pub has-room : Room (programOf (s .program)) (kind (lineAt file at .line))
-    has-room = room (progressOf s rows) (lineAt file at .line) (padded (numbers (drop at file))) (r .sound) e j
+    has-room = room (progressOf s rows) (lineAt file at .line) (padded (numbersOf (drop at file))) (r .sound) e j
 
     pub has-room-for-row : RoomForRow rows (kind (lineAt file at .line))
     has-room-for-row = room-for-row (progressOf s rows) (lineAt file at .line) j
@@ -61,5 +61,5 @@ module _ (file : List ℕ) (s : Reader) (rows : List TableRow) (at : ℕ) (r : R
     continues h s′ rows′ f =
         record {
           rest = r .rest ∙ goes-on file at (progressOf s rows) h e j ∙ rw f;
-          sound = rw f (after-sound (progressOf s rows) (lineAt file at .line) (padded (numbers (drop at file))) (r .sound) e j);
+          sound = rw f (after-sound (progressOf s rows) (lineAt file at .line) (padded (numbersOf (drop at file))) (r .sound) e j);
         }

@@ -3,7 +3,7 @@ use mathlib.Core.Path.{_≡_, refl}
 use mathlib.Core.List.{List, [], _∷_, _++_}
 use Prim.Native.String.{String}
 use Rattle.text.specs.Hex.{hex}
-use Rattle.text.specs.Lines.{lines, numbers}
+use Rattle.text.specs.Lines.{lines, numbersOf}
 use Rattle.automaton.specs.Automaton.{listed, heard, moves}
 use Rattle.tables.specs.Keys.{member}
 use Rattle.program.specs.Chosen.{largest}
@@ -27,5 +27,5 @@ abbrev output : List String
 output = "5A00050000" ∷ "5800020002" ∷ "5A00060001" ∷ "5A00050000" ∷ "210E" ∷ []
 
 sample : benchText (bytes input) ≡ bytes output
-unfolding hex lines numbers listed heard moves member judgeAs judge afterAs after readFrom readFile text number routineOf nodeOf rootOf stateOf none-set lowest mark wake markWhen summary onEvent eventWhen onReturns rootWhen onCall onLabel labelWhen onSteps wakeRoots calls wakeWhen wakeStates callerWhen wakeCallers learn takeFrom takeAt work opened analysisAt largest chosen.numbers sizes.summaries sizes.enoughIterations countSet violationsFrom editFrom readEdit hasEdge without inserted editedProgram wantedEdit fileSize blockAt editsText benchText
+unfolding hex lines numbersOf listed heard moves member judgeAs judge afterAs after readFrom readFile text number routineOf nodeOf rootOf stateOf none-set lowest mark wake markWhen summary onEvent eventWhen onReturns rootWhen onCall onLabel labelWhen onSteps wakeRoots calls wakeWhen wakeStates callerWhen wakeCallers learn takeFrom takeAt work opened analysisAt largest chosen.numbers sizes.summaries sizes.enoughIterations countSet violationsFrom editFrom readEdit hasEdge without inserted editedProgram wantedEdit fileSize blockAt editsText benchText
 sample = refl

@@ -8,7 +8,7 @@ use lib.Dec.{eqb}
 use lib.ListN.{length, drop, length-append}
 use lib.Seq.{drop-at}
 use Rattle.text.specs.Hex.{hex, hexLine}
-use Rattle.text.specs.Lines.{firstLine, glue, lines, numbers}
+use Rattle.text.specs.Lines.{firstLine, glue, lines, numbersOf}
 use Rattle.text.proofs.Digits.{no-digit, no-end}
 use Rattle.text.proofs.RoundTrip.{length-hex, text-of}
 unfoldable pub use Rattle.text.proofs.RoundTrip.{afterLine}
@@ -34,24 +34,24 @@ lines-hex [] rest = refl
 lines-hex (x ∷ xs) rest = rw (no-end (x / 16), no-end (x % 16), lines-hex xs rest)
 
 -- the numbers of a text's first line are those that the text starts with
-pub numbers-first : (s : List ℕ) → numbers (firstLine s) ≡ numbers s
-unfolding numbers firstLine
+pub numbers-first : (s : List ℕ) → numbersOf (firstLine s) ≡ numbersOf s
+unfolding numbersOf firstLine
 numbers-first [] = refl
 numbers-first (a ∷ []) = go (eqb a 10)
   where
-    go : (t : Bool) → numbers (a ∷ cond t [] []) ≡ numbers (a ∷ [])
+    go : (t : Bool) → numbersOf (a ∷ cond t [] []) ≡ numbersOf (a ∷ [])
     go true = refl
     go false = refl
 numbers-first (a ∷ b ∷ s) = go (eqb a 10) refl (eqb b 10) refl (numbers-first s)
   where
-    go : (t : Bool) → eqb a 10 ≡ t → (u : Bool) → eqb b 10 ≡ u → numbers (firstLine s) ≡ numbers s
-        → numbers (a ∷ cond t [] (b ∷ cond u [] (firstLine s))) ≡ numbers (a ∷ b ∷ s)
+    go : (t : Bool) → eqb a 10 ≡ t → (u : Bool) → eqb b 10 ≡ u → numbersOf (firstLine s) ≡ numbersOf s
+        → numbersOf (a ∷ cond t [] (b ∷ cond u [] (firstLine s))) ≡ numbersOf (a ∷ b ∷ s)
     go true e u f h = rw e
     go false e true f h = rw (e, no-digit a b f)
     go false e false f h = rw (e, h)
 
 -- the next line starts past the digits of this one's numbers and its 0A
-pub after-numbers : (s xs : List ℕ) → numbers s ≡ some xs → afterLine s ≡ drop (2 * length xs + 1) s
+pub after-numbers : (s xs : List ℕ) → numbersOf s ≡ some xs → afterLine s ≡ drop (2 * length xs + 1) s
 after-numbers s xs h = go s (text-of s xs h .0)
   where
     go : (t : List ℕ) → t ≡ hex xs ++ 10 ∷ afterLine s → afterLine s ≡ drop (2 * length xs + 1) t

@@ -9,7 +9,7 @@ use lib.ListN.{length, drop, set, getD, length-append, drop-of-length-le}
 use lib.Seq.{drop-cons}
 use borrow.Author.Tests.{le-leb, lt-leb, ne-eqb}
 use Rattle.text.specs.Hex.{twoDigits}
-use Rattle.text.specs.Lines.{before, numbers, pad, maxNumbers, lineOf, lineAt, grown}
+use Rattle.text.specs.Lines.{before, numbersOf, pad, maxNumbers, lineOf, lineAt, grown}
 use Rattle.text.specs.declared.Line.{Line}
 
 pub opened : (s : List ℕ) (i : ℕ) → i < length s → drop i s ≡ getD s i 0 ∷ drop (i + 1) s
@@ -17,29 +17,29 @@ opened s i h = rw (add-one, drop-cons s i 0)
 
 -- what stands at a position, and the numbers from there on
 module _ (s : List ℕ) (i : ℕ) where
-  pub at-end : length s ≤ i → numbers (drop i s) ≡ none
-  unfolding numbers
+  pub at-end : length s ≤ i → numbersOf (drop i s) ≡ none
+  unfolding numbersOf
   at-end h = rw (drop-of-length-le s h)
 
-  pub at-stop : i < length s → getD s i 0 ≡ 10 → numbers (drop i s) ≡ some []
-  unfolding numbers
+  pub at-stop : i < length s → getD s i 0 ≡ 10 → numbersOf (drop i s) ≡ some []
+  unfolding numbersOf
   at-stop h e = rw (opened s i h, e) (stop (drop (i + 1) s))
     where
-      stop : (t : List ℕ) → numbers (10 ∷ t) ≡ some []
+      stop : (t : List ℕ) → numbersOf (10 ∷ t) ≡ some []
       stop [] = refl
       stop (b ∷ t) = refl
 
-  pub at-odd : i < length s → (getD s i 0 ≡ 10 → ⊥) → length s ≤ i + 1 → numbers (drop i s) ≡ none
-  unfolding numbers
+  pub at-odd : i < length s → (getD s i 0 ≡ 10 → ⊥) → length s ≤ i + 1 → numbersOf (drop i s) ≡ none
+  unfolding numbersOf
   at-odd h e k = rw (opened s i h, drop-of-length-le s k, ne-eqb _ _ e)
 
-  pub at-bad : i < length s → (getD s i 0 ≡ 10 → ⊥) → i + 1 < length s → 256 ≤ twoDigits (getD s i 0) (getD s (i + 1) 0) → numbers (drop i s) ≡ none
-  unfolding numbers
+  pub at-bad : i < length s → (getD s i 0 ≡ 10 → ⊥) → i + 1 < length s → 256 ≤ twoDigits (getD s i 0) (getD s (i + 1) 0) → numbersOf (drop i s) ≡ none
+  unfolding numbersOf
   at-bad h e k b = rw (opened s i h, opened s (i + 1) k, ne-eqb _ _ e, le-leb _ _ b)
 
   pub at-more : i < length s → (getD s i 0 ≡ 10 → ⊥) → i + 1 < length s → twoDigits (getD s i 0) (getD s (i + 1) 0) < 256
-      → numbers (drop i s) ≡ before (twoDigits (getD s i 0) (getD s (i + 1) 0)) (numbers (drop (i + 1 + 1) s))
-  unfolding numbers
+      → numbersOf (drop i s) ≡ before (twoDigits (getD s i 0) (getD s (i + 1) 0)) (numbersOf (drop (i + 1 + 1) s))
+  unfolding numbersOf
   at-more h e k b = rw (opened s i h, opened s (i + 1) k, ne-eqb _ _ e, lt-leb _ _ b)
 
 abbrev prefixed : List ℕ → Option (List ℕ) → Option (List ℕ)
@@ -71,28 +71,28 @@ pub record Gathered (s : List ℕ) (at : ℕ) (l : Line) (i : ℕ) : Type 0 wher
   pub gathered : List ℕ
   pub kept : l ≡ lineOf gathered
   pub place : i ≡ at + 2 * length gathered
-  pub completed : numbers (drop at s) ≡ prefixed gathered (numbers (drop i s))
+  pub completed : numbersOf (drop at s) ≡ prefixed gathered (numbersOf (drop i s))
 
 pub starts : (s : List ℕ) (at : ℕ) → Gathered s at (lineOf []) at
-starts s at = record { gathered = []; kept = refl; place = omega arith; completed = prefixed-nil (numbers (drop at s)) }
+starts s at = record { gathered = []; kept = refl; place = omega arith; completed = prefixed-nil (numbersOf (drop at s)) }
 
 module _ (s : List ℕ) (at : ℕ) (l : Line) (i : ℕ) (g : Gathered s at l i) where
   pub count-le : l .count ≤ i
   count-le = omega (arith, ap (λ (m : Line). m .count) (g .kept), g .place)
 
-  pub goes-on : (x : ℕ) → numbers (drop i s) ≡ before x (numbers (drop (i + 1 + 1) s)) → Gathered s at (grown l x) (i + 1 + 1)
+  pub goes-on : (x : ℕ) → numbersOf (drop i s) ≡ before x (numbersOf (drop (i + 1 + 1) s)) → Gathered s at (grown l x) (i + 1 + 1)
   goes-on x e =
       record {
         gathered = g .gathered ++ x ∷ [];
         kept = rw (g .kept) (grown-line (g .gathered) x);
         place = simp length-append (omega (arith, g .place));
-        completed = g .completed ∙ rw e (prefixed-before (g .gathered) x (numbers (drop (i + 1 + 1) s)));
+        completed = g .completed ∙ rw e (prefixed-before (g .gathered) x (numbersOf (drop (i + 1 + 1) s)));
       }
 
-  pub stops : numbers (drop i s) ≡ some [] → record { line = l; next = i + 1 } ≡ lineAt s at
+  pub stops : numbersOf (drop i s) ≡ some [] → record { line = l; next = i + 1 } ≡ lineAt s at
   stops e =
-      let c : numbers (drop at s) ≡ some (g .gathered) = g .completed ∙ rw (e, append-nil) in
+      let c : numbersOf (drop at s) ≡ some (g .gathered) = g .completed ∙ rw (e, append-nil) in
       rw c (cc (g .kept, g .place))
 
-  pub fails : (empty : Line) → empty ≡ lineOf [] → numbers (drop i s) ≡ none → record { line = empty; next = 0 } ≡ lineAt s at
-  fails empty n e = let c : numbers (drop at s) ≡ none = g .completed ∙ rw e in rw (c, n)
+  pub fails : (empty : Line) → empty ≡ lineOf [] → numbersOf (drop i s) ≡ none → record { line = empty; next = 0 } ≡ lineAt s at
+  fails empty n e = let c : numbersOf (drop at s) ≡ none = g .completed ∙ rw e in rw (c, n)

@@ -9,7 +9,7 @@ use lib.Dec.{leb, eqb}
 use lib.ListN.{length}
 use borrow.Author.Tests.{eqb-true, lt-leb}
 use Rattle.text.specs.Hex.{twoDigits, hex}
-use Rattle.text.specs.Lines.{before, numbers, Bytes}
+use Rattle.text.specs.Lines.{before, numbersOf, Bytes}
 use Rattle.text.proofs.Digits.{no-end, twoDigits-hex, hex-twoDigits}
 
 pub hex-append : (xs ys : List ℕ) → hex (xs ++ ys) ≡ hex xs ++ hex ys
@@ -23,8 +23,8 @@ length-hex [] = refl
 length-hex (x ∷ xs) = let e = length-hex xs in omega arith
 
 -- what is written is read: a line of numbers, whatever follows it, has just these numbers
-pub numbers-hex : (xs rest : List ℕ) → Bytes xs → numbers (hex xs ++ 10 ∷ rest) ≡ some xs
-unfolding numbers hex
+pub numbers-hex : (xs rest : List ℕ) → Bytes xs → numbersOf (hex xs ++ 10 ∷ rest) ≡ some xs
+unfolding numbersOf hex
 numbers-hex [] [] b = refl
 numbers-hex [] (r ∷ rest) b = refl
 numbers-hex (x ∷ xs) rest b = rw (no-end (x / 16), twoDigits-hex x (b .0), lt-leb 256 x (b .0), numbers-hex xs rest (b .1))
@@ -38,15 +38,15 @@ never : {A : Type 0} (xs : List ℕ) → _≡_ {A = Option (List ℕ)} none (som
 never xs e = absurd (let z : _≡_ {A = ℕ} 0 1 = cc in omega arith)
 
 -- what is read is what would be written: a line that has numbers is their text, and each fits a byte
-pub text-of : (s xs : List ℕ) → numbers s ≡ some xs → (s ≡ hex xs ++ 10 ∷ afterLine s) × Bytes xs
-unfolding numbers afterLine hex
+pub text-of : (s xs : List ℕ) → numbersOf s ≡ some xs → (s ≡ hex xs ++ 10 ∷ afterLine s) × Bytes xs
+unfolding numbersOf afterLine hex
 text-of [] xs h = never xs h
 text-of (a ∷ []) xs h = go (eqb a 10) refl h
   where
     go : (t : Bool) → eqb a 10 ≡ t → cond t (some []) none ≡ some xs → (a ∷ [] ≡ hex xs ++ 10 ∷ cond t [] []) × Bytes xs
     go true e h = let z : [] ≡ xs = cc in rw (← z, eqb-true a 10 e) (refl, tt)
     go false e h = never xs h
-text-of (a ∷ b ∷ s) xs h = go (eqb a 10) refl (leb 256 (twoDigits a b)) refl (numbers s) (text-of s) h
+text-of (a ∷ b ∷ s) xs h = go (eqb a 10) refl (leb 256 (twoDigits a b)) refl (numbersOf s) (text-of s) h
   where
     go : (t : Bool) → eqb a 10 ≡ t → (u : Bool) → leb 256 (twoDigits a b) ≡ u → (m : Option (List ℕ))
         → ((ys : List ℕ) → m ≡ some ys → (s ≡ hex ys ++ 10 ∷ afterLine s) × Bytes ys)

@@ -30,11 +30,11 @@ before x none = none
 before x (some xs) = some (x ∷ xs)
 
 -- the numbers of the line that s starts with: pairs of digits and then 0A; none where it starts with anything else
-unfoldable pub numbers : List ℕ → Option (List ℕ)
-numbers [] = none
-numbers (a ∷ []) = cond (eqb a 10) (some []) none
-numbers (a ∷ b ∷ s) = cond (eqb a 10) (some []) (cond (leb 256 (twoDigits a b)) none
-    (before (twoDigits a b) (numbers s)))
+unfoldable pub numbersOf : List ℕ → Option (List ℕ)
+numbersOf [] = none
+numbersOf (a ∷ []) = cond (eqb a 10) (some []) none
+numbersOf (a ∷ b ∷ s) = cond (eqb a 10) (some []) (cond (leb 256 (twoDigits a b)) none
+    (before (twoDigits a b) (numbersOf s)))
 
 -- every number fits a byte
 abbrev pub Bytes : List ℕ → Type 0
@@ -67,7 +67,7 @@ nextFrom at (some xs) = at + 2 * length xs + 1
 
 -- the line that starts at a position of s, and where the next one starts
 abbrev pub lineAt : List ℕ → ℕ → ReadLine
-lineAt s at = record { line = lineFrom (numbers (drop at s)); next = nextFrom at (numbers (drop at s)) }
+lineAt s at = record { line = lineFrom (numbersOf (drop at s)); next = nextFrom at (numbersOf (drop at s)) }
 
 -- a line with one number more; a store past those that are kept is none
 abbrev pub grown : Line → ℕ → Line

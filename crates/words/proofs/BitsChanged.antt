@@ -9,10 +9,9 @@ use lib.Bits.{bitXor, differ, xor-step, xor-shr}
 use lib.Dec.{eqb}
 use lib.Pow.{shl-exact}
 use borrow.Author.Tests.{eqb-true, eq-eqb, ne-eqb}
-use Rattle.base.specs.Bits.{bit, withBit}
+use Rattle.base.specs.Bits.{bit, withBit, withoutBit}
 use Rattle.base.proofs.Bools.{never}
 use Rattle.base.proofs.BitsSet.{bit-with}
-use Rattle.words.specs.Words.{withoutBit}
 
 -- v is n with x as its bit s
 pub record Changed (s x n v : ℕ) : Type 0 where

@@ -6,8 +6,8 @@ use native.Mathlib.Omega.{arith}
 use native.Mathlib.Decide.{ℕ-discrete}
 use lib.ListN.{length, getD, set, length-set}
 use lib.Seq.{getD-set-same, getD-set-other, set-out, ext-getD}
-use Rattle.base.specs.Bits.{withBit}
-use Rattle.words.specs.Words.{flagsOf, withoutBit}
+use Rattle.base.specs.Bits.{withBit, withoutBit}
+use Rattle.words.specs.Words.{flagsOf}
 use Rattle.words.proofs.BitsChanged.{Changed, set-changed, clear-changed}
 use Rattle.words.proofs.FlagsAsked.{flags-length, flag-at}
 

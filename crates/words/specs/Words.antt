@@ -2,7 +2,6 @@
 use Prim.Native.Nat.{ℕ, zero, suc, _+_, _/_, _%_, _^_, _≤_, _<_}
 use mathlib.Core.Path.{_≡_}
 use mathlib.Core.List.{List, [], _∷_, _++_}
-use lib.Bits.{bitOr, bitXor}
 use lib.ListN.{length, getD}
 use Rattle.base.specs.Bits.{bit}
 use Rattle.base.specs.Flags.{isSet}
@@ -37,7 +36,3 @@ pub record FirstFlag (flags : List ℕ) (at : ℕ) : Type 0 where
   pub within : at ≤ length flags
   pub below : NoneBelow flags at
   pub found : at < length flags → getD flags at 0 ≡ 1
-
--- the number with bit i not set: it is set first, so that the change of it clears it
-unfoldable pub withoutBit : ℕ → ℕ → ℕ
-withoutBit i bits = bitXor (bitOr bits (2 ^ i)) (2 ^ i)

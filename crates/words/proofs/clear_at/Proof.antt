@@ -1,13 +1,13 @@
 -- `words::clear_at` meets its contract: past the end there is no flag to change.
 use borrow.Author.Needs.{needs}
-use Rattle.words.specs.Words.{withoutBit}
+use Rattle.base.specs.Bits.{withBit, withoutBit}
 use Rattle.words.proofs.BitsChanged.{shifted-one}
 use Rattle.words.proofs.FlagsChanged.{clear-flags, past-flags}
 use Rattle.words.proofs.clear_at.Statement.{statement}
 use Rattle.words.proofs.clear_at.Tie as tie
 
 returns : tie.Need-returns
-unfolding withoutBit
+unfolding withBit withoutBit
 returns c =
     let a = c .before .before .args in
     rw (shifted-one (a .at)) (clear-flags (a .words .now) (a .at) (c .before .if1 .taken))
