@@ -19,9 +19,8 @@ use Rattle.base.proofs.Bools.{both}
 use Rattle.checks.specs.Checked.{Checked}
 use Rattle.reader.specs.declared.Reading.{Reading}
 use Rattle.reach.specs.Configurations.{none-set}
-use Rattle.reach.specs.Marks.{freshMarks, violations, violationsFrom, firstFrom}
+use Rattle.reach.specs.Marks.{freshMarks, violations, violationsFrom, firstFrom, within}
 use Rattle.analysis.specs.Answers.{limited, followedBy, analyzeBy, analyzeAnswer, onSuccess, marksAfter, workAfter, same, owned, foundOf, foundBy, nextAnswer}
-use Rattle.worklist.specs.Parts.{within}
 
 -- what those ask who are called where nothing is refused
 pub ready : {file : List ℕ} {m w : ℕ} {r : Reading} → Checked file (Of m) NotAsked (Of w) r → r .verdict ≡ Accepted

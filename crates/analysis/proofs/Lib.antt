@@ -1,4 +1,3 @@
-pub mod ViolationsCounted
 pub mod AnswersByChecks
 pub mod LimitDecides
 pub mod Samples

@@ -1,15 +1,15 @@
 -- The paper's program F in its own sizes: 54 bytes, the standings 0, 10, 19, 27 and 37, and 6 takings.
 use mathlib.Core.Path.{_≡_, refl}
-use mathlib.Core.List.{List, [], _∷_}
+use mathlib.Core.List.{[], _∷_}
 use Prim.Native.Nat.{ℕ}
-use lib.ListN.{length, set, replicate}
+use lib.ListN.{set, replicate}
 use Rattle.automaton.specs.Automaton.{Transition, listed, heard, moves}
 use Rattle.program.specs.Program.{Edge, Program}
 use Rattle.program.specs.Chosen.{largest, numbers}
 use Rattle.reach.specs.Sizes as sizes
 use Rattle.reach.specs.Configurations.{number, routineOf, nodeOf, rootOf, stateOf, none-set}
 use Rattle.reach.specs.Worklist as w
-use Rattle.reach.specs.Marks.{freshMarks, violationsFrom, violations}
+use Rattle.reach.specs.Marks.{freshMarks}
 
 edge : ℕ → ℕ → ℕ → ℕ → Edge
 edge f n a m = record { routine = f; source = n; label = a; target = m }

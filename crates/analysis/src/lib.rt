@@ -1,19 +1,18 @@
 // The full analysis of a file's program, and the list of its violations.
-pub mod count;
 pub mod own;
 
 use automaton::flags::rejecting_flags;
 use base::flags::clear;
 use base::flags::count_set;
 use checks::checked_program;
-use count::count_violations;
-use count::first_violation;
 use own::is_own;
 use program::DecodedProgram;
 use program::Length;
 use program::Verdict;
 use program::chosen::sizes_of;
 use program::sizes::Sizes;
+use violations::count_violations;
+use violations::first_violation;
 use worklist::run::Stop;
 use worklist::run::analyze_program;
 ghost use mathlib.Core.Path.{_≡_};
@@ -22,10 +21,10 @@ ghost use Rattle.program.specs.Chosen.{sizesOf, numbers};
 ghost use Rattle.program.specs.WellFormed.{WellFormed};
 ghost use Rattle.program.specs.Decoded.{programOf};
 ghost use Rattle.reach.specs.Configurations.{none-set};
-ghost use Rattle.reach.specs.Marks.{freshMarks, violations, firstFrom};
+ghost use Rattle.reach.specs.Marks.{freshMarks, violations, firstFrom, within};
 ghost use Rattle.analysis.specs.Answers.{limited, analyzeBy, analyzeAnswer, onSuccess, marksAfter};
 ghost use Rattle.analysis.specs.Answers.{workAfter, owned, foundOf, foundBy, nextAnswer};
-ghost use Rattle.worklist.specs.Parts.{within, Analyzed};
+ghost use Rattle.worklist.specs.Parts.{Analyzed};
 
 // The counts of configurations, violations and iterations; or a refusal, at a line.
 pub enum AnalyzeAnswer {

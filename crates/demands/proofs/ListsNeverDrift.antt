@@ -25,8 +25,10 @@ use Rattle.exchange.specs.Changes.{Change, ChangeRead, Form, EditLine, Exchange
 use Rattle.exchange.specs.Changes as change
 use Rattle.exchange.specs.Changing.{changedProgram}
 use Rattle.exchange.specs.Lengths.{workFirst, measuredRows}
-use Rattle.exchange.specs.Wanted.{wantedChange, ChangeApplies}
-use Rattle.exchange.proofs.Theorems.{wanted-change-applies, changed-well-formed, changed-read, change-number}
+use Rattle.exchange.specs.Wanted.{ChangeApplies}
+use Rattle.exchangetext.specs.Wanted.{wantedChange}
+use Rattle.exchange.proofs.Theorems.{changed-well-formed, changed-read}
+use Rattle.exchangetext.proofs.Theorems.{wanted-change-applies, change-number}
 use Rattle.repair.specs.Repairs.{After, untouched, repairedTo, measuredBy, wantedBy, repairedBy, repaired, InsideOutNumber}
 use Rattle.repair.specs.Desk.{Desk, started}
 use Rattle.desk.specs.Entries.{Back, repairBack, repairedIn, Gives}

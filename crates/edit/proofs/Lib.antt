@@ -2,6 +2,4 @@ pub mod EdgesRemaining
 pub mod EditsWellFormed
 pub mod KeysOfEdges
 pub mod EditRefusals
-pub mod EditRefusalNumbers
 pub mod Theorems
-pub mod Samples

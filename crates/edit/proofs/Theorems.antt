@@ -1,7 +1,6 @@
 -- What is proved of edits.
 use mathlib.Core.Path.{_≡_, refl}
-use mathlib.Core.List.{List}
-use Prim.Native.Nat.{ℕ, _<_}
+use Prim.Native.Nat.{_<_}
 use lib.ListN.{length}
 use Rattle.text.specs.Lines.{Bytes}
 use Rattle.program.specs.Sizes.{maxEdges}
@@ -13,20 +12,13 @@ use Rattle.program.specs.Reading.{accepted, readFile}
 use Rattle.program.proofs.FramesFitBytes.{edge-bytes}
 use Rattle.program.proofs.Theorems.{read-again}
 use Rattle.edit.specs.Edits.{edgeOfStep, relabelled}
-use Rattle.edit.specs.EditLines.{readEdit}
-use Rattle.edit.specs.Editing.{inserted, without, withEdges, editedProgram, wantedEdit, Applies}
+use Rattle.edit.specs.Editing.{inserted, without, withEdges, editedProgram, Applies}
 use Rattle.edit.specs.declared.Label.{Label}
 use Rattle.edit.specs.declared.Step.{Step}
 use Rattle.edit.specs.declared.Edit.{Edit}
 use Rattle.edit.specs.declared.Edit.the-variants.{Add, Drop, Replace}
-use Rattle.edit.specs.declared.EditRead.the-variants.{Read}
 use Rattle.edit.proofs.EditsWellFormed.{edited-well-formed}
-use Rattle.edit.proofs.EditRefusals.{read-fits, judged-applies, drop-not-refused, add-not-refused, room-left}
-
--- An edit line that is not refused says an edit that applies.
-pub wanted-applies : (p : Program) (line : List ℕ) (e : Edit) → wantedEdit p line ≡ Read e → Applies e p
-unfolding wantedEdit
-wanted-applies p line e h = judged-applies p (readEdit p line) e (read-fits p line) h
+use Rattle.edit.proofs.EditRefusals.{drop-not-refused, add-not-refused, room-left}
 
 -- An edit that applies keeps a program well-formed.
 pub applied-well-formed : (e : Edit) (p : Program) → WellFormed p → Applies e p → WellFormed (editedProgram e p)

@@ -1,4 +1,4 @@
--- A program after an edit, and the refusals 12 to 16.
+-- A program after an edit, and the refusals 14 to 16.
 use Prim.Native.Nat.{ℕ}
 use mathlib.Core.Path.{_≡_}
 use mathlib.Core.Bool.{Bool, true, false, cond, _&&_, _||_}
@@ -9,7 +9,6 @@ use Rattle.program.specs.Sizes.{maxEdges}
 use Rattle.program.specs.Program.{Edge, Program, edgeFits}
 use Rattle.program.specs.Frames.{edgeKey}
 use Rattle.edit.specs.Edits.{oldEdge, newEdge}
-use Rattle.edit.specs.EditLines.{readEdit}
 use Rattle.edit.specs.declared.Edit.{Edit}
 use Rattle.edit.specs.declared.Edit.the-variants.{Add, Drop, Replace}
 use Rattle.edit.specs.declared.EditRead.{EditRead}
@@ -55,13 +54,10 @@ editedEdges (Replace s l) es = inserted (newEdge (Replace s l)) (without (oldEdg
 unfoldable pub editedProgram : Edit → Program → Program
 editedProgram e p = withEdges p (editedEdges e (p .edges))
 
--- the edit that a line says for a program, or the first refusal of 12 to 16 that it meets
+-- an edit that was read, or the first refusal of 14 to 16 that it meets; a refusal stays
 abbrev pub wantedBy : EditRead → List Edge → EditRead
 wantedBy (Read e) es = cond (eqb (editRefusal e es) 0) (Read e) (Refused (editRefusal e es))
 wantedBy (Refused n) es = Refused n
-
-unfoldable pub wantedEdit : Program → List ℕ → EditRead
-wantedEdit p line = wantedBy (readEdit p line) (p .edges)
 
 -- an edit that is not refused: its edges are in range, and it meets none of 14 to 16
 pub record Applies (e : Edit) (p : Program) : Type 0 where

@@ -1,4 +1,3 @@
 pub mod Edits
-pub mod EditLines
 pub mod Editing
 pub mod Parts

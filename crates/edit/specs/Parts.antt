@@ -1,4 +1,4 @@
--- What the private functions promise of each other; nothing here has to be believed.
+-- What the functions over edits promise of each other; nothing here has to be believed.
 use Prim.Native.Nat.{ℕ}
 use mathlib.Core.Bool.{Bool, cond}
 use Rattle.text.specs.Lines.{Bytes}

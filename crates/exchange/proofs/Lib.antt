@@ -3,10 +3,4 @@ pub mod OtherRoutines
 pub mod TablesJoined
 pub mod EdgesJoined
 pub mod ExchangesWellFormed
-pub mod FoundKept
-pub mod TextScanned
-pub mod TextLoop
-pub mod ExchangesFit
-pub mod ExchangeRefusalNumbers
-pub mod Samples
 pub mod Theorems

@@ -1,8 +1,8 @@
--- The change that a call is handed: an edit line, or the text of an exchange.
-use Prim.Native.Nat.{ℕ, _+_, _≤_, _<_}
+-- A change that is not refused.
+use Prim.Native.Nat.{_+_, _≤_, _<_}
 use mathlib.Core.Path.{_≡_}
 use mathlib.Core.Bool.{true}
-use mathlib.Core.List.{List, map}
+use mathlib.Core.List.{map}
 use lib.Dec.{eqb}
 use lib.ListN.{length}
 use Rattle.tables.specs.Keys.{Ascending}
@@ -11,22 +11,9 @@ use Rattle.program.specs.Program.{Program, nodesFit, edgeFits}
 use Rattle.program.specs.Chosen.{sizesFit}
 use Rattle.program.specs.Frames.{edgeKey}
 use Rattle.program.specs.WellFormed.{All}
-use Rattle.edit.specs.Editing.{wantedEdit, Applies}
-use Rattle.edit.specs.declared.EditRead.{EditRead}
-use Rattle.edit.specs.declared.EditRead.the-variants as edit
-use Rattle.exchange.specs.Changes.{Exchange, Change, step, whole, ChangeRead, Read, Refused, Form, EditLine, ExchangeText}
+use Rattle.edit.specs.Editing.{Applies}
+use Rattle.exchange.specs.Changes.{Exchange, Change, step, whole}
 use Rattle.exchange.specs.Changing.{others, withNodes}
-use Rattle.exchange.specs.ExchangeText.{wantedExchange}
-
-abbrev pub ofEdit : EditRead → ChangeRead
-ofEdit (edit.Read e) = Read (step e)
-ofEdit (edit.Refused n) = Refused n
-
--- the change that a buffer says for a program, or the first refusal that it meets: 12 to 16 for an edit line; 12, 13,
--- 21, 16 and 23 for an exchange
-abbrev pub wantedChange : Form → Program → List ℕ → ChangeRead
-wantedChange EditLine p s = ofEdit (wantedEdit p s)
-wantedChange ExchangeText p s = wantedExchange p s
 
 -- an exchange that is not refused
 pub record Fits (x : Exchange) (p : Program) : Type 0 where

@@ -5,7 +5,7 @@ use mathlib.Core.Logic.{_↔_, _≢_}
 use mathlib.Core.Bool.{Bool, true, false, cond, _&&_, not}
 use mathlib.Core.Option.{Option, none, some}
 use mathlib.Core.List.{List, [], _∷_}
-use lib.Dec.{eqb, leb}
+use lib.Dec.{eqb, leb, ltb}
 use lib.ListN.{length, getD}
 use Rattle.program.specs.declared.sizes.Sizes.{Sizes}
 use Rattle.program.specs.Chosen.{sizesOf, numbers}
@@ -70,3 +70,7 @@ violations p = violationsFrom (sizesOf p) p (freshMarks p) 0
 unfoldable pub firstFrom : ℕ → List ℕ → Option ℕ
 firstFrom low [] = none
 firstFrom low (v ∷ vs) = cond (leb low v) (some v) (firstFrom low vs)
+
+-- a search's result: a number past the end says that nothing was found
+abbrev pub within : ℕ → ℕ → Option ℕ
+within size r = cond (ltb r size) (some r) none

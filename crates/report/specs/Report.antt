@@ -21,7 +21,8 @@ use Rattle.program.specs.declared.Length.the-variants.{NotAsked, Of}
 use Rattle.reach.specs.Configurations.{routineOf, nodeOf, rootOf, stateOf}
 use Rattle.reach.specs.Marks.{freshMarks, violationsFrom}
 use Rattle.base.specs.Flags.{countSet}
-use Rattle.edit.specs.Editing.{editedProgram, wantedEdit}
+use Rattle.edit.specs.Editing.{editedProgram}
+use Rattle.editline.specs.EditLines.{wantedEdit}
 use Rattle.edit.specs.declared.EditRead.{EditRead}
 use Rattle.edit.specs.declared.EditRead.the-variants.{Read, Refused}
 

@@ -1,5 +1,4 @@
 // Putting the lines of a block into an output.
-use analysis::count::count_violations;
 use automaton::flags::rejecting_flags;
 use base::flags::count_set;
 use program::DecodedProgram;
@@ -8,6 +7,7 @@ use reach::configuration::parts_of;
 use reach::configuration::state_of;
 use text::Line;
 use text::put_line;
+use violations::count_violations;
 ghost use mathlib.Core.Path.{_≡_};
 ghost use mathlib.Core.List.{[], map};
 ghost use Prim.Native.Nat.{_+_, _*_, _<_, _≤_};

@@ -22,11 +22,13 @@ use borrow.Author.Tests.{eq-eqb}
 use Rattle.reach.specs.Marks.{freshMarks}
 use Rattle.reach.proofs.ShapeKept.{marks-length}
 use Rattle.analysis.proofs.AnswersByChecks.{same-self}
-use Rattle.edit.specs.Editing.{editedProgram, wantedEdit}
+use Rattle.edit.specs.Editing.{editedProgram}
+use Rattle.editline.specs.EditLines.{wantedEdit}
 use Rattle.edit.specs.declared.EditRead.{EditRead}
 use Rattle.edit.specs.declared.EditRead.the-variants as read
-use Rattle.edit.proofs.Theorems.{wanted-applies, applied-well-formed, edited-read}
-use Rattle.exchange.specs.Wanted.{ofEdit}
+use Rattle.edit.proofs.Theorems.{applied-well-formed, edited-read}
+use Rattle.editline.proofs.Theorems.{wanted-applies}
+use Rattle.exchangetext.specs.Wanted.{ofEdit}
 use Rattle.repair.specs.Repairs.{After, wantedBy, repairedBy, repaired}
 use Rattle.repair.specs.Desk.{Desk, started}
 use Rattle.report.specs.Report.{firstSize, editText, programAfter, editsText, blockOf, tooLong, fileSize, fileText, inputText, benchText}

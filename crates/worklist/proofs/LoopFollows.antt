@@ -11,11 +11,12 @@ use borrow.Author.Tests.{lt-ltb, le-ltb, ltb-true, ltb-false}
 use Rattle.base.proofs.Bools.{both}
 use Rattle.program.specs.Program.{Program}
 use Rattle.reach.specs.Worklist.{lowest, takeAt}
+use Rattle.reach.specs.Marks.{within}
 use Rattle.reach.proofs.LoopRuns.{Running, running-from, running-end, running-spent, running-turn}
 use Rattle.words.specs.Words.{flagsOf, FirstFlag}
 use Rattle.words.proofs.FlagsAsked.{flags-length}
 use Rattle.marking.specs.Parts.{worklist, Tables}
-use Rattle.worklist.specs.Parts.{within, followed, Begun}
+use Rattle.worklist.specs.Parts.{followed, Begun}
 use Rattle.worklist.proofs.LowestFound.{first-lowest}
 use Rattle.program.specs.declared.sizes.Sizes.{Sizes}
 use Rattle.reach.specs.Configurations.{Usable}

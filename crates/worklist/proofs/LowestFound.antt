@@ -11,9 +11,9 @@ use lib.ListN.{length, getD, take}
 use lib.Seq.{length-take-le}
 use borrow.Author.Tests.{eq-eqb, ne-eqb, ltb-true, ltb-false, le-ltb, leb-true, le-leb}
 use Rattle.reach.specs.Worklist.{lowest}
+use Rattle.reach.specs.Marks.{within}
 use Rattle.words.specs.Words.{FirstFlag}
 use Rattle.words.proofs.FlagsOfPart.{take-at}
-use Rattle.worklist.specs.Parts.{within}
 
 found-at : (l : List ℕ) (x r : ℕ) → ((j : ℕ) → j < r → getD l j 0 ≡ 0) → r < length l → (getD l r 0 ≡ 0 → ⊥) → lowest l x ≡ some (x + r)
 unfolding lowest

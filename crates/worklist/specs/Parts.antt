@@ -2,7 +2,6 @@
 use Prim.Native.Nat.{ℕ, _*_, _≤_, _<_}
 use mathlib.Core.Path.{_≡_}
 use mathlib.Core.Bool.{Bool, cond, not, _&&_}
-use mathlib.Core.Option.{Option, some, none}
 use mathlib.Core.List.{List, map}
 use lib.Dec.{eqb, ltb, leb}
 use lib.ListN.{getD, take}
@@ -31,10 +30,6 @@ isFirst z low high mark i = leb low i && ltb i high && (not (eqb (nodeOf z i) 1)
 
 pub record Awaited (z : Sizes) (low high : ℕ) (marks pending : List ℕ) : Type 0 where
   pub flags : Filled (λ i. cond (isFirst z low high (getD marks i 0) i) 1 0) (pendingWords * 64) (flagsOf pending)
-
--- a search's result: a number past the end says that nothing was found
-abbrev pub within : ℕ → ℕ → Option ℕ
-within size r = cond (ltb r size) (some r) none
 
 -- what is pending in these words, followed by so many iterations at most
 abbrev pub followed : Sizes → ℕ → Program → List ℕ → List ℕ → List ℕ → Worklist

@@ -6,8 +6,7 @@ use lib.ListN.{length}
 use Rattle.automaton.specs.Sizes.{maxStates}
 use Rattle.program.specs.declared.sizes.Sizes.{Sizes}
 use Rattle.program.specs.Chosen.{numbers}
-use Rattle.reach.specs.Marks.{violationsFrom, firstFrom}
-use Rattle.worklist.specs.Parts.{within}
+use Rattle.reach.specs.Marks.{violationsFrom, firstFrom, within}
 use Rattle.analysis.specs.Answers.{foundOf}
 use Rattle.analysis.proofs.LimitDecides.{own-sized}
 use borrow.Author.Needs.{needs}

@@ -1,0 +1,4 @@
+pub mod LinesInRange
+pub mod EditRefusalNumbers
+pub mod Theorems
+pub mod Samples

@@ -1,0 +1,4 @@
+pub mod ExchangeText
+pub mod Wanted
+pub mod Decoded
+pub mod Parts
