@@ -10,7 +10,7 @@ use Rattle.program.specs.Program.{Program, calledBy}
 use Rattle.words.proofs.FlagsOfPart.{take-at}
 use Rattle.reach.specs.Sizes.{summaries}
 use Rattle.reach.specs.Ranged.{Ranged}
-use Rattle.reach.specs.Configurations.{Usable, none-set}
+use Rattle.reach.specs.Configurations.{Usable}
 use Rattle.reach.specs.Reachable.{Reachable}
 use Rattle.reach.specs.Worklist.{summary}
 use Rattle.reach.specs.Marks.{Marked, Shows, freshAt}
@@ -46,10 +46,6 @@ ranks l =
       lower = λ f g hf hg e n. rank-less l hf hg e n;
       decides = λ f g hf hg. dec-together l hf hg;
     }
-
-pub all-cleared : (Z : Sizes) {n : ℕ} {l : List ℕ} → n ≡ numbers Z → l ≡ replicate n 0 → l ≡ none-set Z
-unfolding none-set
-all-cleared Z e z = z ∙ ap (λ (n : ℕ). replicate n 0) e
 
 module _ {Z : Sizes} where
   -- ---- the edges that decide, by their keys

@@ -50,9 +50,8 @@ fn work_component(
     f: u8,
     progress: Progress,
     marks: &mut [u8],
-    work: &mut [u8],
 ) -> Progress
-    requires { ⌜ (f < maxRoutines) × (length (now work) ≡ numbers z) × (getD (progress .done .flags) f 0 ≡ 0) ⌝ }
+    requires { ⌜ (f < maxRoutines) × (getD (progress .done .flags) f 0 ≡ 0) ⌝ }
     requires { ⌜ Comes z (programOf p) edited (now leads) (now roots) (flagsOf (now before))
         (turnOf (rankOf (now leads)) f) (now marks) progress ⌝ }
     ensures { λ r. ⌜ Advances z (programOf p) edited (now (leads .entry)) (now (roots .entry))
@@ -63,7 +62,7 @@ fn work_component(
     let members = c.flags;
     let done = join(progress.done, c);
     if is_reanalyzed(z, p, &members, before, marks, edited) {
-        component_pass(z, p, &members, roots, marks, work);
+        component_pass(z, p, &members, roots, marks);
         let reanalyzed = join(progress.reanalyzed, c);
         return Progress { done, reanalyzed };
     }
@@ -82,9 +81,7 @@ fn visit(
     i: usize,
     progress: Progress,
     marks: &mut [u8],
-    work: &mut [u8],
 ) -> Progress
-    requires { ⌜ length (now work) ≡ numbers z ⌝ }
     requires { ⌜ Comes z (programOf p) edited (now leads) (now roots) (flagsOf (now before)) i (now marks) progress ⌝ }
     ensures { λ r. ⌜ Advances z (programOf p) edited (now (leads .entry)) (now (roots .entry))
         (flagsOf (now (before .entry))) i (now (marks .entry)) progress (i + 1) (now (marks .exit)) r ⌝ }
@@ -98,18 +95,7 @@ fn visit(
     if rank(leads, f as u8) != i / MAX_ROUTINES {
         return progress;
     }
-    work_component(
-        z,
-        p,
-        leads,
-        roots,
-        before,
-        edited,
-        f as u8,
-        progress,
-        marks,
-        work,
-    )
+    work_component(z, p, leads, roots, before, edited, f as u8, progress, marks)
 }
 
 fn visit_all(
@@ -121,9 +107,7 @@ fn visit_all(
     edited: u8,
     start: Progress,
     marks: &mut [u8],
-    work: &mut [u8],
 ) -> Progress
-    requires { ⌜ length (now work) ≡ numbers z ⌝ }
     requires { ⌜ Comes z (programOf p) edited (now leads) (now roots) (flagsOf (now before)) firstTurn
         (now marks) start ⌝ }
     ensures { λ r. ⌜ Advances z (programOf p) edited (now (leads .entry)) (now (roots .entry))
@@ -132,7 +116,7 @@ fn visit_all(
     let mut progress = start;
     let mut i: usize = FIRST_TURN;
     while i < END_TURN {
-        progress = visit(z, p, leads, roots, before, edited, i, progress, marks, work);
+        progress = visit(z, p, leads, roots, before, edited, i, progress, marks);
         i = i + 1;
     }
     progress
@@ -167,7 +151,7 @@ pub fn drop_inside_out(
         done: none,
         reanalyzed: none,
     };
-    let end = visit_all(z, p, &leads, &roots, &before, edited, start, marks, work);
+    let end = visit_all(z, p, &leads, &roots, &before, edited, start, marks);
     cut_to_live(z, p, marks);
     clear(work);
     end.reanalyzed

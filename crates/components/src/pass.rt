@@ -2,7 +2,6 @@
 // and the summaries of the routines that they call outside, in rounds until a round marks nothing.
 use automaton::next::next_states;
 use automaton::sizes::NEXT_STATES_SIZE;
-use base::flags::clear;
 use base::flags::count_set;
 use base::flags::is_set;
 use program::DecodedProgram;
@@ -22,7 +21,7 @@ ghost use Rattle.automaton.specs.NextStates.{Answers};
 ghost use Rattle.program.specs.Chosen.{numbers};
 ghost use Rattle.program.specs.WellFormed.{WellFormed};
 ghost use Rattle.program.specs.Decoded.{programOf};
-ghost use Rattle.reach.specs.Configurations.{Usable, none-set};
+ghost use Rattle.reach.specs.Configurations.{Usable};
 ghost use Rattle.reach.specs.Ranged.{Sized};
 ghost use Rattle.reach.specs.Marks.{Shows};
 ghost use Rattle.base.specs.Filled.{Filled};
@@ -69,9 +68,8 @@ fn turn(
     f: u8,
     next: &[u16; NEXT_STATES_SIZE],
     marks: &mut [u8],
-    work: &mut [u8],
 )
-    requires { ⌜ (f < z .routines) × (length (now work) ≡ numbers z) ⌝ }
+    requires { ⌜ f < z .routines ⌝ }
     requires { ⌜ Ready z (programOf p) (now marks)
         × Answers (programOf p .automaton) (programOf p .routines) (now next) ⌝ }
     ensures { λ _. ⌜ Turn z (programOf p) (now (members .entry)) f (now (marks .entry)) (now (marks .exit)) ⌝ }
@@ -86,7 +84,7 @@ fn turn(
     let count = in_use(edges.count, MAX_EDGES);
     let from = first_of(&keys, count, f as u32);
     let to = first_of(&keys, count, f as u32 + 1);
-    follow_part(z, &keys[from..to], next, marks, work, low, low + span);
+    follow_part(z, &keys[from..to], next, marks, low, low + span);
 }
 
 fn round(
@@ -95,9 +93,7 @@ fn round(
     members: &[u8],
     next: &[u16; NEXT_STATES_SIZE],
     marks: &mut [u8],
-    work: &mut [u8],
 )
-    requires { ⌜ length (now work) ≡ numbers z ⌝ }
     requires { ⌜ Ready z (programOf p) (now marks)
         × Answers (programOf p .automaton) (programOf p .routines) (now next) ⌝ }
     ensures { λ _. ⌜ Round z (programOf p) (now (members .entry)) (z .routines) (now (marks .entry)) (now (marks .exit)) ⌝ }
@@ -105,7 +101,7 @@ fn round(
     let routines = z.routines;
     let mut f: u8 = 0;
     while f < routines {
-        turn(z, p, members, f, next, marks, work);
+        turn(z, p, members, f, next, marks);
         f = f + 1;
     }
 }
@@ -117,16 +113,14 @@ fn rounds(
     members: &[u8],
     next: &[u16; NEXT_STATES_SIZE],
     marks: &mut [u8],
-    work: &mut [u8],
 )
-    requires { ⌜ length (now work) ≡ numbers z ⌝ }
     requires { ⌜ Ready z (programOf p) (now marks)
         × Answers (programOf p .automaton) (programOf p .routines) (now next) ⌝ }
     ensures { λ _. ⌜ Shows z (ByMembers z (programOf p) (now (members .entry)) (now (marks .entry))) (now (marks .exit)) ⌝ }
 {
     loop {
         let before = count_set(marks);
-        round(z, p, members, next, marks, work);
+        round(z, p, members, next, marks);
         let after = count_set(marks);
         if after == before {
             return;
@@ -135,25 +129,15 @@ fn rounds(
 }
 
 // The routines of a component are worked anew from their roots, by their own edges and the summaries of the routines
-// that they call outside. Each turn clears the lent working buffer, but where there is none it is as it came: so it is
-// cleared. The caller has the roots and the marks of the others: hence the `requires`.
-pub fn component_pass(
-    z: Sizes,
-    p: DecodedProgram,
-    members: &[u8],
-    roots: &[u8],
-    marks: &mut [u8],
-    work: &mut [u8],
-)
-    requires { ⌜ WellFormed (programOf p) × Sized z (programOf p) × (length (now work) ≡ numbers z) ⌝ }
+// that they call outside. The caller has the roots and the marks of the others: hence the `requires`.
+pub fn component_pass(z: Sizes, p: DecodedProgram, members: &[u8], roots: &[u8], marks: &mut [u8])
+    requires { ⌜ WellFormed (programOf p) × Sized z (programOf p) ⌝ }
     requires { ⌜ Passable z (programOf p) (now members) (now roots) (now marks) ⌝ }
-    ensures { λ _. ⌜ (now (work .exit) ≡ none-set z)
-        × Passed z (programOf p) (now (members .entry)) (now (roots .entry)) (now (marks .entry)) (now (marks .exit)) ⌝ }
+    ensures { λ _. ⌜ Passed z (programOf p) (now (members .entry)) (now (roots .entry)) (now (marks .entry)) (now (marks .exit)) ⌝ }
 {
     let automaton = p.automaton;
     let table = next_states(automaton, p.routines);
     let next = table.sets;
     reset(z, members, roots, marks);
-    rounds(z, p, members, &next, marks, work);
-    clear(work);
+    rounds(z, p, members, &next, marks);
 }

@@ -3,6 +3,7 @@
 // edges of the routine, in the sizes before, and then the add of all new ones, in sizes that hold both programs. The
 // changes that come here were not refused (12 to 16, 21), the buffers have their lengths (9 and 11), and but for a drop
 // the marks must be the program's own (17): hence each `requires`.
+use base::flags::clear;
 use edit::Edit;
 use edit::Step;
 use edit::apply::relabelled;
@@ -45,7 +46,8 @@ pub fn add_step(
         (now (work .exit)) ⌝ }
 {
     let added = with_step(p, s);
-    follow_added(z, added, s.routine, s.source, marks, work);
+    follow_added(z, added, s.routine, s.source, marks);
+    clear(work);
     added
 }
 
@@ -123,6 +125,7 @@ pub fn add_routine(
         (now (work .exit)) ⌝ }
 {
     let added = exchanged(p, x);
-    follow_routine(z, added, x.routine, marks, work);
+    follow_routine(z, added, x.routine, marks);
+    clear(work);
     added
 }

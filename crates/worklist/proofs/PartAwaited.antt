@@ -7,14 +7,14 @@ use mathlib.Core.List.{List}
 use native.Mathlib.Omega.{arith}
 use native.Mathlib.Decide.{ℕ-discrete}
 use lib.Dec.{eqb, ltb, leb}
-use lib.ListN.{length, getD, take, replicate, length-take, List·getD-eq-default}
+use lib.ListN.{length, getD, take, replicate, length-take, length-map, List·getD-eq-default}
 use lib.Seq.{length-take-le}
 use borrow.Author.Tests.{eqb-false, ne-eqb, lt-ltb, le-leb, ltb-true, leb-true}
 use Rattle.automaton.specs.NextStates.{Answers}
 use Rattle.index.specs.Index.{Indexed}
 use Rattle.program.specs.Program.{Program}
 use Rattle.program.specs.WellFormed.{WellFormed}
-use Rattle.program.specs.Decoded.{programOf}
+use Rattle.program.specs.Decoded.{edgeOf, programOf}
 use Rattle.program.specs.declared.DecodedProgram.{DecodedProgram}
 use Rattle.program.specs.Sizes.{maxEdges, marksMost}
 use Rattle.reach.specs.Sizes.{enoughIterations, summaries}
@@ -44,6 +44,10 @@ take-small n ws i =
           let z : getD (take n (flagsOf ws)) i 0 ≡ 0 = List·getD-eq-default (take n (flagsOf ws)) 0 (omega (arith, length-take n (flagsOf ws))) in
           omega (arith, z)
     ]
+
+-- the part has no more edges than a program
+pub few-edges : (Z : Sizes) {p : Program} {steps next marks : List ℕ} {low high : ℕ} → Followable Z p steps next low high marks → length steps ≤ maxEdges
+few-edges Z {steps = steps} r = omega (arith, r .well-formed .edges-limited, ap length (r .edges), length-map steps edgeOf)
 
 module _ (Z : Sizes) (U : Usable Z) where
   -- ---- the flag of a number

@@ -11,32 +11,21 @@ use reach::configuration::number_of;
 use reach::spans::node_span;
 use reach::spans::routine_span;
 use tables::in_use;
-ghost use mathlib.Core.Path.{_≡_};
 ghost use Prim.Native.Nat.{_+_, _*_, _≤_, _<_};
-ghost use lib.ListN.{length};
 ghost use Rattle.program.specs.Chosen.{numbers};
 ghost use Rattle.program.specs.WellFormed.{WellFormed};
 ghost use Rattle.program.specs.Decoded.{programOf};
 ghost use Rattle.reach.specs.Sizes.{nodeSpan, routineSpan};
-ghost use Rattle.reach.specs.Configurations.{number, none-set};
+ghost use Rattle.reach.specs.Configurations.{number};
 ghost use Rattle.reach.specs.Ranged.{Sized};
 ghost use Rattle.reach.specs.Reachable.{Derivable, Any};
 ghost use Rattle.reach.specs.Marks.{Marked, Shows, ClosedBut};
 
 // What follows by all edges of a program, once some were added at the numbers from low up to high.
-fn follow_between(
-    z: Sizes,
-    p: DecodedProgram,
-    low: usize,
-    high: usize,
-    marks: &mut [u8],
-    work: &mut [u8],
-)
-    requires { ⌜ WellFormed (programOf p) × Sized z (programOf p) × (high ≤ numbers z)
-        × (length (now work) ≡ numbers z) ⌝ }
+fn follow_between(z: Sizes, p: DecodedProgram, low: usize, high: usize, marks: &mut [u8])
+    requires { ⌜ WellFormed (programOf p) × Sized z (programOf p) × (high ≤ numbers z) ⌝ }
     requires { ⌜ ClosedBut z (programOf p) low high (now marks) ⌝ }
-    ensures { λ _. ⌜ Shows z (Derivable (programOf p) (Marked z (now (marks .entry))) Any) (now (marks .exit))
-        × (now (work .exit) ≡ none-set z) ⌝ }
+    ensures { λ _. ⌜ Shows z (Derivable (programOf p) (Marked z (now (marks .entry))) Any) (now (marks .exit)) ⌝ }
 {
     let rule = p.automaton;
     let edges = p.edges;
@@ -44,28 +33,25 @@ fn follow_between(
     let table = next_states(rule, p.routines);
     let next = table.sets;
     let count = in_use(edges.count, MAX_EDGES);
-    follow_part(z, &keys[..count], &next, marks, work, low, high);
+    follow_part(z, &keys[..count], &next, marks, low, high);
 }
 
 // Once edges were added that lead from node n of routine f.
-pub fn follow_added(z: Sizes, p: DecodedProgram, f: u8, n: u8, marks: &mut [u8], work: &mut [u8])
-    requires { ⌜ WellFormed (programOf p) × Sized z (programOf p) × (f < z .routines) × (n < z .nodes)
-        × (length (now work) ≡ numbers z) ⌝ }
+pub fn follow_added(z: Sizes, p: DecodedProgram, f: u8, n: u8, marks: &mut [u8])
+    requires { ⌜ WellFormed (programOf p) × Sized z (programOf p) × (f < z .routines) × (n < z .nodes) ⌝ }
     requires { ⌜ ClosedBut z (programOf p) (number z f n 0 0) (number z f n 0 0 + nodeSpan z) (now marks) ⌝ }
-    ensures { λ _. ⌜ Shows z (Derivable (programOf p) (Marked z (now (marks .entry))) Any) (now (marks .exit))
-        × (now (work .exit) ≡ none-set z) ⌝ }
+    ensures { λ _. ⌜ Shows z (Derivable (programOf p) (Marked z (now (marks .entry))) Any) (now (marks .exit)) ⌝ }
 {
     let low = number_of(z, f, n, 0, 0);
-    follow_between(z, p, low, low + node_span(z), marks, work);
+    follow_between(z, p, low, low + node_span(z), marks);
 }
 
 // Once edges were added anywhere in routine f.
-pub fn follow_routine(z: Sizes, p: DecodedProgram, f: u8, marks: &mut [u8], work: &mut [u8])
-    requires { ⌜ WellFormed (programOf p) × Sized z (programOf p) × (f < z .routines) × (length (now work) ≡ numbers z) ⌝ }
+pub fn follow_routine(z: Sizes, p: DecodedProgram, f: u8, marks: &mut [u8])
+    requires { ⌜ WellFormed (programOf p) × Sized z (programOf p) × (f < z .routines) ⌝ }
     requires { ⌜ ClosedBut z (programOf p) (f * routineSpan z) (f * routineSpan z + routineSpan z) (now marks) ⌝ }
-    ensures { λ _. ⌜ Shows z (Derivable (programOf p) (Marked z (now (marks .entry))) Any) (now (marks .exit))
-        × (now (work .exit) ≡ none-set z) ⌝ }
+    ensures { λ _. ⌜ Shows z (Derivable (programOf p) (Marked z (now (marks .entry))) Any) (now (marks .exit)) ⌝ }
 {
     let low = number_of(z, f, 0, 0, 0);
-    follow_between(z, p, low, low + routine_span(z), marks, work);
+    follow_between(z, p, low, low + routine_span(z), marks);
 }

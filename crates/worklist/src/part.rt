@@ -1,7 +1,6 @@
 // A part of the table of edges: where that of one routine begins, and what follows by the edges of a part.
 use crate::exits::summaries_of;
 use crate::pending::follow_pending;
-use base::flags::clear;
 use index::index_of;
 use marking::PENDING_WORDS;
 use program::edges::first_key;
@@ -15,10 +14,9 @@ ghost use mathlib.Core.Bool.{not, _&&_};
 ghost use Prim.Native.Nat.{_≤_, _<_};
 ghost use lib.Dec.{eqb};
 ghost use lib.ListN.{length};
-ghost use Rattle.program.specs.Sizes.{maxEdges};
 ghost use Rattle.program.specs.Chosen.{numbers, Admitted};
 ghost use Rattle.program.specs.Program.{Program};
-ghost use Rattle.reach.specs.Configurations.{Usable, nodeOf, none-set};
+ghost use Rattle.reach.specs.Configurations.{Usable, nodeOf};
 ghost use Rattle.reach.specs.Reachable.{Derivable, Any};
 ghost use Rattle.reach.specs.Marks.{Marked, Shows};
 ghost use Rattle.worklist.specs.Parts.{Awaited, FirstOf, Followable};
@@ -65,23 +63,13 @@ fn await_between(z: Sizes, marks: &[u8], low: usize, high: usize) -> Pending
 
 // What follows from the marks by these edges is marked. Of the marked configurations only those of the numbers from low
 // up to high are taken at the start, so that whoever knows where something new can follow pays for no others. Were
-// something to follow from the rest, it would be missed: hence the `requires`. The lent working buffer is cleared: what
-// is pending is kept as bits here.
-pub fn follow_part(
-    z: Sizes,
-    steps: &[u32],
-    next: &[u16],
-    marks: &mut [u8],
-    work: &mut [u8],
-    low: usize,
-    high: usize,
-)
-    requires { ⌜ (length (now steps) ≤ maxEdges) × (length (now work) ≡ numbers z) × (high ≤ numbers z) ⌝ }
+// something to follow from the rest, it would be missed: hence the `requires`.
+pub fn follow_part(z: Sizes, steps: &[u32], next: &[u16], marks: &mut [u8], low: usize, high: usize)
+    requires { ⌜ high ≤ numbers z ⌝ }
     requires { ⌜ ((p : Program) × Followable z p (now steps) (now next) low high (now marks)) ⌝ }
     ensures { λ _. ⌜ ((p : Program)
         → Followable z p (now (steps .entry)) (now (next .entry)) low high (now (marks .entry))
-        → Shows z (Derivable p (Marked z (now (marks .entry))) Any) (now (marks .exit)))
-        × (now (work .exit) ≡ none-set z) ⌝ }
+        → Shows z (Derivable p (Marked z (now (marks .entry))) Any) (now (marks .exit))) ⌝ }
 {
     let edges = index_of(steps);
     let index = edges.places;
@@ -89,7 +77,6 @@ pub fn follow_part(
     let mut known = exits.words;
     let awaited = await_between(z, marks, low, high);
     let mut pending = awaited.words;
-    clear(work);
     let limit = enough_iterations(z);
     let _iterations = follow_pending(
         z,

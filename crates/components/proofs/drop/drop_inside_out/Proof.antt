@@ -1,7 +1,7 @@
 -- `components::drop::drop_inside_out` meets its contract.
-use mathlib.Core.Path.{_∙_}
 use borrow.Author.Needs.{needs}
-use Rattle.components.proofs.TurnsTaken.{fresh-length, turning-start, turning-marks, turning-reanalyzed, all-cleared}
+use Rattle.reach.proofs.MarksCopied.{cleared-is}
+use Rattle.components.proofs.TurnsTaken.{fresh-length, turning-start, turning-marks, turning-reanalyzed}
 use Rattle.components.proofs.drop.drop_inside_out.Statement.{statement}
 use Rattle.components.proofs.drop.drop_inside_out.Tie as tie
 
@@ -16,16 +16,16 @@ summaries-of-requires c κs =
 
 visit-all-requires : tie.Need-visit-all-requires
 visit-all-requires c κs =
-    let exits = c .before .before .before .before .before .before in
+    let exits = c .before .before .before .before .before in
     let entries = exits .before .before .before in
     let graph = entries .before .before .before in
     let z = graph .before .before .before .pre in
-    (z .0, (z .1 .0, turning-start (z .1 .1) (z .1 .2) (graph .call-graph .ensures) (entries .old-roots .ensures) (exits .summaries-of .ensures)))
+    (z .1 .0, turning-start (z .1 .1) (z .1 .2) (graph .call-graph .ensures) (entries .old-roots .ensures) (exits .summaries-of .ensures))
 
 cut-to-live-requires : tie.Need-cut-to-live-requires
 cut-to-live-requires c κs =
-    let visited = c .before .before .before .before .before in
-    let exits = visited .before .before .before .before .before .before .before in
+    let visited = c .before .before .before in
+    let exits = visited .before .before .before .before .before .before in
     let entries = exits .before .before .before in
     let graph = entries .before .before .before in
     let z = graph .before .before .before .pre .1 in
@@ -36,14 +36,14 @@ returns : tie.Need-returns
 returns c =
     let cleared = c .before .before .before in
     let cut = cleared .before .before .before .before in
-    let visited = cut .before .before .before .before .before .before in
-    let exits = visited .before .before .before .before .before .before .before in
+    let visited = cut .before .before .before .before in
+    let exits = visited .before .before .before .before .before .before in
     let entries = exits .before .before .before in
     let graph = entries .before .before .before in
-    let room = visited .visit-all .kept .1 .1 .1 .1 .1 .1 .1 .1 .0 ∙ graph .before .before .before .pre .0 in
+    let z = graph .before .before .before in
     λ old h e.
     let t = visited .visit-all .ensures old (turning-start h e (graph .call-graph .ensures) (entries .old-roots .ensures) (exits .summaries-of .ensures)) in
-    (turning-marks t (cut .cut-to-live .ensures), all-cleared _ room (cleared .clear .ensures), turning-reanalyzed t)
+    (turning-marks t (cut .cut-to-live .ensures), cleared-is (z .args .z) (cleared .clear .ensures) (z .pre .0), turning-reanalyzed t)
 
 pub drop-inside-out-spec : {M : Type 1} → statement M
 drop-inside-out-spec =

@@ -1,37 +1,28 @@
 -- `components::pass::component_pass` meets its contract.
 use Rattle.components.proofs.PassDerives.{first-ready, passed}
 use Rattle.program.proofs.ProgramRanged.{ranged}
-use Rattle.reach.specs.Configurations.{none-set}
-use Prim.Native.Nat.{ℕ}
-use mathlib.Core.Path.{ap, _∙_}
-use lib.ListN.{replicate}
 use borrow.Author.Needs.{needs}
 use Rattle.components.proofs.pass.component_pass.Statement.{statement}
 use Rattle.components.proofs.pass.component_pass.Tie as tie
 
 next-states-requires : tie.Need-next-states-requires
-next-states-requires c κs = ranged _ (c .before .before .before .before .before .pre .0 .0)
+next-states-requires c κs = ranged _ (c .before .before .before .before .pre .0 .0)
 
 rounds-requires : tie.Need-rounds-requires
 rounds-requires c κs =
-    let reset = c .before .before .before .before .before in
+    let reset = c .before .before .before .before in
     let table = reset .before .before .before in
-    let z = table .before .before .before .before .before .before .pre in
-    (z .0 .2, (first-ready (z .0 .0) (z .0 .1) (z .1) (reset .reset .ensures), table .next-states .ensures))
+    let z = table .before .before .before .before .before .pre in
+    (first-ready (z .0 .0) (z .0 .1) (z .1) (reset .reset .ensures), table .next-states .ensures)
 
 returns : tie.Need-returns
-unfolding none-set
 returns c =
-    let cleared = c .before .before in
-    let worked = cleared .before .before .before .before .before .before in
-    let reset = worked .before .before .before .before .before .before in
-    let z = reset .before .before .before .before .before .before .before .before .before .pre in (
-      cleared .clear .ensures ∙ ap (λ (n : ℕ). replicate n 0) (worked .rounds .kept .1 .1 .1 .1 .1 .0 ∙ z .0 .2),
-      passed (z .0 .0) (z .0 .1) (z .1) (reset .reset .ensures) (worked .rounds .ensures),
-    )
+    let worked = c .before .before in
+    let reset = worked .before .before .before .before .before in
+    let z = reset .before .before .before .before .before .before .before .before .pre in
+    passed (z .0 .0) (z .0 .1) (z .1) (reset .reset .ensures) (worked .rounds .ensures)
 
 pub component-pass-spec : {M : Type 1} → statement M
 component-pass-spec =
     tie.close
-    (tie.spec next-states-requires (λ c κs. search needs) rounds-requires (λ c κs. search needs)
-    (λ c. search needs) (λ c. search needs) returns)
+    (tie.spec next-states-requires (λ c κs. search needs) rounds-requires (λ c. search needs) returns)

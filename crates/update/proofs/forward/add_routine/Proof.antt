@@ -2,6 +2,7 @@
 -- for what it asks and cannot have.
 use Rattle.update.proofs.ExchangedMarks.{routine-small, exchanged-fits, exchanged-closed, exchanged-own}
 use Rattle.program.specs.Decoded.{programOf}
+use Rattle.reach.proofs.MarksCopied.{cleared-is}
 use Rattle.exchange.specs.Decoded.{exchangeOf}
 use borrow.Author.Needs.{needs}
 use Rattle.update.proofs.forward.add_routine.Statement.{statement}
@@ -12,17 +13,18 @@ add-routine-spec =
     tie.close
     (tie.spec (λ c κs. search needs)
     (λ c κs.
-    let z = c .before .before .before .before .before in
+    let z = c .before .before .before .before in
     let p = programOf (z .args .p) in
     let x = exchangeOf (z .args .x) in
-    let e = c .before .before .exchanged .ensures in
+    let e = c .before .exchanged .ensures in
     let fits = exchanged-fits x p (z .pre .0 .0) (z .pre .0 .1) (z .pre .0 .2) (z .pre .0 .3) _ e in
     let small = routine-small x p (z .pre .0 .0) (z .pre .0 .1) (z .pre .0 .2) (z .pre .0 .3) in
     let closed = exchanged-closed x p (z .pre .0 .0) (z .pre .0 .1) (z .pre .0 .2) (z .pre .0 .3) _ e (z .pre .1 .0) in
     search (needs, fits, small, closed))
-    (λ c. search needs) (λ c. search needs)
+    (λ c κs. search needs) (λ c. search needs) (λ c. search needs)
     (λ c.
-    let z = c .before .before .before .before .before .before .before .before .before .before in
-    let e = c .before .before .before .before .before .before .before .exchanged .ensures in
+    let z = c .before .before .before .before .before .before .before .before .before .before .before in
+    let e = c .before .before .before .before .before .before .before .before .exchanged .ensures in
+    let idle = cleared-is (z .args .z) (c .before .before .clear .ensures) (z .pre .1 .1) in
     let own = exchanged-own (exchangeOf (z .args .x)) (programOf (z .args .p)) (z .pre .0 .0) (z .pre .0 .1) (z .pre .0 .2) (z .pre .0 .3) _ e (z .pre .1 .0) in
-    search (needs, own)))
+    search (needs, own, idle)))

@@ -18,7 +18,7 @@ abbrev tabled : tie.After-in-use → tie.After-next-states
 tabled c = c .before .before
 
 abbrev start : tie.After-in-use → tie.Start
-start c = tabled c .before .before .before .before .before .before
+start c = tabled c .before .before .before .before .before
 
 room : (c : tie.Start) → length (c .args .p .edges .keys) ≡ maxEdges
 room c = search needs
@@ -34,7 +34,7 @@ followable c =
     all-edges (z .args .z) (z .pre .0 .1 .usable) (z .args .p) (room z) (c .in-use .ensures) (z .pre .0 .0) (z .pre .0 .1) (tabled c .next-states .ensures) (z .pre .1)
 
 next-states-requires : tie.Need-next-states-requires
-next-states-requires c κs = let z = c .before .before .before .before .before in ranged (programOf (z .args .p)) (z .pre .0 .0)
+next-states-requires c κs = let z = c .before .before .before .before in ranged (programOf (z .args .p)) (z .pre .0 .0)
 
 array-share-prefix-keys : tie.Need-array-share-prefix-keys
 array-share-prefix-keys c = in-table c
@@ -46,21 +46,18 @@ slice-aggregate-follow-part c =
 
 follow-part-requires : tie.Need-follow-part-requires
 follow-part-requires c κs =
-    let n = c .before .before .before .before in
-    let z = start n in
-    let r = room z in
-    let l = length-take-le (n .in-use .result) (z .args .p .edges .keys) (in-table n) in
-    ((omega (arith, l, in-table n), z .pre .0 .3, z .pre .0 .2), (_, followable n))
+    let n = c .before .before .before in
+    (start n .pre .0 .2, (_, followable n))
 
 returns : tie.Need-returns
 returns c =
-    let f = c .before .before .before .before in
-    let n = f .before .before .before .before .before in
+    let f = c .before .before in
+    let n = f .before .before .before .before in
     let e = f .follow-part .ensures in
-    (e .0 _ (followable n), e .1)
+    e _ (followable n)
 
 pub follow-between-spec : {M : Type 1} → statement M
 follow-between-spec =
     tie.close
     (tie.spec next-states-requires (λ c κs. search needs) array-share-prefix-keys slice-aggregate-follow-part
-    (λ c. search needs) follow-part-requires (λ c. search needs) (λ c. search needs) returns)
+    (λ c. search needs) follow-part-requires (λ c. search needs) returns)
