@@ -14,7 +14,7 @@ use Rattle.program.specs.Decoded.{edgeOf, programOf}
 use Rattle.program.specs.declared.DecodedProgram.{DecodedProgram}
 use Rattle.reach.specs.Runs.{Step, stepOf, HasStep}
 use Rattle.reach.proofs.Labels.{call-label, label-calls}
-use Rattle.worklist.proofs.AnalysisBegun.{take-min}
+use Rattle.base.proofs.EntriesInUse.{in-use-all}
 
 -- ---- members of a list, and their places
 
@@ -62,7 +62,7 @@ keys-of d w room u =
     record {
       well-formed = w;
       fits = omega (arith, room, u);
-      edges = rw u (ap (map edgeOf) (sym (rw room at (take-min (d .edges .count) (d .edges .keys)))));
+      edges = rw u (ap (map edgeOf) (sym (rw room at (in-use-all (d .edges .count) (d .edges .keys)))));
     }
 
 module _ {p : Program} {keys : List ℕ} {count : ℕ} (o : KeysOf p keys count) where

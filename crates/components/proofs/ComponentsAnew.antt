@@ -13,7 +13,7 @@ use Rattle.reach.specs.Reachable.{Derivable, seeded, by-action, by-call, by-ret
 use Rattle.reach.proofs.LeastSetLaws.{Within, Rooted, entry-of, anew}
 use Rattle.callgraph.specs.Components.{OldRoot, Anew}
 use Rattle.roots.specs.Roots.{Live, begun, called}
-use Rattle.components.specs.Passes.{PassSeeds, entry, summary}
+use Rattle.passes.specs.Passes.{PassSeeds, entry, summary}
 
 -- p′ has no step more than p, and the same automaton
 pub record Dropped (p p′ : Program) : Type 0 where

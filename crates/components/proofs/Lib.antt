@@ -1,9 +1,4 @@
 pub mod ComponentsAnew
 pub mod TurnsWork
-pub mod EdgesOfRoutines
-pub mod RoutinePartOfTable
-pub mod RoundsClose
-pub mod PassDerives
 pub mod TurnsFinished
-pub mod ReanalysisDecided
 pub mod TurnsTaken

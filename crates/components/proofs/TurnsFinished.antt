@@ -20,11 +20,12 @@ use Rattle.reach.proofs.MarksShown.{shows-same, one-list, reachable-shown}
 use Rattle.callgraph.specs.Components.{CallEdge, Leads, directly, through, Together, OldRoot, Anew, Changed, Reanalyzed, Member, memberOf}
 use Rattle.roots.specs.Roots.{RootOf, Live, begun, called, LiveMarked}
 use Rattle.roots.specs.Parts.{RootFlags}
-use Rattle.components.specs.Passes.{onlyOf, PassSeeds, entry, summary, ExitOf, PassOf}
-use Rattle.components.specs.PassParts.{Passable}
-use Rattle.components.specs.TurnParts.{DropOf, Ranks, Before, turnOf, firstTurn, endTurn, Working, Differs, CallsDiffering}
+use Rattle.passes.specs.Passes.{onlyOf, PassSeeds, entry, summary, ExitOf, PassOf}
+use Rattle.passes.specs.PassParts.{Passable}
+use Rattle.components.specs.TurnParts.{DropOf, Ranks, Before, turnOf, firstTurn, endTurn, Working}
+use Rattle.reanalysis.specs.Parts.{Differs, CallsDiffering}
 use Rattle.components.proofs.ComponentsAnew.{Passing, pass-anew, anew-pass, root-old, anew-old, called-old, live-exact}
-use Rattle.components.proofs.EdgesOfRoutines.{only-step, only-routine, step-only}
+use Rattle.passes.proofs.EdgesOfRoutines.{only-step, only-routine, step-only}
 use Rattle.callgraph.proofs.RoutineSets.{member-true, true-member, member-small, member-dec}
 use Rattle.callgraph.proofs.ComponentsFromFlags.{called-small, caller-small}
 use Rattle.components.proofs.TurnsWork.{dropped, called-done}

@@ -6,10 +6,9 @@ use Prim.Native.Nat.{ℕ, _+_, _/_, _%_, _≤_, _<_}
 use native.Mathlib.Omega.{arith}
 use lib.ListN.{length, getD, replicate, length-replicate}
 use Rattle.program.specs.Sizes.{maxRoutines}
-use Rattle.program.specs.Program.{Program, calledBy}
+use Rattle.program.specs.Program.{Program}
 use Rattle.words.proofs.FlagsOfPart.{take-at}
 use Rattle.reach.specs.Sizes.{summaries}
-use Rattle.reach.specs.Ranged.{Ranged}
 use Rattle.reach.specs.Configurations.{Usable}
 use Rattle.reach.specs.Reachable.{Reachable}
 use Rattle.reach.specs.Worklist.{summary}
@@ -19,17 +18,17 @@ use Rattle.reach.proofs.Numbers.{summary-fits}
 use Rattle.reach.proofs.ShapeKept.{marks-length}
 use Rattle.reach.proofs.AnalysisExact.{analysis-exact}
 use Rattle.words.specs.Words.{flagsOf}
-use Rattle.worklist.specs.Parts.{Learnt}
-use Rattle.worklist.proofs.SummariesKnown.{exit-known, exit-marked}
+use Rattle.closure.specs.Parts.{Learnt}
+use Rattle.closure.proofs.SummariesKnown.{exit-known, exit-marked}
 use Rattle.callgraph.specs.Components.{Leads, Together, Anew, Reanalyzed, Member}
 use Rattle.callgraph.specs.Parts.{LeadFlags, rankOf, Joined}
 use Rattle.roots.specs.Roots.{LiveMarked}
 use Rattle.roots.specs.Parts.{RootFlags}
-use Rattle.components.specs.Passes.{Passed}
-use Rattle.components.specs.PassParts.{Passable}
-use Rattle.components.specs.TurnParts.{DropOf, Ranks, turnOf, firstTurn, endTurn, Working, Turning, CallsDiffering, SomeDiffering}
+use Rattle.passes.specs.Passes.{Passed}
+use Rattle.passes.specs.PassParts.{Passable}
+use Rattle.components.specs.TurnParts.{DropOf, Ranks, turnOf, firstTurn, endTurn, Working, Turning}
+use Rattle.reanalysis.specs.Parts.{CallsDiffering}
 use Rattle.callgraph.proofs.ComponentsFromFlags.{rank-positive, rank-limited, rank-same, rank-less, dec-together}
-use Rattle.callgraph.proofs.CallsByKey.{edgeAt, KeysOf, key-step, step-key}
 use Rattle.components.proofs.TurnsWork.{skipped, kept-turn, worked-turn}
 use Rattle.components.proofs.TurnsFinished.{pass-is, passable, reanalyzed-is, first-turn, all-right, cut-fresh}
 use Rattle.program.specs.declared.sizes.Sizes.{Sizes}
@@ -48,37 +47,6 @@ ranks l =
     }
 
 module _ {Z : Sizes} where
-  -- ---- the edges that decide, by their keys
-
-  module _ {p : Program} {members before marks keys : List ℕ} {count : ℕ} (o : KeysOf p keys count) (k : Ranged Z p) where
-    pub differing-call : SomeDiffering Z members before marks keys count → CallsDiffering Z p members before marks
-    differing-call s =
-        let d = s .differing in
-        let e = edgeAt keys (s .at) in
-        record {
-          member = e .routine;
-          called = calledBy (e .label);
-          is-member = d .is-member;
-          calls = record { source = e .source; target = e .target; edge = key-step o (s .at) (s .below) (d .is-call) };
-          outside = d .outside;
-          differing = d .differing;
-        }
-
-    pub call-differing : CallsDiffering Z p members before marks → SomeDiffering Z members before marks keys count
-    call-differing c =
-        let z = step-key o (c .calls .edge) in
-        record {
-          at = z .place;
-          below = z .within;
-          differing = record {
-            is-member = rw (z .caller) at (c .is-member);
-            is-call = z .is-call;
-            small = rw (z .called) at (k .called (c .calls .edge));
-            outside = rw (z .called) at (c .outside);
-            differing = rw (z .called) at (c .differing);
-          };
-        }
-
   -- ---- a turn
 
   module _ {p p′ : Program} {edited i : ℕ} {leads roots before marks done reanalyzed : List ℕ} (t : Turning Z p p′ edited leads roots before i marks done reanalyzed) where

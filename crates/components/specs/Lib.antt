@@ -1,3 +1,1 @@
-pub mod Passes
-pub mod PassParts
 pub mod TurnParts

@@ -1,18 +1,18 @@
 // The inside-out repair after a drop: component by component, callees first, each worked anew only if it has to be.
-use crate::decide::is_reanalyzed;
-use crate::pass::component_pass;
 use base::flags::clear;
 use callgraph::graph::call_graph;
 use callgraph::graph::component;
 use callgraph::graph::rank;
 use callgraph::routines::Routines;
 use callgraph::routines::join;
+use closure::exits::summaries_of;
+use passes::component_pass;
 use program::DecodedProgram;
 use program::sizes::MAX_ROUTINES;
 use program::sizes::Sizes;
+use reanalysis::is_reanalyzed;
 use roots::cut::cut_to_live;
 use roots::old_roots;
-use worklist::exits::summaries_of;
 ghost use mathlib.Core.Path.{_≡_};
 ghost use mathlib.Core.Logic.{_↔_};
 ghost use Prim.Native.Nat.{ℕ, _<_, _+_};

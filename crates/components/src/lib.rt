@@ -1,4 +1,2 @@
-// The inside-out repair of the marks after a drop.
-mod decide;
+// The inside-out repair of the marks after a drop, component by component, callees first.
 pub mod drop;
-mod pass;

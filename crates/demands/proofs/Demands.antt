@@ -33,7 +33,7 @@ use Rattle.edit.specs.declared.EditRead.the-variants.{Read}
 use Rattle.exchange.specs.Changes.{Form, ExchangeText}
 use Rattle.repair.specs.Desk.{started}
 use Rattle.callgraph.specs.Components.{Member}
-use Rattle.components.specs.Passes.{Passed}
+use Rattle.passes.specs.Passes.{Passed}
 use Rattle.report.specs.Report.{tooLong, benchText}
 use Rattle.transcript.specs.Transcript.{TurnGives, begun, Turns}
 use Rattle.transcript.specs.declared.Turn.{Turn}

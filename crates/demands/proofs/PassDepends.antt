@@ -16,9 +16,9 @@ use Rattle.reach.specs.Reachable.{seeded, by-action, by-call, by-return}
 use Rattle.reach.specs.Marks.{Marked}
 use Rattle.reach.proofs.LeastSetLaws.{Within}
 use Rattle.callgraph.specs.Components.{CallEdge, memberOf, Member}
-use Rattle.components.specs.Passes.{edgesOf, onlyOf, entry, summary, ExitOf, PassOf, Passed}
+use Rattle.passes.specs.Passes.{edgesOf, onlyOf, entry, summary, ExitOf, PassOf, Passed}
 use Rattle.demands.specs.Inputs.{SameInputs}
-use Rattle.components.proofs.EdgesOfRoutines.{only-step, only-routine, step-only}
+use Rattle.passes.proofs.EdgesOfRoutines.{only-step, only-routine, step-only}
 use Rattle.callgraph.proofs.RoutineSets.{member-true, true-member}
 
 -- ---- the same the other way round

@@ -7,7 +7,7 @@ use mathlib.Core.List.{List}
 use Rattle.program.specs.declared.sizes.Sizes.{Sizes}
 use Rattle.program.specs.Program.{Program}
 use Rattle.callgraph.specs.Components.{CallEdge, memberOf, Member}
-use Rattle.components.specs.Passes.{edgesOf, ExitOf}
+use Rattle.passes.specs.Passes.{edgesOf, ExitOf}
 use Rattle.roots.specs.Roots.{RootOf}
 
 -- two passes over the same routines, of any two programs and sheets, in any two sizes, that are given the same

@@ -1,3 +1,4 @@
 pub mod NumbersSought
 pub mod ListsChained
 pub mod EdgesIndexed
+pub mod RoutinePart

@@ -1,5 +1,7 @@
 // An index of a table of edges: the edges from one node, and those that call one routine, each as a chained list in
-// the order of the table. Whoever asks for these goes over no other edge.
+// the order of the table. Whoever asks for these goes over no other edge. The edges of one routine are a part of the
+// table, and it is found by where it begins.
+pub mod part;
 pub mod sizes;
 
 use program::edges::called_by;

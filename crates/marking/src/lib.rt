@@ -1,12 +1,8 @@
-// What one iteration marks and sets pending. Here configurations are marked, and marked ones are set pending again.
-// What is pending is a bit for each configuration, in words. Each function returns a number below which nothing is
-// pending, if there was nothing below the one it was given. None asks for the length of the marks: a number past them
-// marks nothing. A base is a configuration's number: hence each `requires`.
-mod follow;
-pub mod take;
-
+// Configurations are marked, and marked ones are set pending again. What is pending is a bit for each configuration,
+// in words. Each function returns a number below which nothing is pending, if there was nothing below the one it was
+// given. None asks for the length of the marks: a number past them marks nothing. A base is a configuration's number:
+// hence each `requires`.
 use words::set_at;
-ghost use mathlib.Core.Path.{_≡_};
 ghost use Prim.Native.Nat.{_<_, _≤_};
 ghost use Rattle.reach.specs.Configurations.{byteNumbers};
 ghost use Rattle.reach.specs.Worklist.{mark as marked, wake as woken};
@@ -44,7 +40,7 @@ pub fn mark(marks: &mut [u8], pending: &mut [u64], at: usize, low: usize) -> usi
 }
 
 // The lowest state of a set that is not empty.
-fn lowest_state(set: u64) -> usize
+pub fn lowest_state(set: u64) -> usize
     ensures { λ s. ⌜ LowestOf set s ⌝ }
 {
     u64::trailing_zeros(set) as usize
@@ -52,7 +48,7 @@ fn lowest_state(set: u64) -> usize
 
 // Marks base + s for each state s of a set, the lowest of what is left of it each time. A set has no other bits, but
 // the table could be any: past the states nothing is marked.
-fn mark_each(
+pub fn mark_each(
     states: u8,
     set: u16,
     marks: &mut [u8],
@@ -96,7 +92,7 @@ fn wake(marks: &[u8], pending: &mut [u64], at: usize, low: usize) -> usize
 }
 
 // Wakes what has the same node and state as the base, whatever its root.
-fn wake_roots(states: u8, marks: &[u8], pending: &mut [u64], base: usize, low: usize) -> usize
+pub fn wake_roots(states: u8, marks: &[u8], pending: &mut [u64], base: usize, low: usize) -> usize
     requires { ⌜ base < byteNumbers ⌝ }
     ensures { λ r. ⌜ Becomes (each (wakeAt states base) states 0)
         (now (marks .entry)) (now (pending .entry)) (now (marks .entry)) (now (pending .exit))

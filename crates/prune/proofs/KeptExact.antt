@@ -29,9 +29,10 @@ use Rattle.base.proofs.SetFlags.{set-on, on-set, set-inv, set-bits, zeros, set-
 use Rattle.reach.proofs.MarksCopied.{cleared-is, copied-is}
 use Rattle.reach.proofs.MarksShown.{shows-marked}
 use Rattle.prune.specs.Pruning.{Kept}
-use Rattle.prune.specs.Parts.{supports, keepsAt, Keeps, same, more, Settled, Tables, Sound, Started}
+use Rattle.support.specs.Parts.{supports, Tables}
+use Rattle.prune.specs.Parts.{keepsAt, Keeps, same, more, Settled, Sound, Started}
 use Rattle.prune.proofs.PassesKeep.{keeps-on}
-use Rattle.prune.proofs.SupportFound.{Supported, by-edge, as-called, as-returned, supports-sound, supports-found}
+use Rattle.support.proofs.SupportFound.{Supported, by-edge, as-called, as-returned, supports-sound, supports-found}
 use Rattle.program.specs.declared.sizes.Sizes.{Sizes}
 use Rattle.reach.specs.Configurations.{Usable}
 use Rattle.reach.specs.Ranged.{Sized}

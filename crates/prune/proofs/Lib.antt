@@ -1,9 +1,4 @@
-pub mod SearchesAsk
-pub mod EdgeScanned
-pub mod PartSearched
 pub mod PassesKeep
-pub mod CallsFound
-pub mod SupportFound
 pub mod KeptExact
 pub mod PruneAnswers
 pub mod Theorems

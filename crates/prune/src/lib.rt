@@ -1,12 +1,11 @@
 // The keeping: of the marks of a sheet those stay that have support back to a start through marked configurations. The
 // marks and what is kept of them have a byte for each configuration: hence each `requires` about their lengths.
-mod support;
-
 use automaton::flags::initial_flags;
 use automaton::next::next_states;
 use automaton::sizes::MAX_STATES;
 use base::flags::clear;
 use checks::checked_program;
+use index::part::first_of;
 use program::DecodedProgram;
 use program::Length;
 use program::Verdict;
@@ -20,7 +19,6 @@ use reach::configuration::parts_of;
 use reach::spans::routine_span;
 use support::has_support;
 use tables::in_use;
-use worklist::part::first_of;
 ghost use mathlib.Core.Path.{_≡_};
 ghost use mathlib.Core.Bool.{cond, _&&_};
 ghost use mathlib.Core.List.{map};
@@ -42,7 +40,8 @@ ghost use Rattle.reach.specs.Ranged.{Sized};
 ghost use Rattle.reach.specs.Marks.{Shows};
 ghost use Rattle.analysis.specs.Answers.{checkedMarks, workAfter};
 ghost use Rattle.prune.specs.Pruning.{Kept, Pruned};
-ghost use Rattle.prune.specs.Parts.{keepsAt, PartOf, Passed, Settled, Sound, Started};
+ghost use Rattle.prune.specs.Parts.{keepsAt, Passed, Settled, Sound, Started};
+ghost use Rattle.support.specs.Parts.{PartOf};
 
 // Keeps a configuration that is marked, where the flag says so.
 fn keep_when(yes: bool, marks: &[u8], kept: &mut [u8], at: usize)

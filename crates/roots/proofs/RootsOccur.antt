@@ -36,7 +36,7 @@ use Rattle.reach.proofs.Numbers.{number-fits, routine-of, root-of, root-place-f
 use Rattle.reach.proofs.Labels.{step-event}
 use Rattle.reach.proofs.ProgramInSizes.{after-small}
 use Rattle.base.specs.Filled.{Filled}
-use Rattle.worklist.proofs.AnalysisBegun.{take-min}
+use Rattle.base.proofs.EntriesInUse.{in-use-all}
 use Rattle.base.proofs.BytesFilled.{filled-bits}
 use Rattle.callgraph.proofs.FlagsClosed.{Obeys, Copy, One, obeys-set, obeys-copy, obeys-when, obeys-turns, Growing, growing-start}
 use Rattle.callgraph.proofs.ComponentsFromFlags.{bit-small}
@@ -78,7 +78,7 @@ started d k w room z =
       list = d .automaton .initial .list;
       used = min (d .automaton .initial .count) maxStates;
       fits = omega (arith, room);
-      initial = sym (rw room at (take-min (d .automaton .initial .count) (d .automaton .initial .list)));
+      initial = sym (rw room at (in-use-all (d .automaton .initial .count) (d .automaton .initial .list)));
       start = z;
     }
 

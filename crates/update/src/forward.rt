@@ -4,6 +4,8 @@
 // changes that come here were not refused (12 to 16, 21), the buffers have their lengths (9 and 11), and but for a drop
 // the marks must be the program's own (17): hence each `requires`.
 use base::flags::clear;
+use closure::grow::follow_added;
+use closure::grow::follow_routine;
 use edit::Edit;
 use edit::Step;
 use edit::apply::relabelled;
@@ -15,8 +17,6 @@ use exchange::apply::without_routine;
 use program::DecodedProgram;
 use program::sizes::Sizes;
 use prune::prune_program;
-use worklist::grow::follow_added;
-use worklist::grow::follow_routine;
 ghost use mathlib.Core.Path.{_≡_};
 ghost use lib.ListN.{length};
 ghost use Rattle.program.specs.Chosen.{sizesOf, numbers};

@@ -1,7 +1,7 @@
 -- The start of the analysis.
-use Prim.Native.Nat.{ℕ, zero, suc, min, _+_, _*_, _≤_}
+use Prim.Native.Nat.{ℕ, zero, suc, _+_, _*_, _≤_}
 use mathlib.Core.Path.{_≡_, refl, sym, ap, subst, _∙_}
-use mathlib.Core.List.{List, [], _∷_}
+use mathlib.Core.List.{List, _∷_}
 use native.Mathlib.Omega.{arith}
 use lib.ListN.{length, getD, take, drop, replicate, length-replicate}
 use lib.Seq.{drop-cons}
@@ -22,14 +22,6 @@ use Rattle.reach.specs.Configurations.{Usable}
 pub none-yet : (w : List ℕ) → NoneBelow (flagsOf w) 0
 none-yet w = record { none-below = λ j h. absurd (omega arith) }
 
--- a count above the length means all
-pub take-min : (n : ℕ) (l : List ℕ) → take (min n (length l)) l ≡ take n l
-take-min zero l = let e : min zero (length l) ≡ 0 = omega arith in rw e
-take-min (suc n) [] = let e : min (suc n) zero ≡ 0 = omega arith in rw e
-take-min (suc n) (x ∷ l) =
-    let e : min (suc n) (suc (length l)) ≡ suc (min n (length l)) = omega arith in
-    rw e (ap (λ (t : List ℕ). x ∷ t) (take-min n l))
-
 -- the first of many zeros
 take-replicate : (n m : ℕ) → n ≤ m → take {A = ℕ} n (replicate m 0) ≡ replicate n 0
 take-replicate zero m h = refl
@@ -49,9 +41,9 @@ module _ (Z : Sizes) where
 
   -- nothing is pending in words that are 0, and no summary is known
   module _ (U : Usable Z) (A : Admitted Z) where
-    cleared-is : worklist Z (none-set Z) (replicate pendingWords 0) (replicate knownWords 0) 0 ≡ blank Z
+    blank-is : worklist Z (none-set Z) (replicate pendingWords 0) (replicate knownWords 0) 0 ≡ blank Z
     unfolding none-set
-    cleared-is =
+    blank-is =
         rw (
           no-flags pendingWords,
           no-flags knownWords,
@@ -63,7 +55,7 @@ module _ (Z : Sizes) where
     -- from the opened worklist so many iterations give what they give in the analysis
     module _ (p : Program) (m w : List ℕ) (b : Becomes (opened Z (p .automaton .initial)) (none-set Z) (replicate pendingWords 0) m w) where
       start-is : worklist Z m w (replicate knownWords 0) 0 ≡ opened Z (p .automaton .initial) (blank Z)
-      start-is = b .becomes (take (summaries Z) (flagsOf (replicate knownWords 0))) 0 ∙ ap (opened Z (p .automaton .initial)) cleared-is
+      start-is = b .becomes (take (summaries Z) (flagsOf (replicate knownWords 0))) 0 ∙ ap (opened Z (p .automaton .initial)) blank-is
 
       pub start-shape : Shape Z (worklist Z m w (replicate knownWords 0) 0)
       start-shape = subst (Shape Z) (sym start-is) (opened-shape Z U (p .automaton .initial))

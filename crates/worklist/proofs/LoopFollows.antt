@@ -15,7 +15,8 @@ use Rattle.reach.specs.Marks.{within}
 use Rattle.reach.proofs.LoopRuns.{Running, running-from, running-end, running-spent, running-turn}
 use Rattle.words.specs.Words.{flagsOf, FirstFlag}
 use Rattle.words.proofs.FlagsAsked.{flags-length}
-use Rattle.marking.specs.Parts.{worklist, Tables}
+use Rattle.marking.specs.Parts.{worklist}
+use Rattle.iteration.specs.Parts.{Tables}
 use Rattle.worklist.specs.Parts.{followed, Begun}
 use Rattle.worklist.proofs.LowestFound.{first-lowest}
 use Rattle.program.specs.declared.sizes.Sizes.{Sizes}

@@ -1,6 +1,3 @@
-// The loop over what is pending: the full analysis of a decoded program, and what follows from marks that are there.
-pub mod exits;
-pub mod grow;
-pub mod part;
-mod pending;
+// The loop over what is pending, lowest number first, and the full analysis of a decoded program by it.
+pub mod pending;
 pub mod run;

@@ -1,7 +1,7 @@
 // What is pending is followed, lowest number first, until nothing is or a limit is reached.
 use automaton::next::next_states;
 use index::index_of;
-use marking::take::take;
+use iteration::take;
 use program::DecodedProgram;
 use program::sizes::MAX_EDGES;
 use program::sizes::Sizes;

@@ -1,8 +1,8 @@
 -- `prune::keep_routine` meets its contract: the part of the table that is handed on has the edges of routine `f`.
 use native.Mathlib.Omega.{arith}
 use borrow.Author.Needs.{needs}
-use Rattle.worklist.proofs.RoutinePart.{part-starts}
-use Rattle.prune.proofs.PartSearched.{its-part}
+use Rattle.index.proofs.RoutinePart.{part-starts}
+use Rattle.support.proofs.PartSearched.{its-part}
 use Rattle.prune.proofs.keep_routine.Statement.{statement}
 use Rattle.prune.proofs.keep_routine.Tie as tie
 

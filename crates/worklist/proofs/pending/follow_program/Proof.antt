@@ -3,7 +3,7 @@ use Rattle.program.specs.Sizes.{maxEdges}
 use Rattle.program.specs.Decoded.{programOf}
 use Rattle.program.proofs.ProgramRanged.{ranged}
 use Rattle.worklist.specs.Parts.{Begun}
-use Rattle.worklist.proofs.RoutinePart.{table-edges}
+use Rattle.index.proofs.RoutinePart.{table-edges}
 use Rattle.worklist.proofs.AnalysisBegun.{none-yet}
 use lib.ListN.{length, take}
 use lib.Seq.{length-take-le}

@@ -3,7 +3,8 @@ use Rattle.automaton.specs.Sizes.{maxStates}
 use Rattle.reach.specs.Configurations.{number}
 use Rattle.reach.specs.Worklist.{mark as marked}
 use Rattle.marking.proofs.StepsMark.{Looping, loop-start, loop-turn, loop-end}
-use Rattle.worklist.proofs.AnalysisBegun.{all-opened, take-min}
+use Rattle.base.proofs.EntriesInUse.{in-use-all}
+use Rattle.worklist.proofs.AnalysisBegun.{all-opened}
 use lib.ListN.{length, getD}
 use native.Mathlib.Omega.{arith}
 use mathlib.Core.Path.{_≡_, sym, _∙_}
@@ -55,7 +56,7 @@ returns c =
     let list = start p .args .initial .list in
     let n = start p .args .initial .count in
     let u = p .before .in-use .ensures in
-    rw (rw r at (take-min n list)) at (all-opened (start p .args .z) list (min n maxStates) (omega arith) (rw u at (loop-end (p .loop .inv) (omega arith) .0)))
+    rw (rw r at (in-use-all n list)) at (all-opened (start p .args .z) list (min n maxStates) (omega arith) (rw u at (loop-end (p .loop .inv) (omega arith) .0)))
 
 pub open-initial-spec : {M : Type 1} → statement M
 open-initial-spec =

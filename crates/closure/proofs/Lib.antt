@@ -1,0 +1,3 @@
+pub mod FlagsSet
+pub mod SummariesKnown
+pub mod PartAwaited

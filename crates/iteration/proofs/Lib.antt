@@ -1,0 +1,2 @@
+pub mod StepsOfProcedure
+pub mod TakingOfProcedure

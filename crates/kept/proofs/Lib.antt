@@ -1,0 +1,2 @@
+pub mod SearchesAsk
+pub mod CallsFound

@@ -1,0 +1,4 @@
+pub mod EdgesOfRoutines
+pub mod RoutinePartOfTable
+pub mod RoundsClose
+pub mod PassDerives

@@ -1,0 +1,4 @@
+pub mod KeysAsked
+pub mod EdgeScanned
+pub mod PartSearched
+pub mod SupportFound
