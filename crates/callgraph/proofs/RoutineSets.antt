@@ -31,9 +31,12 @@ member-dec members f = elim (ℕ-discrete (getD members f 0) 0) [ yes e ↦ no (
 pub member-small : (members : List ℕ) (f : ℕ) → length members ≡ maxRoutines → Member members f → f < maxRoutines
 member-small members f e m = let z = on-lt members f (record { on = m }) in omega arith
 
-pub joined-members : {a b c : List ℕ} → length a ≡ maxRoutines → Filled (joinedFlag a b) maxRoutines c → Joined a b c
-joined-members {a} {b} {c} len w = record { len = w .len ∙ sym len; joined = λ f h. go f (eqb (getD b f 0) 0) refl (w .byte f h) }
+pub joined-member : (a b : List ℕ) {c : List ℕ} → Filled (joinedFlag a b) maxRoutines c → (f : ℕ) → f < maxRoutines → Member c f ↔ (Member a f ⊎ Member b f)
+joined-member a b {c} w f h = go (eqb (getD b f 0) 0) refl (w .byte f h)
   where
-    go : (f : ℕ) (t : Bool) → eqb (getD b f 0) 0 ≡ t → getD c f 0 ≡ cond t (getD a f 0) 1 → Member c f ↔ (Member a f ⊎ Member b f)
-    go f true t e = (λ m. inl (rw e at m), λ m. elim m [ inl x ↦ rw e x | inr x ↦ absurd (x (eqb-true (getD b f 0) 0 t)) ])
-    go f false t e = (λ m. inr (eqb-false (getD b f 0) 0 t), λ m z. omega arith)
+    go : (t : Bool) → eqb (getD b f 0) 0 ≡ t → getD c f 0 ≡ cond t (getD a f 0) 1 → Member c f ↔ (Member a f ⊎ Member b f)
+    go true t e = (λ m. inl (rw e at m), λ m. elim m [ inl x ↦ rw e x | inr x ↦ absurd (x (eqb-true (getD b f 0) 0 t)) ])
+    go false t e = (λ m. inr (eqb-false (getD b f 0) 0 t), λ m z. omega arith)
+
+pub joined-members : {a b c : List ℕ} → length a ≡ maxRoutines → Filled (joinedFlag a b) maxRoutines c → Joined a b c
+joined-members {a} {b} len w = record { len = w .len ∙ sym len; joined = joined-member a b w }

@@ -23,7 +23,7 @@ use Rattle.edit.specs.declared.Label.the-variants as label
 use Rattle.edit.specs.declared.Edit.the-variants.{Add, Drop, Replace}
 use Rattle.exchange.specs.Changes.{step, whole as whole-routine}
 use Rattle.exchange.specs.Changing.{others, insertedAll, emptied, exchangedProgram}
-use Rattle.update.specs.Reanalyzed.{ReanalyzedBy}
+use Rattle.inside_out.specs.Reanalyzed.{ReanalyzedBy}
 use Rattle.demands.specs.Cases.{P5, P6, R1}
 
 -- ---- the programs

@@ -14,7 +14,7 @@ use Rattle.exchange.specs.Changes.{Change}
 use Rattle.exchange.specs.Changing.{changedProgram, changedRoutine}
 use Rattle.exchange.specs.Wanted.{ChangeApplies}
 use Rattle.demands.specs.Lists.{KeepsRoutine}
-use Rattle.update.proofs.ExchangedSteps.{changed-other, other-changed, changed-automaton}
+use Rattle.forward.proofs.ExchangedSteps.{changed-other, other-changed, changed-automaton}
 
 occurring : {p : Program} {f g s : ℕ} → Calls p (Reachable p) f g s → Calls p (Occurs p) f g s
 occurring c = record { node = c .node; root = c .root; state = c .state; target = c .target; holds = occurs-iff .1 (c .holds); calls = c .calls; moves = c .moves }

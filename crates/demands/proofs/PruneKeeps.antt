@@ -33,8 +33,8 @@ use Rattle.exchange.specs.Changes.{Change, step, EditLine}
 use Rattle.exchange.specs.Changes as change
 use Rattle.exchange.specs.Changing.{changedProgram}
 use Rattle.exchangetext.specs.Wanted.{ofEdit}
-use Rattle.update.proofs.EditedSteps.{drop-within, drop-initial}
-use Rattle.update.proofs.ChangedMarks.{edited-sizes}
+use Rattle.forward.proofs.EditedSteps.{drop-within, drop-initial}
+use Rattle.forward.proofs.ChangedMarks.{edited-sizes}
 use Rattle.repair.specs.Repairs.{repairedTo}
 use Rattle.desk.specs.Entries.{prune, repair-forward, Lent, Back, programIn, Gives}
 use Rattle.demands.specs.Demands.{keepingOf}

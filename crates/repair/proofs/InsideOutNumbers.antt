@@ -26,8 +26,8 @@ use Rattle.edit.specs.declared.EditRead.{EditRead}
 use Rattle.edit.specs.declared.EditRead.the-variants as edit
 use Rattle.exchangetext.specs.Wanted.{ofEdit, wantedChange}
 use Rattle.exchangetext.proofs.Theorems.{change-number}
-use Rattle.update.specs.Reanalyzed.{ReanalyzedBy}
-use Rattle.update.specs.Parts.{FlagsOf, Told}
+use Rattle.gained.specs.Parts.{FlagsOf}
+use Rattle.inside_out.specs.Reanalyzed.{ReanalyzedBy, Told}
 use Rattle.repair.specs.Repairs.{InsideOutNumber}
 
 -- the bits of what the inside-out repair tells

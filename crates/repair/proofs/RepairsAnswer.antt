@@ -32,8 +32,8 @@ use Rattle.edit.proofs.Theorems.{applied-well-formed}
 use Rattle.exchange.specs.Changes.{step, Form, EditLine}
 use Rattle.exchange.specs.Lengths.{workFirst}
 use Rattle.exchangetext.specs.Wanted.{ofEdit, wantedChange}
-use Rattle.update.proofs.ChangedMarks.{edited-sizes}
-use Rattle.update.specs.Parts.{Repaired}
+use Rattle.forward.proofs.ChangedMarks.{edited-sizes}
+use Rattle.forward.specs.Parts.{Repaired}
 use Rattle.repair.specs.Repairs.{After, afterwards, zeroed, ownedBy, changedBy, wantedBy, repairedBy, repaired}
 
 -- ---- the marks

@@ -22,7 +22,7 @@ use Rattle.exchange.specs.Changes.{Change, step, whole, ChangeRead, Read, Refus
 use Rattle.exchange.specs.Changing.{changedProgram}
 use Rattle.exchange.specs.Lengths.{workFirst, measuredRows}
 use Rattle.exchangetext.specs.Wanted.{wantedChange}
-use Rattle.update.specs.Reanalyzed.{ReanalyzedBy}
+use Rattle.inside_out.specs.Reanalyzed.{ReanalyzedBy}
 use Rattle.repair.specs.declared.RepairAnswer.{RepairAnswer}
 use Rattle.repair.specs.declared.RepairAnswer.the-variants as repair
 

@@ -17,11 +17,11 @@ use Rattle.resize.proofs.MarksResized.{resized-fresh}
 use Rattle.exchange.specs.Changes.{Exchange}
 use Rattle.exchange.specs.Changing.{emptied, exchangedProgram}
 use Rattle.exchange.proofs.Theorems.{exchanged-well-formed}
-use Rattle.update.specs.Parts.{Repaired}
+use Rattle.forward.specs.Parts.{Repaired}
 use Rattle.stages.specs.Parts.{Exchanges, Exchanged}
-use Rattle.update.proofs.ChangedMarks.{own-sized}
-use Rattle.update.proofs.ExchangedSteps.{in-inserted-all}
-use Rattle.update.proofs.ExchangedMarks.{emptied-sized}
+use Rattle.forward.proofs.ChangedMarks.{own-sized}
+use Rattle.forward.proofs.ExchangedSteps.{in-inserted-all}
+use Rattle.forward.proofs.ExchangedMarks.{emptied-sized}
 
 -- every step that is left is one of the exchanged program
 left-step : (x : Exchange) (p : Program) {f n m : ℕ} {l : Event} → HasStep (emptied (x .routine) p) f n l m → HasStep (exchangedProgram x p) f n l m

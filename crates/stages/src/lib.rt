@@ -3,20 +3,20 @@
 // all new edges are added. The old marks are lent for reading. The exchanges that come here were not refused (12, 13,
 // 16, 21, 23), the marks are the program's own (17), and the buffers have their lengths (9 and 11): hence each
 // `requires`.
+use additions::Reworked;
+use additions::add_routine_inside_out;
 use base::flags::clear;
 use callgraph::routines::Routines;
+use callgraph::routines::join;
 use exchange::DecodedExchange;
+use forward::add_routine;
+use forward::drop_routine;
+use inside_out::drop_routine_inside_out;
 use program::DecodedProgram;
 use program::sizes::MARKS_MOST;
 use program::sizes::MAX_ROUTINES;
 use program::sizes::Sizes;
 use resize::resize;
-use update::Reworked;
-use update::forward::add_routine;
-use update::forward::drop_routine;
-use update::inside_out::add_routine_inside_out;
-use update::inside_out::drop_routine_inside_out;
-use update::inside_out::either;
 ghost use mathlib.Core.Path.{_≡_};
 ghost use Prim.Native.Nat.{_≤_};
 ghost use lib.ListN.{length, replicate};
@@ -28,8 +28,8 @@ ghost use Rattle.exchange.specs.Changing.{emptied, exchangedProgram};
 ghost use Rattle.exchange.specs.Decoded.{exchangeOf};
 ghost use Rattle.reach.specs.Marks.{freshAt};
 ghost use Rattle.callgraph.specs.Components.{Reanalyzed, Gained};
-ghost use Rattle.update.specs.Parts.{FlagsOf, Told};
-ghost use Rattle.update.specs.Reanalyzed.{ReanalyzedBy};
+ghost use Rattle.gained.specs.Parts.{FlagsOf};
+ghost use Rattle.inside_out.specs.Reanalyzed.{ReanalyzedBy, Told};
 ghost use Rattle.stages.specs.Parts.{Exchanges, Buffers, Exchanged};
 
 // The edges of routine f are dropped forward, on a copy of the marks.
@@ -157,7 +157,7 @@ fn exchange_beside_inside_out(
 {
     let dropped = drop_copied_inside_out(z, p, x.routine, marks, own, work);
     let added = add_resized_inside_out(z, y, p, x, own, second, work);
-    let routines = either(dropped, added.routines);
+    let routines = join(dropped, added.routines);
     let program = added.program;
     Reworked { program, routines }
 }

@@ -1,6 +1,1 @@
-pub mod EditedSteps
-pub mod ExchangedSteps
-pub mod ChangedMarks
-pub mod EditedMarks
-pub mod ExchangedMarks
-pub mod InsideOutMarks
+pub mod OwnMended

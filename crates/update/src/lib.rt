@@ -1,9 +1,5 @@
 // The marks after an edit: those of the program before it become those of the edited program, forward or inside-out.
-// Beside it the two halves of an exchange, which the crate `stages` puts together: all edges of a routine dropped, and
-// all new ones added.
-pub mod forward;
-pub mod inside_out;
-
+use additions::Reworked;
 use callgraph::routines::Routines;
 use edit::Edit;
 use forward::repair_edit;
@@ -16,21 +12,16 @@ ghost use lib.ListN.{length};
 ghost use Rattle.program.specs.Chosen.{sizesOf, numbers};
 ghost use Rattle.program.specs.WellFormed.{WellFormed};
 ghost use Rattle.program.specs.Decoded.{programOf};
-ghost use Rattle.edit.specs.Editing.{editedProgram, Applies};
+ghost use Rattle.edit.specs.Editing.{Applies};
 ghost use Rattle.exchange.specs.Changes.{step};
-ghost use Rattle.reach.specs.Marks.{freshAt};
-ghost use Rattle.update.specs.Parts.{Repaired, FlagsOf, Told};
-ghost use Rattle.update.specs.Reanalyzed.{ReanalyzedBy};
-
-// The changed program, and the routines that are told as reanalyzed.
-pub struct Reworked {
-    pub program: DecodedProgram,
-    pub routines: Routines,
-}
+ghost use Rattle.gained.specs.Parts.{FlagsOf};
+ghost use Rattle.inside_out.specs.Reanalyzed.{ReanalyzedBy, Told};
+ghost use Rattle.update.specs.Parts.{Lent, Mended};
 
 // The marks are repaired in the way that is asked for: inside-out, which tells the reanalyzed routines, or forward,
-// which tells none. The caller has refused edits that do not apply (12 to 16) and marks that are not the
-// program's own (17), and has measured the buffers (9 and 11): hence the `requires`.
+// which tells none. The caller has refused edits that do not apply (12 to 16) and has measured the buffers (9 and 11);
+// but for a forward drop, which keeps of whatever marks are lent, it has refused marks that are not the program's own
+// (17): hence the `requires`.
 pub fn mend(
     inward: bool,
     z: Sizes,
@@ -40,8 +31,8 @@ pub fn mend(
     work: &mut [u8],
 ) -> Reworked
     requires { ⌜ WellFormed (programOf p) × Applies e (programOf p) × (z ≡ sizesOf (programOf p)) ⌝ }
-    requires { ⌜ (now marks ≡ freshAt z (programOf p)) × (length (now work) ≡ numbers z) ⌝ }
-    ensures { λ r. ⌜ Repaired z (editedProgram e (programOf p)) (programOf (r .program)) (now (marks .exit))
+    requires { ⌜ Lent inward e z (programOf p) (now marks) × (length (now work) ≡ numbers z) ⌝ }
+    ensures { λ r. ⌜ Mended inward e z (programOf p) (programOf (r .program)) (now (marks .entry)) (now (marks .exit))
         (now (work .exit))
         × FlagsOf (Told inward (ReanalyzedBy (step e) (programOf p))) (r .routines .flags) ⌝ }
 {

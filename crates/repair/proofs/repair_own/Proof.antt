@@ -1,7 +1,7 @@
 use Rattle.repair.proofs.RepairsAnswer.{own-answer, foreign-answer, room}
 use Rattle.repair.proofs.InsideOutNumbers.{number-foreign, bits-told}
 use Rattle.reach.proofs.ShapeKept.{none-length}
-use Rattle.update.proofs.ChangedMarks.{own-sized}
+use Rattle.forward.proofs.ChangedMarks.{own-sized}
 use Rattle.analysis.proofs.AnswersByChecks.{accepted-own}
 use Rattle.program.specs.Decoded.{programOf}
 use Rattle.exchange.specs.Changes.{step}

@@ -1,7 +1,7 @@
 -- `stages::drop_copied` meets its contract.
-use Rattle.update.proofs.ExchangedMarks.{routine-dropped}
-use Rattle.update.proofs.InsideOutMarks.{copied-fresh}
-use Rattle.update.proofs.ChangedMarks.{own-sized}
+use Rattle.forward.proofs.ExchangedMarks.{routine-dropped}
+use Rattle.additions.proofs.MarksGained.{copied-fresh}
+use Rattle.forward.proofs.ChangedMarks.{own-sized}
 use Rattle.stages.proofs.ExchangeStages.{part-room}
 use Rattle.program.specs.Chosen.{numbers}
 use Rattle.program.specs.Decoded.{programOf}

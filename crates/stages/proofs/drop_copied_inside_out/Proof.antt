@@ -1,6 +1,6 @@
 -- `stages::drop_copied_inside_out` meets its contract.
-use Rattle.update.proofs.InsideOutMarks.{copied-fresh}
-use Rattle.update.proofs.ChangedMarks.{own-sized}
+use Rattle.additions.proofs.MarksGained.{copied-fresh}
+use Rattle.forward.proofs.ChangedMarks.{own-sized}
 use Rattle.stages.proofs.ExchangeStages.{part-room}
 use Rattle.program.specs.Chosen.{numbers}
 use Rattle.program.specs.Decoded.{programOf}

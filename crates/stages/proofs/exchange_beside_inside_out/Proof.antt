@@ -1,5 +1,5 @@
 -- `stages::exchange_beside_inside_out` meets its contract.
-use Rattle.update.proofs.InsideOutMarks.{exchanged-flags}
+use Rattle.inside_out.proofs.InsideOutMarks.{exchanged-flags}
 use Rattle.exchange.specs.Decoded.{exchangeOf}
 use Rattle.program.specs.Decoded.{programOf}
 use native.Mathlib.Omega.{arith}
@@ -22,7 +22,7 @@ returns : tie.Need-returns
 returns c =
     let s = c .before .before .before .before .before .before .before .before .before .before .before .before .before .before .before .before .before .before .before .before .before in
     let r = c .before .before .before .before .before .before .add-resized-inside-out .ensures in
-    (r .0, exchanged-flags (exchangeOf (s .args .x)) (programOf (s .args .p)) (c .before .before .before .before .before .before .before .before .before .before .before .before .before .before .drop-copied-inside-out .ensures .1) (r .1) (c .before .either .ensures))
+    (r .0, exchanged-flags (exchangeOf (s .args .x)) (programOf (s .args .p)) (c .before .before .before .before .before .before .before .before .before .before .before .before .before .before .drop-copied-inside-out .ensures .1) (r .1) (c .before .join .ensures))
 
 pub exchange-beside-inside-out-spec : {M : Type 1} → statement M
 exchange-beside-inside-out-spec =

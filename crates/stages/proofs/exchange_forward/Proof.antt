@@ -1,6 +1,6 @@
 -- `stages::exchange_forward` meets its contract.
-use Rattle.update.proofs.InsideOutMarks.{copy-room}
-use Rattle.update.proofs.ChangedMarks.{own-sized}
+use Rattle.additions.proofs.MarksGained.{copy-room}
+use Rattle.forward.proofs.ChangedMarks.{own-sized}
 use Rattle.program.specs.Sizes.{marksMost}
 use Rattle.program.specs.Chosen.{numbers}
 use Rattle.program.specs.Decoded.{programOf}

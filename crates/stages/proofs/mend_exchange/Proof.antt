@@ -1,5 +1,5 @@
 -- `stages::mend_exchange` meets its contract.
-use Rattle.update.proofs.InsideOutMarks.{told, none-told}
+use Rattle.inside_out.proofs.InsideOutMarks.{told, none-told}
 use borrow.Author.Needs.{needs}
 use Rattle.stages.proofs.mend_exchange.Statement.{statement}
 use Rattle.stages.proofs.mend_exchange.Tie as tie

@@ -1,0 +1,5 @@
+pub mod EditedSteps
+pub mod ExchangedSteps
+pub mod ChangedMarks
+pub mod EditedMarks
+pub mod ExchangedMarks
