@@ -2,7 +2,7 @@
 use mathlib.Core.Path.{_≡_, refl, sym, ap, _∙_}
 use mathlib.Core.List.{List, _++_}
 use Prim.Native.Nat.{ℕ, _≤_}
-use lib.ListN.{length, take, replicate, length-replicate}
+use lib.ListN.{length, take, drop, replicate, length-replicate}
 use lib.Seq.{length-take-le}
 use Rattle.base.specs.Filled.{Filled}
 use Rattle.automaton.specs.declared.Event.{Event}
@@ -11,7 +11,9 @@ use Rattle.program.specs.Chosen.{sizesOf, numbers}
 use Rattle.program.specs.Program.{Program}
 use Rattle.reach.specs.Runs.{stepOf, HasStep}
 use Rattle.reach.specs.Ranged.{Ranged, Sized}
-use Rattle.reach.specs.Marks.{freshAt}
+use Rattle.reach.specs.Marks.{Shows, freshAt}
+use Rattle.reach.proofs.MarksCopied.{copied-is}
+use Rattle.prune.specs.Pruning.{Kept}
 use Rattle.resize.specs.Resized.{Alike, renumbered}
 use Rattle.resize.proofs.MarksResized.{resized-fresh}
 use Rattle.exchange.specs.Changes.{Exchange}
@@ -81,3 +83,8 @@ zero-throughout n e = e ∙ ap (λ (k : ℕ). replicate k 0) (sym (ap length e �
 -- of the working buffer so much is lent
 pub part-room : (n : ℕ) (work : List ℕ) → n ≤ length work → n ≡ length (take n work)
 part-room n work h = sym (length-take-le {A = ℕ} n work h)
+
+-- what is kept of a copy is what is kept of the marks
+pub kept-of-copy : {Z : Sizes} (p : Program) (marks room : List ℕ) → length marks ≡ length room
+    → (copy new : List ℕ) → copy ≡ take (length marks) marks ++ drop (length marks) room → Shows Z (Kept Z p copy) new → Shows Z (Kept Z p marks) new
+kept-of-copy p marks room h copy new e k = rw (copied-is marks room e h) at k

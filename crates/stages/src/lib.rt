@@ -26,25 +26,27 @@ ghost use Rattle.program.specs.Decoded.{programOf};
 ghost use Rattle.exchange.specs.Changes.{whole};
 ghost use Rattle.exchange.specs.Changing.{emptied, exchangedProgram};
 ghost use Rattle.exchange.specs.Decoded.{exchangeOf};
-ghost use Rattle.reach.specs.Marks.{freshAt};
+ghost use Rattle.reach.specs.Marks.{Shows, freshAt};
+ghost use Rattle.prune.specs.Pruning.{Kept};
 ghost use Rattle.callgraph.specs.Components.{Reanalyzed, Gained};
 ghost use Rattle.gained.specs.Parts.{FlagsOf};
 ghost use Rattle.inside_out.specs.Reanalyzed.{ReanalyzedBy, Told};
 ghost use Rattle.stages.specs.Parts.{Exchanges, Buffers, Exchanged};
 
-// The edges of routine f are dropped forward, on a copy of the marks.
-fn drop_copied(z: Sizes, p: DecodedProgram, f: u8, marks: &[u8], own: &mut [u8], work: &mut [u8])
+// The edges of routine f are dropped forward, on a copy of the marks: what the program without them keeps of whatever
+// marks are lent, and no fresh working.
+fn drop_copied(z: Sizes, p: DecodedProgram, f: u8, marks: &[u8], kept: &mut [u8], work: &mut [u8])
     requires { ⌜ WellFormed (programOf p) × (z ≡ sizesOf (programOf p)) ⌝ }
-    requires { ⌜ (now marks ≡ freshAt z (programOf p)) × (length (now own) ≡ numbers z)
+    requires { ⌜ (length (now marks) ≡ numbers z) × (length (now kept) ≡ numbers z)
         × (numbers z ≤ length (now work)) ⌝ }
-    ensures { λ _. ⌜ now (own .exit) ≡ freshAt z (emptied f (programOf p)) ⌝ }
+    ensures { λ _. ⌜ Shows z (Kept z (emptied f (programOf p)) (now (marks .entry))) (now (kept .exit)) ⌝ }
 {
-    let size = own.len();
-    let _copied = bytes::copy(marks, own);
-    drop_routine(z, p, f, own, &mut work[..size]);
+    let size = kept.len();
+    let _copied = bytes::copy(marks, kept);
+    drop_routine(z, p, f, kept, &mut work[..size]);
 }
 
-// The same inside-out.
+// The same inside-out, where the marks are the program's own.
 fn drop_copied_inside_out(
     z: Sizes,
     p: DecodedProgram,

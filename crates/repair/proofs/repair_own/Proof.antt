@@ -2,6 +2,7 @@ use Rattle.repair.proofs.RepairsAnswer.{own-answer, foreign-answer, roo
 use Rattle.repair.proofs.InsideOutNumbers.{number-foreign, bits-told}
 use Rattle.reach.proofs.ShapeKept.{none-length}
 use Rattle.forward.proofs.ChangedMarks.{own-sized}
+use Rattle.update.proofs.OwnMended.{own-lent, mended-own}
 use Rattle.analysis.proofs.AnswersByChecks.{accepted-own}
 use Rattle.program.specs.Decoded.{programOf}
 use Rattle.exchange.specs.Changes.{step}
@@ -10,7 +11,7 @@ use Rattle.reach.specs.Marks.{freshAt}
 use Rattle.reach.specs.Configurations.{none-set}
 use Rattle.program.specs.declared.sizes.Sizes.{Sizes}
 use lib.ListN.{length}
-use mathlib.Core.Path.{ap, sym, _∙_}
+use mathlib.Core.Path.{_≡_, ap, sym, _∙_}
 use borrow.Author.Needs.{needs}
 use Rattle.repair.proofs.repair_own.Statement.{statement}
 use Rattle.repair.proofs.repair_own.Tie as tie
@@ -24,6 +25,13 @@ own t = t .before .before .before .before
 abbrev mended : tie.After-bits-of → tie.After-mend
 mended c = c .before .before .before .before .before .before .before .before .before
 
+-- the marks, once they are found to be the program's own, in its sizes
+own-marks : (t : tie.After-enum-told) {z : Sizes} → z ≡ sizesOf (programOf (start (own t) .args .p)) → start (own t) .args .marks .now ≡ freshAt z (programOf (start (own t) .args .p))
+own-marks t i =
+    let z = start (own t) in
+    let p = programOf (z .args .p) in
+    accepted-own p (z .args .marks .now) (sym (own t .check-own .ensures .0) ∙ t .enum-told .given .1) ∙ ap (λ (y : Sizes). freshAt y p) (sym i)
+
 mend-requires : tie.Need-mend-requires
 mend-requires c κs =
     let sizes = c .before .before in
@@ -34,17 +42,17 @@ mend-requires c κs =
     let i = sizes .sizes-of .ensures in
     let u = own-sized p i (z .pre .0 .0) .usable in (
       (z .pre .0 .0, z .pre .0 .1, i),
-      (
-        accepted-own p (z .args .marks .now) (sym (o .0) ∙ t .enum-told .given .1) ∙ ap (λ (y : Sizes). freshAt y p) (sym i),
-        ap length (o .1 ∙ ap none-set (sym i)) ∙ none-length _ u,
-      ),
+      (own-lent (z .args .inward) (z .args .e) p (own-marks t i) u, ap length (o .1 ∙ ap none-set (sym i)) ∙ none-length _ u),
     )
 
 write-program-requires : tie.Need-write-program-requires
 write-program-requires c κs =
     let m = mended (c .before) in
-    let z = start (own (m .before .before .before .before)) in
-    let x = room (z .args .e) (programOf (z .args .p)) (z .args .output .now) (z .pre .0 .0) (z .pre .0 .1) (m .mend .ensures .0) (z .pre .1 .1) in
+    let sizes = m .before .before .before in
+    let z = start (own (sizes .before)) in
+    let p = programOf (z .args .p) in
+    let r = mended-own (z .args .inward) (z .args .e) p (own-marks (sizes .before) (sizes .sizes-of .ensures)) _ _ _ (m .mend .ensures .0) in
+    let x = room (z .args .e) p (z .args .output .now) (z .pre .0 .0) (z .pre .0 .1) r (z .pre .1 .1) in
     (x .0 .transitions-fit, x .1)
 
 returns : tie.Need-returns
@@ -64,8 +72,9 @@ returns-2 c =
     let t = sizes .before in
     let z = start (own t) in
     let h = sym (own t .check-own .ensures .0) ∙ t .enum-told .given .1 in
-    let r = m .mend .ensures in (
-      own-answer (z .args .e) (programOf (z .args .p)) (z .args .marks .now) (z .args .output .now) (z .args .work .now) (z .pre .1 .2) (sizes .sizes-of .ensures) h (r .0) (c .before .before .write-program .ensures),
+    let r = m .mend .ensures in
+    let k = mended-own (z .args .inward) (z .args .e) (programOf (z .args .p)) (own-marks t (sizes .sizes-of .ensures)) _ _ _ (r .0) in (
+      own-answer (z .args .e) (programOf (z .args .p)) (z .args .marks .now) (z .args .output .now) (z .args .work .now) (z .pre .1 .2) (sizes .sizes-of .ensures) h k (c .before .before .write-program .ensures),
       λ i. bits-told (step (z .args .e)) (programOf (z .args .p)) i (r .1) (d .bits-of .ensures),
     )
 

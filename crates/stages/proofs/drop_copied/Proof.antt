@@ -1,33 +1,17 @@
--- `stages::drop_copied` meets its contract.
-use Rattle.forward.proofs.ExchangedMarks.{routine-dropped}
-use Rattle.additions.proofs.MarksGained.{copied-fresh}
-use Rattle.forward.proofs.ChangedMarks.{own-sized}
-use Rattle.stages.proofs.ExchangeStages.{part-room}
-use Rattle.program.specs.Chosen.{numbers}
+-- `stages::drop_copied` meets its contract. The copy is not named, so that other marks in its place are refused for what is
+-- not kept of those that were lent.
+use Rattle.stages.proofs.ExchangeStages.{part-room, kept-of-copy}
+use Rattle.exchange.specs.Changing.{emptied}
 use Rattle.program.specs.Decoded.{programOf}
-use Rattle.reach.specs.Marks.{freshAt}
-use Rattle.reach.proofs.ShapeKept.{marks-length}
-use Prim.Native.Nat.{ℕ, _≤_}
 use native.Mathlib.Omega.{arith}
-use lib.ListN.{length, take, drop}
-use mathlib.Core.List.{List, _++_}
-use mathlib.Core.Path.{_≡_, sym, ap, _∙_}
+use lib.ListN.{length, take}
+use mathlib.Core.Path.{_≡_, sym, _∙_}
 use borrow.Author.Needs.{needs}
 use Rattle.stages.proofs.drop_copied.Statement.{statement}
 use Rattle.stages.proofs.drop_copied.Tie as tie
 
-room : (s : tie.Start) → length (s .args .own .now) ≡ length (take (length (s .args .own .now)) (s .args .work .now))
+room : (s : tie.Start) → length (s .args .kept .now) ≡ length (take (length (s .args .kept .now)) (s .args .work .now))
 room s = part-room _ (s .args .work .now) (omega (arith, s .pre .1 .1, s .pre .1 .2))
-
-copied : (s : tie.Start) {copy : List ℕ} → copy ≡ take (length (s .args .marks .now)) (s .args .marks .now) ++ drop (length (s .args .marks .now)) (s .args .own .now)
-    → copy ≡ freshAt (s .args .z) (programOf (s .args .p))
-copied s e = copied-fresh (own-sized _ (s .pre .0 .1) (s .pre .0 .0) .usable) (programOf (s .args .p)) (s .args .marks .now) (s .args .own .now) (s .pre .1 .1) (s .pre .1 .0) e
-
-copy-requires : tie.Need-copy-requires
-copy-requires c κs =
-    let s = c .before .before .before .before in
-    let m = ap length (s .pre .1 .0) ∙ marks-length (s .args .z) (own-sized _ (s .pre .0 .1) (s .pre .0 .0) .usable) (programOf (s .args .p)) in
-    search (needs, m)
 
 slice-aggregate-drop-routine : tie.Need-slice-aggregate-drop-routine
 slice-aggregate-drop-routine c = room (c .before .before .before .before .before .before .before .before .before)
@@ -35,15 +19,17 @@ slice-aggregate-drop-routine c = room (c .before .before .before .before .before
 drop-routine-requires : tie.Need-drop-routine-requires
 drop-routine-requires c κs =
     let s = c .before .before .before .before .before .before .before .before .before in
-    (s .pre .0, (ap length (copied s (c .before .before .before .before .copy .ensures .1)) ∙ marks-length _ (own-sized _ (s .pre .0 .1) (s .pre .0 .0) .usable) _, sym (room s) ∙ s .pre .1 .1))
+    (s .pre .0, (search needs, sym (room s) ∙ s .pre .1 .1))
 
 returns : tie.Need-returns
 returns c =
     let s = c .before .before .before .before .before .before .before .before .before .before .before .before .before .before in
-    routine-dropped (s .args .f) (programOf (s .args .p)) (s .pre .0 .0) (s .pre .0 .1) (copied s (c .before .before .before .before .before .before .before .before .before .copy .ensures .1)) (c .before .before .before .before .drop-routine .ensures) .own
+    let kept = c .before .before .before .before .drop-routine .ensures .0 in
+    let law = kept-of-copy {Z = s .args .z} (emptied (s .args .f) (programOf (s .args .p))) (s .args .marks .now) (s .args .kept .now) (s .pre .1 .0 ∙ sym (s .pre .1 .1)) in
+    search (needs, kept, law)
 
 pub drop-copied-spec : {M : Type 1} → statement M
 drop-copied-spec =
     tie.close
-    (tie.spec copy-requires (λ c. search needs) slice-aggregate-drop-routine drop-routine-requires (λ c. search needs) (λ c. search needs)
-    returns)
+    (tie.spec (λ c κs. search needs) (λ c. search needs) slice-aggregate-drop-routine drop-routine-requires (λ c. search needs)
+    (λ c. search needs) returns)
