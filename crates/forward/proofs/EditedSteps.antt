@@ -132,13 +132,13 @@ module _ (s : edit.Step) (p : Program) (w : WellFormed p) where
             ];
       }
 
-  -- a step leads from there, so that it is in range
-  pub add-from : {Z : Sizes} → Z ≡ sizesOf p → Applies (Add s) p → (s .routine < Z .routines) × (s .source < Z .nodes)
+  -- a step leads from there, so that it is in range; and so is where it leads to
+  pub add-from : {Z : Sizes} → Z ≡ sizesOf p → Applies (Add s) p → (s .routine < Z .routines) × (s .source < Z .nodes) × (s .target < Z .nodes)
   unfolding editedProgram
   add-from i a =
       let z = ranged (editedProgram (Add s) p) (applied-well-formed (Add s) p w a) in
       let h : HasStep (editedProgram (Add s) p) (s .routine) (s .source) (eventOf (edgeOfStep s .label)) (s .target) = new-inserted stepOf (edgeOfStep s) (p .edges) in
-      subst (λ (y : Sizes). (s .routine < y .routines) × (s .source < y .nodes)) (sym i) (z .routine h, z .source h)
+      subst (λ (y : Sizes). (s .routine < y .routines) × (s .source < y .nodes) × (s .target < y .nodes)) (sym i) (z .routine h, z .source h, z .target h)
 
   pub drop-within : Within (editedProgram (Drop s) p) p
   unfolding editedProgram

@@ -12,14 +12,17 @@ with-step-requires c κs =
     let z = c .before .before in
     add-ready (z .args .s) (programOf (z .args .p)) (z .pre .0 .0) (z .pre .0 .1)
 
+-- where a step leads to is in range as well as where it leads from: which of the two is taken up is for what is marked to tell
 follow-added-requires : tie.Need-follow-added-requires
 follow-added-requires c κs =
     let z = c .before .before .before .before in
     let p = programOf (z .args .p) in
     let e = c .before .with-step .ensures in
     let fits = added-well-formed (z .args .s) p _ (z .pre .0 .0) (z .pre .0 .2) (z .pre .0 .1) e in
-    let from = add-from (z .args .s) p (z .pre .0 .0) (z .pre .0 .2) (z .pre .0 .1) in (
-      (fits .0, fits .1, from .0, from .1),
+    let from = add-from (z .args .s) p (z .pre .0 .0) (z .pre .0 .2) (z .pre .0 .1) in
+    let source = from .1 in
+    let target = from .2 in (
+      (fits .0, fits .1, from .0, search (source, target)),
       added-closed (z .args .s) p _ (z .pre .0 .0) (z .pre .0 .2) (z .pre .0 .1) e (z .pre .1 .0),
     )
 
