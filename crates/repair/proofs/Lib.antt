@@ -1,3 +1,4 @@
+pub mod OwnMended
 pub mod InsideOutNumbers
 pub mod RepairsAnswer
 pub mod BuffersKept

@@ -2,7 +2,7 @@ use Rattle.repair.proofs.RepairsAnswer.{own-answer, foreign-answer, roo
 use Rattle.repair.proofs.InsideOutNumbers.{number-foreign, bits-told}
 use Rattle.reach.proofs.ShapeKept.{none-length}
 use Rattle.forward.proofs.ChangedMarks.{own-sized}
-use Rattle.update.proofs.OwnMended.{own-lent, mended-own}
+use Rattle.repair.proofs.OwnMended.{own-lent, mended-own}
 use Rattle.analysis.proofs.AnswersByChecks.{accepted-own}
 use Rattle.program.specs.Decoded.{programOf}
 use Rattle.exchange.specs.Changes.{step}
