@@ -17,7 +17,7 @@ use Rattle.program.specs.declared.Verdict.the-variants.{Accepted, Refused}
 use Rattle.program.specs.declared.Length.the-variants.{NotAsked, Of}
 use Rattle.base.proofs.Bools.{both}
 use Rattle.checks.specs.Checked.{Checked}
-use Rattle.reader.specs.declared.Reading.{Reading}
+use Rattle.program.specs.declared.Reading.{Reading}
 use Rattle.reach.specs.Configurations.{none-set}
 use Rattle.reach.specs.Marks.{freshMarks, violations, violationsFrom, firstFrom, within}
 use Rattle.analysis.specs.Answers.{limited, followedBy, analyzeBy, analyzeAnswer, onSuccess, marksAfter, workAfter, same, owned, foundOf, foundBy, nextAnswer}

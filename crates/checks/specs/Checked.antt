@@ -10,7 +10,7 @@ use Rattle.program.specs.WellFormed.{WellFormed}
 use Rattle.program.specs.Decoded.{programOf}
 use Rattle.program.specs.declared.Verdict.the-variants.{Accepted}
 use Rattle.program.specs.declared.Length.{Length}
-use Rattle.reader.specs.declared.Reading.{Reading}
+use Rattle.program.specs.declared.Reading.{Reading}
 
 pub record Checked (file : List ℕ) (marks output work : Length) (r : Reading) : Type 0 where
   pub verdict : r .verdict ≡ checked file marks output work

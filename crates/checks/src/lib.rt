@@ -1,10 +1,10 @@
 // The checks that a call makes before it touches anything: the file, and the lengths of the buffers that it is lent.
 use program::Length;
+use program::Reading;
 use program::Verdict;
 use program::chosen::sizes_of;
 use program::sizes::OUTPUT_SIZE;
 use program::sizes::length_of;
-use reader::Reading;
 use reader::read;
 ghost use mathlib.Core.Path.{_≡_};
 ghost use mathlib.Core.List.{[], _∷_};

@@ -16,8 +16,8 @@ use Rattle.program.specs.Program.{Program}
 use Rattle.program.specs.Frames.{num}
 use Rattle.program.specs.Decoded.{programOf}
 use Rattle.program.specs.declared.DecodedProgram.{DecodedProgram}
-use Rattle.frames.specs.Limits.{limits, limitsOf}
-use Rattle.frames.specs.declared.Limits.{Limits}
+use Rattle.ranges.specs.Limits.{limits, limitsOf}
+use Rattle.ranges.specs.declared.Limits.{Limits}
 use Rattle.exchange.specs.Changes.{Refused}
 use Rattle.exchange.specs.Changing.{withNodes}
 use Rattle.exchangetext.specs.ExchangeText.{textLines, ofRoutine, any, badFrame, outside, boundedBy, exchangeFrom, wantedExchange}

@@ -3,12 +3,12 @@ mod line;
 mod scan;
 
 use exchange::DecodedExchange;
-use frames::judge::limits_of;
 use frames::number;
 use line::bounded_by;
 use line::is_bad;
 use program::DecodedProgram;
 use program::edges::no_edges;
+use ranges::limits_of;
 use scan::after_line;
 use scan::conclude;
 use scan::start_scan;

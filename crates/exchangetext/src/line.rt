@@ -1,16 +1,16 @@
 // One line of an exchange's text: its refusals (12, 13 and 21), and what bounds its numbers.
 use exchange::apply::with_nodes;
-use frames::Limits;
-use frames::judge::in_range;
 use frames::key_of;
 use frames::kind_of;
 use frames::number;
 use frames::size_of;
+use ranges::Limits;
+use ranges::in_range;
 use text::Line;
 ghost use mathlib.Core.Path.{_≡_};
 ghost use mathlib.Core.List.{[], _∷_};
 ghost use Rattle.program.specs.Frames.{num};
-ghost use Rattle.frames.specs.Limits.{limitsOf};
+ghost use Rattle.ranges.specs.Limits.{limitsOf};
 ghost use Rattle.exchange.specs.Changing.{withNodes};
 ghost use Rattle.exchangetext.specs.ExchangeText.{badFrame, boundedBy, outside, astray};
 

@@ -1,7 +1,4 @@
-// The frames of a file: a line's kind, its numbers and its key, and what bounds the numbers.
-pub mod judge;
-
-use program::Nodes;
+// The frames of a file: a line's kind, its numbers and its key, and the edge or the row that it says.
 use program::edges::edge_key;
 use program::frames::pack;
 use rows::row_key;
@@ -13,23 +10,6 @@ ghost use Rattle.rows.specs.Decoded.{rowOf};
 ghost use Rattle.program.specs.Frames.{kindOrder, rowSize, size, num, kind, word, rest, keyOf};
 ghost use Rattle.program.specs.Reading.{edgeIn, narrowRow, wideRow, rowIn};
 ghost use Rattle.program.specs.Decoded.{edgeOf};
-
-// How much was read before a line: frames, routine frames, edges, transitions and rows.
-pub struct Counts {
-    pub frames: usize,
-    pub nodes: usize,
-    pub edges: usize,
-    pub transitions: usize,
-    pub rows: usize,
-}
-
-// What bounds the numbers of a frame.
-pub struct Limits {
-    pub routines: u8,
-    pub states: u8,
-    pub actions: u8,
-    pub nodes: Nodes,
-}
 
 fn kind_order(k: u8) -> u8
     ensures { λ r. ⌜ r ≡ kindOrder k ⌝ }

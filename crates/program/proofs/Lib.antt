@@ -6,6 +6,7 @@ pub mod ProgramLimits
 pub mod RowsFramed
 pub mod ProgramRanged
 pub mod ChosenSizes
+pub mod ProgramByParts
 pub mod ProgressSound
 pub mod RefusalsSmall
 pub mod FilesAsFrames

@@ -10,7 +10,7 @@ use Rattle.program.specs.Decoded.{programOf}
 use Rattle.program.specs.declared.Verdict.{Verdict}
 use Rattle.program.specs.declared.Length.the-variants.{NotAsked, Of}
 use Rattle.checks.specs.Checked.{Checked}
-use Rattle.reader.specs.declared.Reading.{Reading}
+use Rattle.program.specs.declared.Reading.{Reading}
 use Rattle.reach.specs.Configurations.{none-set}
 use Rattle.analysis.specs.Answers.{checkedMarks, onSuccess, workAfter}
 use Rattle.prune.specs.Pruning.{Pruned}

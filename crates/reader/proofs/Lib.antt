@@ -1,3 +1,1 @@
-pub mod ListsKept
-pub mod FileFinished
 pub mod ReadingLoop

@@ -9,11 +9,11 @@ use Rattle.program.specs.Sizes.{maxFrames}
 use Rattle.program.specs.Reading.{start, refused, judge, after, finished, readFrom, readFile}
 use Rattle.program.specs.Frames.{kind}
 use Rattle.program.specs.Decoded.{programOf}
-use Rattle.reader.specs.Parts.{progressOf}
+use Rattle.progress.specs.Progress.{progressOf}
 use Rattle.program.specs.RoomParts.{Room, RoomForRow}
 use Rattle.automaton.specs.Sizes.{maxStates, maxActions}
 use Rattle.rows.specs.Rows.{TableRow}
-use Rattle.reader.specs.declared.Reader.{Reader}
+use Rattle.progress.specs.declared.Reader.{Reader}
 use Rattle.program.proofs.LinesJudged.{padded}
 use Rattle.program.proofs.ProgressSound.{Sound, start-sound, after-sound, begun-limits, ended-begun, room, room-for-row, frames-few}
 use Rattle.program.proofs.ReadingTurns.{at-last, is-over, is-faulty, goes-on, moves}

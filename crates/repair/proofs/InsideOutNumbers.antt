@@ -15,7 +15,7 @@ use Rattle.program.specs.declared.Verdict.the-variants as verdict
 use Rattle.program.specs.declared.Length.{Length}
 use Rattle.program.proofs.ChecksPassed.{few-checks}
 use Rattle.checks.specs.Checked.{Checked}
-use Rattle.reader.specs.declared.Reading.{Reading}
+use Rattle.program.specs.declared.Reading.{Reading}
 use Rattle.analysis.specs.Answers.{owned}
 use Rattle.analysis.proofs.AnswersByChecks.{refused-foreign}
 use Rattle.callgraph.specs.Components.{Bits}

@@ -17,7 +17,7 @@ use Rattle.program.specs.declared.Verdict.the-variants as verdict
 use Rattle.program.specs.declared.Length.the-variants.{Of}
 use Rattle.program.proofs.Theorems.{written-limited}
 use Rattle.checks.specs.Checked.{Checked}
-use Rattle.reader.specs.declared.Reading.{Reading}
+use Rattle.program.specs.declared.Reading.{Reading}
 use Rattle.reach.specs.Configurations.{none-set}
 use Rattle.analysis.specs.Answers.{owned}
 use Rattle.writer.specs.declared.WriteAnswer.the-variants.{Written, Refused}

@@ -22,7 +22,7 @@ use Rattle.program.specs.declared.Verdict.{Verdict}
 use Rattle.program.specs.declared.Verdict.the-variants as verdict
 use Rattle.program.specs.declared.Length.the-variants.{NotAsked, Of}
 use Rattle.checks.specs.Checked.{Checked}
-use Rattle.reader.specs.declared.Reading.{Reading}
+use Rattle.program.specs.declared.Reading.{Reading}
 use Rattle.reach.specs.Configurations.{Usable, stateOf}
 use Rattle.reach.proofs.Numbers.{state-small}
 use Rattle.reach.specs.Marks.{violates, frontWhen, violationsFrom}

@@ -11,7 +11,7 @@ use Rattle.program.specs.declared.Verdict.the-variants.{Accepted}
 use Rattle.program.specs.declared.Length.the-variants.{NotAsked, Of}
 use Rattle.program.proofs.Theorems.{written-limited}
 use Rattle.checks.specs.Checked.{Checked}
-use Rattle.reader.specs.declared.Reading.{Reading}
+use Rattle.program.specs.declared.Reading.{Reading}
 use Rattle.writer.specs.Answers.{answerBy, outputBy, writeAnswer, outputAfter}
 
 module _ (file output : List ℕ) {r : Reading} (k : Checked file NotAsked (Of (length output)) NotAsked r) where

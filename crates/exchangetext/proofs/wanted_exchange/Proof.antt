@@ -8,7 +8,7 @@ use borrow.Author.Needs.{needs}
 use Rattle.text.specs.Lines.{lineAt}
 use Rattle.text.specs.declared.ReadLine.{ReadLine}
 use Rattle.program.specs.Decoded.{programOf}
-use Rattle.frames.specs.Limits.{limitsOf}
+use Rattle.ranges.specs.Limits.{limitsOf}
 use Rattle.exchangetext.specs.ExchangeText.{badFrame}
 use Rattle.exchangetext.specs.Parts.{foundOf}
 use Rattle.exchangetext.proofs.TextLoop.{Decides, begins-bad, reached, moves, meets-bad, continues, ends}

@@ -1,5 +1,7 @@
-use mathlib.Core.Path.{_≡_, _∙_}
-use lib.ListN.{length}
+use mathlib.Core.Path.{_≡_, sym, _∙_}
+use mathlib.Core.List.{List, map}
+use Prim.Native.Nat.{ℕ, min}
+use lib.ListN.{length, take, length-map}
 use borrow.Author.Needs.{needs}
 use Rattle.base.proofs.EntriesInUse.{in-use-length}
 use Rattle.automaton.specs.Sizes.{maxTransitions}
@@ -7,9 +9,12 @@ use Rattle.automaton.specs.Decoded.{transitionOf}
 use Rattle.program.specs.Sizes.{maxRoutines, maxEdges}
 use Rattle.program.specs.Reading.{judge, judgeAs}
 use Rattle.program.specs.Decoded.{edgeOf}
-use Rattle.reader.proofs.ListsKept.{counted}
 use Rattle.reader.proofs.fault_of.Statement.{statement}
 use Rattle.reader.proofs.fault_of.Tie as tie
+
+-- the entries in use are as many as what they stand for
+counted : {A : Type 0} (g : ℕ → A) (n : ℕ) (xs : List ℕ) {size u : ℕ} → length xs ≡ size → u ≡ min n size → u ≡ length (map g (take n xs))
+counted g n xs l e = in-use-length n xs l e ∙ sym (length-map (take n xs) g)
 
 -- the sizes of the arrays
 sizes : (z : tie.Start)

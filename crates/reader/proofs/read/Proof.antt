@@ -1,5 +1,5 @@
 use Rattle.reader.proofs.ReadingLoop.{Reads, begins, few, over, faulty, complete, cut-short, small, has-room, has-room-for-row, proceeds, continues}
-use Rattle.reader.specs.Parts.{progressOf}
+use Rattle.progress.specs.Progress.{progressOf}
 use Rattle.program.specs.Reading.{judge, after}
 use Rattle.text.specs.declared.ReadLine.{ReadLine}
 use Rattle.text.specs.Lines.{lineAt}

@@ -1,9 +1,0 @@
-use borrow.Author.Needs.{needs}
-use Rattle.frames.proofs.judge.edge_fits.Statement.{statement}
-use Rattle.frames.proofs.judge.edge_fits.Tie as tie
-
-pub edge-fits-spec : {M : Type 1} → statement M
-edge-fits-spec =
-    tie.close
-    (tie.spec (λ c κs. search needs) (λ c κs. search needs) (λ c κs. search needs) (λ c κs. search needs)
-    (λ c κs. search needs) (λ c κs. search needs) (λ c κs. search needs) (λ c. cc))

@@ -1,8 +1,0 @@
-use borrow.Author.Needs.{needs}
-use Rattle.frames.proofs.judge.transition_fits.Statement.{statement}
-use Rattle.frames.proofs.judge.transition_fits.Tie as tie
-
-pub transition-fits-spec : {M : Type 1} → statement M
-transition-fits-spec =
-    tie.close
-    (tie.spec (λ c κs. search needs) (λ c κs. search needs) (λ c κs. search needs) (λ c κs. search needs) (λ c. cc))

@@ -1,8 +1,0 @@
-use borrow.Author.Needs.{needs}
-use Rattle.reader.proofs.extend.transition_in.Statement.{statement}
-use Rattle.reader.proofs.extend.transition_in.Tie as tie
-
-pub transition-in-spec : {M : Type 1} → statement M
-transition-in-spec =
-    tie.close
-    (tie.spec (λ c κs. search needs) (λ c κs. search needs) (λ c κs. search needs) (λ c κs. search needs) (λ c. cc))
