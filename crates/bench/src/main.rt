@@ -1,10 +1,10 @@
 // Reads a program file and then edits from standard input, and prints what the library says of each. The first argument
 // chooses the repair; what is printed is the same with either.
+use input::INPUT_SIZE;
 use libc::STDERR_FILENO;
 use libc::STDIN_FILENO;
 use libc::STDOUT_FILENO;
 use report::BLOCK_SIZE;
-use report::INPUT_SIZE;
 ghost use Prim.Native.Nat.{_≤_};
 ghost use lib.ListN.{length};
 
@@ -23,14 +23,14 @@ fn print(out: &[u8], n: usize) -> bool
 // Turn by turn, until the input is at its end or printing fails.
 fn print_turns(inside_out: bool, input: &[u8]) {
     let mut out = [0u8; BLOCK_SIZE];
-    let mut turn = transcript::begin(input, &mut out);
+    let mut turn = first_turn::begin(input, &mut out);
     while turn.next < input.len() {
         if !print(&out, turn.size) {
             return;
         }
         let at = turn.next;
         let held = turn.held;
-        turn = transcript::edit_line(inside_out, input, at, held, &mut out);
+        turn = edit_turn::edit_line(inside_out, input, at, held, &mut out);
     }
     print(&out, turn.size);
 }

@@ -18,7 +18,8 @@ use Rattle.program.specs.declared.Verdict.{Verdict}
 use Rattle.program.specs.declared.Verdict.the-variants.{Accepted, Refused}
 use Rattle.reach.specs.Marks.{freshMarks, violationsFrom}
 use Rattle.base.specs.Flags.{countSet}
-use Rattle.report.specs.Report.{violationFrame, countFrame, blockAt, blockOf, tooLong, editsText, fileText, fileSize, inputText, benchText}
+use Rattle.input.specs.Input.{fileSize}
+use Rattle.report.specs.Report.{violationFrame, countFrame, blockAt, blockOf, tooLong, editsText, fileText, inputText, benchText}
 
 -- the digit 5 begins every block
 block-first : (p : Program) (marks more : List ℕ) → getD (blockOf p marks ++ more) 0 0 ≡ 0x35

@@ -1,4 +1,3 @@
 pub mod Sample
-pub mod LineEnds
 pub mod BlocksPut
 pub mod Theorems

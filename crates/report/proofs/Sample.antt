@@ -18,7 +18,8 @@ use Rattle.reach.specs.Marks.{violationsFrom}
 use Rattle.base.specs.Flags.{countSet}
 use Rattle.editline.specs.EditLines.{editFrom, readEdit, wantedEdit}
 use Rattle.edit.specs.Editing.{hasEdge, without, inserted, editedProgram}
-use Rattle.report.specs.Report.{fileSize, blockAt, editsText, benchText}
+use Rattle.input.specs.Input.{fileSize}
+use Rattle.report.specs.Report.{blockAt, editsText, benchText}
 
 abbrev input : List String
 input = header ++ edges ++ transitions ++ "4900" ∷ "4602" ∷ "45000C" ∷ "2B00000102" ∷ "2D00000102" ∷ "2D00000102" ∷ []

@@ -1,14 +1,15 @@
--- What `bench` prints, as one function of its input: a file through its first line that starts with 45, and then edits,
--- a line each.
+-- What `bench` prints, as one function of its input: a file (where it ends is said in `Input.antt`), and then edits, a
+-- line each.
 use Prim.Native.Nat.{ℕ, _+_, _*_, _/_, _%_}
 use mathlib.Core.Path.{_≡_}
-use mathlib.Core.Bool.{Bool, cond, _&&_}
+use mathlib.Core.Bool.{cond}
 use mathlib.Core.List.{List, [], _∷_, _++_, map}
-use lib.Dec.{eqb, ltb}
-use lib.ListN.{length, getD, take, drop}
+use lib.Dec.{ltb}
+use lib.ListN.{length, take, drop}
 use Rattle.program.specs.Sizes.{marksMost}
 use Rattle.text.specs.Hex.{hexLine}
 use Rattle.text.specs.Lines.{lines}
+use Rattle.input.specs.Input.{inputSize, fileSize}
 use Rattle.program.specs.declared.sizes.Sizes.{Sizes}
 use Rattle.program.specs.Chosen.{sizesOf}
 use Rattle.program.specs.Program.{Program}
@@ -25,26 +26,6 @@ use Rattle.edit.specs.Editing.{editedProgram}
 use Rattle.editline.specs.EditLines.{wantedEdit}
 use Rattle.edit.specs.declared.EditRead.{EditRead}
 use Rattle.edit.specs.declared.EditRead.the-variants.{Read, Refused}
-
--- `bench` reads no longer input
-abbrev pub inputSize : ℕ
-inputSize = 16384
-
--- ---- where the file ends
-
--- a line that starts with the characters 45
-abbrev pub startsEnd : List ℕ → Bool
-startsEnd l = eqb (getD l 0 0) 0x34 && eqb (getD l 1 0) 0x35
-
--- how many bytes the lines have through the first that starts so; all of them if none does
-unfoldable pub fileSize : List (List ℕ) → ℕ
-fileSize [] = 0
-fileSize (l ∷ ls) = length l + cond (startsEnd l) 0 (fileSize ls)
-
--- how many bytes the first line has
-abbrev pub firstSize : List (List ℕ) → ℕ
-firstSize [] = 0
-firstSize (l ∷ ls) = length l
 
 -- ---- what is printed
 

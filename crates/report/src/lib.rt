@@ -1,4 +1,4 @@
-// What bench prints: where the file of an input ends, the block of a program and its marks, and the lines of refusals.
+// What bench prints: the block of a program and its marks, and the lines of refusals.
 mod put;
 
 use checks::checked_program;
@@ -11,61 +11,16 @@ use text::Line;
 use text::put_line;
 ghost use mathlib.Core.Path.{_≡_};
 ghost use mathlib.Core.List.{[], _∷_};
-ghost use Prim.Native.Nat.{_<_, _/_, _%_};
-ghost use lib.ListN.{length, drop};
-ghost use Rattle.text.specs.Lines.{lines, lineOf, firstLine};
-ghost use Rattle.report.specs.Report.{startsEnd, fileSize, firstSize, blockText, editRefusal, fileRefusal};
-ghost use Rattle.report.specs.Report.{Printed};
-
-// No input that is read is longer.
-pub const INPUT_SIZE: usize = 16384;
+ghost use Prim.Native.Nat.{_/_, _%_};
+ghost use lib.ListN.{length};
+ghost use Rattle.text.specs.Lines.{lineOf};
+ghost use Rattle.report.specs.Report.{blockText, editRefusal, fileRefusal, Printed};
 
 // No line is longer: five numbers, two digits each, and 0A. No block is longer: a line for each configuration, and the
 // counts.
 pub const LINE_SIZE: usize = 11;
 
 pub const BLOCK_SIZE: usize = LINE_SIZE * MARKS_MOST + LINE_SIZE;
-
-// Whether the line that starts at a position starts with the characters 45.
-fn starts_end(input: &[u8], at: usize) -> bool
-    requires { ⌜ at < length (now input) ⌝ }
-    ensures { λ r. ⌜ r ≡ startsEnd (firstLine (drop at (now (input .entry)))) ⌝ }
-{
-    let next = at + 1;
-    if next < input.len() {
-        return (input[at] == 0x34) & (input[next] == 0x35);
-    }
-    false
-}
-
-// How many bytes the line that starts at a position has; 0 where nothing is left.
-pub fn line_size(input: &[u8], from: usize) -> usize
-    ensures { λ r. ⌜ r ≡ firstSize (lines (drop from (now (input .entry)))) ⌝ }
-{
-    let mut i = from;
-    while i < input.len() {
-        if input[i] == 10 {
-            return i + 1 - from;
-        }
-        i = i + 1;
-    }
-    i - from
-}
-
-// How many bytes the file of an input has: through its first line that starts with 45, or all of them.
-pub fn file_size(input: &[u8]) -> usize
-    ensures { λ r. ⌜ r ≡ fileSize (lines (now (input .entry))) ⌝ }
-{
-    let mut at: usize = 0;
-    while at < input.len() {
-        let next = at + line_size(input, at);
-        if starts_end(input, at) {
-            return next;
-        }
-        at = next;
-    }
-    at
-}
 
 // The block of a file's program and of marks: each violation, ascending, and then the counts.
 pub fn block(file: &[u8], marks: &[u8], output: &mut [u8]) -> usize

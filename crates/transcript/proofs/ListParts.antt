@@ -10,8 +10,9 @@ use lib.ListN.{length, take, drop, drop-of-length-le}
 use lib.Seq.{take-all, take-length, drop-length, take-append-seam, length-take-le}
 use borrow.Author.Tests.{ltb-true, ltb-false}
 use Rattle.text.specs.Lines.{lines}
-use Rattle.report.specs.Report.{fileSize, firstSize, Printed}
-use Rattle.report.proofs.LineEnds.{line-inside, file-inside}
+use Rattle.input.specs.Input.{fileSize, firstSize}
+use Rattle.report.specs.Report.{Printed}
+use Rattle.input.proofs.LineEnds.{line-inside, file-inside}
 use Rattle.transcript.specs.Transcript.{lineAt}
 use Rattle.transcript.specs.Parts.{Within}
 

@@ -25,8 +25,9 @@ use Rattle.reach.specs.Marks.{freshMarks}
 use Rattle.reach.proofs.ShapeKept.{marks-length}
 use Rattle.repair.specs.Repairs.{After}
 use Rattle.repair.specs.Desk.{Desk, after}
-use Rattle.report.specs.Report.{firstSize, blockBy, blockText, refusedEdit, refusedFile, tooLong}
-use Rattle.report.proofs.LineEnds.{line-inside}
+use Rattle.input.specs.Input.{firstSize}
+use Rattle.report.specs.Report.{blockBy, blockText, refusedEdit, refusedFile, tooLong}
+use Rattle.input.proofs.LineEnds.{line-inside}
 use Rattle.report.proofs.Theorems.{block-limited}
 use Rattle.transcript.specs.Transcript.{Shown, TurnGives, fileOf, begunBy, begun, lineAt, editOn, turned, alone}
 use Rattle.transcript.specs.declared.Turn.{Turn}

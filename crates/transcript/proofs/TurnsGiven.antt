@@ -15,7 +15,8 @@ use Rattle.reach.specs.Marks.{freshMarks}
 use Rattle.reach.proofs.ShapeKept.{marks-length}
 use Rattle.repair.specs.Repairs.{After}
 use Rattle.repair.specs.Desk.{Desk, started, after}
-use Rattle.report.specs.Report.{fileSize, firstSize, blockText, editRefusal, fileRefusal, Printed}
+use Rattle.input.specs.Input.{fileSize, firstSize}
+use Rattle.report.specs.Report.{blockText, editRefusal, fileRefusal, Printed}
 use Rattle.transcript.specs.Transcript.{heldOf, nothing, TurnGives, fileOf, begunBy, begun, lineAt, editOn, textBy, turned}
 use Rattle.transcript.specs.Parts.{editedText}
 use Rattle.transcript.specs.declared.Held.{Held}

@@ -31,8 +31,9 @@ use Rattle.editline.proofs.Theorems.{wanted-applies}
 use Rattle.exchangetext.specs.Wanted.{ofEdit}
 use Rattle.repair.specs.Repairs.{After, wantedBy, repairedBy, repaired}
 use Rattle.repair.specs.Desk.{Desk, started}
-use Rattle.report.specs.Report.{firstSize, editText, programAfter, editsText, blockOf, tooLong, fileSize, fileText, inputText, benchText}
-use Rattle.report.proofs.LineEnds.{next-line}
+use Rattle.input.specs.Input.{firstSize, fileSize}
+use Rattle.report.specs.Report.{editText, programAfter, editsText, blockOf, tooLong, fileText, inputText, benchText}
+use Rattle.input.proofs.LineEnds.{next-line}
 use Rattle.transcript.specs.Transcript.{heldOf, Shown, TurnGives, lineAt, noOutput, noWork, editOn, turnedBy, turned, Turns, over, turn, fileOf, alone, begunBy, begun}
 use Rattle.transcript.specs.declared.Turn.{Turn}
 use Rattle.transcript.proofs.ListParts.{printed-front}

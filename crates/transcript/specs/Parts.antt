@@ -1,4 +1,4 @@
--- What the private functions promise of each other; nothing here has to be believed.
+-- What the functions that make up a turn promise of each other; nothing here has to be believed.
 use Prim.Native.Nat.{ℕ, _≤_}
 use mathlib.Core.Path.{_≡_}
 use mathlib.Core.List.{List}

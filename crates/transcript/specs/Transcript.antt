@@ -18,7 +18,8 @@ use Rattle.reach.specs.Marks.{freshMarks}
 use Rattle.exchange.specs.Changes.{EditLine}
 use Rattle.repair.specs.Repairs.{After, repaired}
 use Rattle.repair.specs.Desk.{Desk, started, after}
-use Rattle.report.specs.Report.{fileSize, firstSize, blockOf, tooLong, refusedFile, refusedEdit, Printed, inputSize}
+use Rattle.input.specs.Input.{fileSize, firstSize, inputSize}
+use Rattle.report.specs.Report.{blockOf, tooLong, refusedFile, refusedEdit, Printed}
 use Rattle.transcript.specs.declared.Held.{Held}
 use Rattle.transcript.specs.declared.Turn.{Turn}
 
