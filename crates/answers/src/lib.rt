@@ -14,7 +14,7 @@ ghost use Rattle.program.specs.Reading.{refusal, refusalLine};
 ghost use Rattle.writer.specs.Answers.{refusal as writeRefusal, refusalLine as writeLine, writtenLength};
 ghost use Rattle.analysis.specs.Answers.{analyzeRefusal, analyzeLine, configurationCount, violationCount};
 ghost use Rattle.analysis.specs.Answers.{iterationCount, nextRefusal, nextLine, nextFound};
-ghost use Rattle.repair.specs.Repairs.{reanalyzed as reanalyzedNumber};
+ghost use Rattle.repair.specs.Repairs.{plain, reanalyzed as reanalyzedNumber};
 ghost use Rattle.rewrite.specs.Room.{roomRefusal, roomLine, roomNodes, roomMarks, roomWork};
 ghost use Rattle.answers.specs.Told.{told};
 ghost use Rattle.answers.specs.Parts.{VerdictFits, WriteFits, AnalyzeFits, NextFits, RoomFits};
@@ -128,12 +128,32 @@ pub fn next_numbers(a: NextAnswer) -> NextNumbers
     }
 }
 
-pub fn reanalyzed_of(a: RepairAnswer) -> u32
-    ensures { λ r. ⌜ r ≡ reanalyzedNumber a ⌝ }
+pub struct RepairNumbers {
+    pub refusal: u32,
+    pub line: u32,
+    pub written: u32,
+    pub reanalyzed: u32,
+}
+
+// Those of the inside-out repair, the reanalyzed routines among them.
+pub fn repair_numbers(a: RepairAnswer) -> RepairNumbers
+    requires { ⌜ WriteFits (plain a) ⌝ }
+    ensures { λ r. ⌜ (r .refusal ≡ writeRefusal (plain a)) × (r .line ≡ writeLine (plain a))
+        × (r .written ≡ writtenLength (plain a)) × (r .reanalyzed ≡ reanalyzedNumber a) ⌝ }
 {
     match a {
-        RepairAnswer::Repaired(_, routines) => routines,
-        RepairAnswer::Refused(_, _) => 0,
+        RepairAnswer::Repaired(size, routines) => RepairNumbers {
+            refusal: 0,
+            line: 0,
+            written: size as u32,
+            reanalyzed: routines,
+        },
+        RepairAnswer::Refused(n, at) => RepairNumbers {
+            refusal: n as u32,
+            line: at as u32,
+            written: 0,
+            reanalyzed: 0,
+        },
     }
 }
 

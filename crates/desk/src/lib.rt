@@ -1,7 +1,7 @@
 // The functions for C: bytes are handed over, and numbers come back. Every number is set on every call.
 use answers::analyze_numbers;
 use answers::next_numbers;
-use answers::reanalyzed_of;
+use answers::repair_numbers;
 use answers::room_numbers;
 use answers::sizes_numbers;
 use answers::verdict_numbers;
@@ -281,10 +281,10 @@ pub extern "C" fn palthrenni_repair_inside_out(
         (now (output .exit)) (now (work .exit)) []) ⌝ }
 {
     let a = repair::repair_inside_out(file, marks, edit, output, work);
-    let numbers = write_numbers(repair::without_routines(a));
+    let numbers = repair_numbers(a);
     *line = numbers.line;
     *written = numbers.written;
-    *reanalyzed = reanalyzed_of(a);
+    *reanalyzed = numbers.reanalyzed;
     numbers.refusal
 }
 
@@ -373,10 +373,10 @@ pub extern "C" fn palthrenni_exchange_inside_out(
         (backRepair r (now (line .exit)) (now (written .exit)) (now (reanalyzed .exit)) (now (marks .entry))
         (now (output .exit)) (now (work .exit)) (now («new_marks» .exit))) ⌝ }
 {
-    let answer = rewrite::exchange_inside_out(file, marks, text, output, work, new_marks);
-    let numbers = write_numbers(repair::without_routines(answer));
+    let a = rewrite::exchange_inside_out(file, marks, text, output, work, new_marks);
+    let numbers = repair_numbers(a);
     *line = numbers.line;
     *written = numbers.written;
-    *reanalyzed = reanalyzed_of(answer);
+    *reanalyzed = numbers.reanalyzed;
     numbers.refusal
 }
