@@ -38,10 +38,10 @@ use Rattle.analysis.proofs.AnswersByChecks.{by-marks}
 use Rattle.analysis.proofs.LimitDecides.{by-limit}
 use Rattle.exchange.specs.Changes.{Exchange, Change, step, whole, ChangeRead, Read, Refused as Denied, Form, ExchangeText}
 use Rattle.exchange.specs.Changing.{withNodes, changedProgram}
-use Rattle.exchangetext.specs.Wanted.{wantedChange}
+use Rattle.exchange_text.specs.Wanted.{wantedChange}
 use Rattle.exchange.proofs.Theorems.{changed-well-formed}
-use Rattle.exchangetext.proofs.Theorems.{wanted-change-applies}
-use Rattle.exchangetext.specs.ExchangeText.{textLines, exchangeRows, exchangeIn, exchangeFrom, wantedExchange}
+use Rattle.exchange_text.proofs.Theorems.{wanted-change-applies}
+use Rattle.exchange_text.specs.ExchangeText.{textLines, exchangeRows, exchangeIn, exchangeFrom, wantedExchange}
 use Rattle.exchange.specs.Lengths.{sizesAfter, measuredRows, workFirst}
 use Rattle.repair.specs.Repairs.{After, repairedTo, ownedBy, changedBy, measured, measuredBy, wantedBy, repairedBy, repaired}
 use Rattle.rewrite.specs.Room.{roomOf, roomWanted, roomBy, roomAnswer}

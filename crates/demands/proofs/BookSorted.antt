@@ -12,14 +12,14 @@ use Rattle.program.specs.Frames.{num, edgeKey}
 use Rattle.program.specs.WellFormed.{All, WellFormed}
 use Rattle.tables.specs.Keys.{Ascending}
 use Rattle.edit.specs.Edits.{oldEdge, newEdge}
-use Rattle.editline.specs.EditLines.{editFrom, readEdit, wantedEdit}
+use Rattle.edit_line.specs.EditLines.{editFrom, readEdit, wantedEdit}
 use Rattle.edit.specs.Editing.{sameEdge, hasEdge, without, inserted, withEdges, editRefusal, editedEdges, editedProgram, wantedBy}
 use Rattle.exchange.proofs.OtherRoutines.{own, others-remaining}
 use Rattle.exchange.specs.Changes.{Change, step, whole, Form, EditLine, ExchangeText}
 use Rattle.exchange.specs.Changing.{others, insertedAll, withNodes, exchangedProgram, changedProgram}
-use Rattle.exchangetext.specs.ExchangeText.{textLines, ofRoutine, any, outside, outOfRange, exchangeIn, exchangeFrom, wantedExchange}
+use Rattle.exchange_text.specs.ExchangeText.{textLines, ofRoutine, any, outside, outOfRange, exchangeIn, exchangeFrom, wantedExchange}
 use Rattle.exchange.specs.Lengths.{measuredRows}
-use Rattle.exchangetext.specs.Wanted.{ofEdit, wantedChange}
+use Rattle.exchange_text.specs.Wanted.{ofEdit, wantedChange}
 use Rattle.text.specs.declared.Line.{Line}
 use Rattle.demands.specs.Book.{bookEdges, bookChanged, sorted, bookProgram}
 use Rattle.edit.specs.declared.Edit.{Edit}

@@ -17,11 +17,11 @@ use Rattle.reach.specs.Sizes.{summaries, enoughIterations}
 use Rattle.rows.specs.Rows.{pairsFrom, timesMet, tableRefusal, nextState}
 use Rattle.reach.specs.Marks.{violationsFrom}
 use Rattle.analysis.specs.Answers.{same, analyzeAnswer, marksAfter, workAfter}
-use Rattle.editline.specs.EditLines.{editFrom, readEdit, wantedEdit}
+use Rattle.edit_line.specs.EditLines.{editFrom, readEdit, wantedEdit}
 use Rattle.edit.specs.Editing.{hasEdge, without, inserted, editedProgram}
 use Rattle.exchange.specs.Changing.{others, insertedAll, exchangedProgram}
-use Rattle.exchangetext.specs.ExchangeText.{any, anyAstray, exchangeFrom, wantedExchange}
-use Rattle.exchangetext.specs.Wanted.{wantedChange}
+use Rattle.exchange_text.specs.ExchangeText.{any, anyAstray, exchangeFrom, wantedExchange}
+use Rattle.exchange_text.specs.Wanted.{wantedChange}
 use Rattle.repair.specs.Repairs.{repaired, InsideOutNumber}
 use Rattle.program.specs.Sample.{bytes}
 use Rattle.rewrite.specs.Room.{roomWanted, roomAnswer}

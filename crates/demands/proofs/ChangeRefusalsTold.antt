@@ -12,7 +12,7 @@ use Rattle.program.specs.Chosen.{sizesOf}
 use Rattle.program.specs.declared.Verdict.{Verdict}
 use Rattle.program.specs.declared.Verdict.the-variants as verdict
 use Rattle.edit.specs.Edits.{oldEdge, newEdge}
-use Rattle.editline.specs.EditLines.{onlyLine, badLine, outOfRange, editIn, editFrom, readEdit, wantedEdit}
+use Rattle.edit_line.specs.EditLines.{onlyLine, badLine, outOfRange, editIn, editFrom, readEdit, wantedEdit}
 use Rattle.edit.specs.Editing.{hasEdge, wantedBy}
 use Rattle.edit.specs.declared.Edit.{Edit}
 use Rattle.edit.specs.declared.Edit.the-variants.{Add, Drop, Replace}
@@ -21,9 +21,9 @@ use Rattle.edit.specs.declared.EditRead.the-variants.{Read, Refused}
 use Rattle.text.specs.declared.Line.{Line}
 use Rattle.exchange.specs.Changes.{Exchange, Change, step, whole, ChangeRead, Form, EditLine, ExchangeText}
 use Rattle.exchange.specs.Changes as change
-use Rattle.exchangetext.specs.ExchangeText.{textLines, badText, outOfRange as textOut, disordered, tooMany, tooLarge, exchangeIn, exchangeRows, exchangeUnless, exchangeFrom, wantedExchange}
+use Rattle.exchange_text.specs.ExchangeText.{textLines, badText, outOfRange as textOut, disordered, tooMany, tooLarge, exchangeIn, exchangeRows, exchangeUnless, exchangeFrom, wantedExchange}
 use Rattle.exchange.specs.Lengths.{sizesAfter, lengthsOf, measuredRows}
-use Rattle.exchangetext.specs.Wanted.{ofEdit, wantedChange}
+use Rattle.exchange_text.specs.Wanted.{ofEdit, wantedChange}
 use Rattle.demands.specs.Refusals.{adds, drops, editRows, changeRows, laterRows}
 
 -- the refusal of a line or text, or what the rows after it give

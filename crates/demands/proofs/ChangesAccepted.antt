@@ -22,9 +22,9 @@ use Rattle.exchange.specs.Changes.{Change, ChangeRead, Form}
 use Rattle.exchange.specs.Changes as change
 use Rattle.exchange.specs.Changing.{changedProgram}
 use Rattle.exchange.specs.Lengths.{workFirst}
-use Rattle.exchangetext.specs.Wanted.{wantedChange}
+use Rattle.exchange_text.specs.Wanted.{wantedChange}
 use Rattle.exchange.proofs.Theorems.{changed-well-formed}
-use Rattle.exchangetext.proofs.Theorems.{wanted-change-applies, change-number}
+use Rattle.exchange_text.proofs.Theorems.{wanted-change-applies, change-number}
 use Rattle.repair.specs.Repairs.{After, checkedRepair, repairedTo, ownedBy, changedBy, measured, measuredBy, wantedBy, repairedBy, repaired}
 use Rattle.desk.specs.Entries.{Lent, Back, repairBack, programIn, repairedIn, Gives}
 use Rattle.demands.specs.Lists.{Repair, entry, wrote}

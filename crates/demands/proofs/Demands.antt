@@ -26,7 +26,7 @@ use Rattle.reach.proofs.ProgramInSizes.{usable}
 use Rattle.reach.specs.Takings.{takenIn}
 use Rattle.reach.specs.Marks.{Marked, Shows, freshMarks}
 use Rattle.prune.specs.Pruning.{Kept}
-use Rattle.editline.specs.EditLines.{wantedEdit}
+use Rattle.edit_line.specs.EditLines.{wantedEdit}
 use Rattle.edit.specs.declared.Step.{Step}
 use Rattle.edit.specs.declared.Edit.the-variants.{Drop}
 use Rattle.edit.specs.declared.EditRead.the-variants.{Read}

@@ -26,9 +26,9 @@ use Rattle.exchange.specs.Changes as change
 use Rattle.exchange.specs.Changing.{changedProgram}
 use Rattle.exchange.specs.Lengths.{workFirst, measuredRows}
 use Rattle.exchange.specs.Wanted.{ChangeApplies}
-use Rattle.exchangetext.specs.Wanted.{wantedChange}
+use Rattle.exchange_text.specs.Wanted.{wantedChange}
 use Rattle.exchange.proofs.Theorems.{changed-well-formed, changed-read}
-use Rattle.exchangetext.proofs.Theorems.{wanted-change-applies, change-number}
+use Rattle.exchange_text.proofs.Theorems.{wanted-change-applies, change-number}
 use Rattle.repair.specs.Repairs.{After, untouched, repairedTo, measuredBy, wantedBy, repairedBy, repaired, InsideOutNumber}
 use Rattle.repair.specs.Desk.{Desk, started}
 use Rattle.desk.specs.Entries.{Back, repairBack, repairedIn, Gives}

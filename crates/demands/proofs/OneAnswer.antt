@@ -21,7 +21,7 @@ use Rattle.prune.specs.Pruning.{Pruned}
 use Rattle.callgraph.specs.Components.{Bits}
 use Rattle.exchange.specs.Changes.{ChangeRead, Form, EditLine, ExchangeText}
 use Rattle.exchange.specs.Changes as change
-use Rattle.exchangetext.specs.Wanted.{wantedChange}
+use Rattle.exchange_text.specs.Wanted.{wantedChange}
 use Rattle.repair.specs.Repairs.{InsideOutNumber}
 use Rattle.desk.specs.Entries.{Entry, read as reads, sizes, write, analyze, next-violation, prune, repair-forward, repair-inside-out, exchange-sizes, exchange-forward, exchange-inside-out, Lent, Back, pruneBack, repairBack, programIn, repairedIn, InsideOutGives, Gives}
 

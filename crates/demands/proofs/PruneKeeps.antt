@@ -25,14 +25,14 @@ use Rattle.analysis.specs.Answers.{checkedMarks}
 use Rattle.prune.specs.Pruning.{Kept, Pruned}
 use Rattle.prune.proofs.Theorems.{kept-fresh}
 use Rattle.edit.specs.Editing.{editedProgram}
-use Rattle.editline.specs.EditLines.{wantedEdit}
+use Rattle.edit_line.specs.EditLines.{wantedEdit}
 use Rattle.edit.specs.declared.Step.{Step}
 use Rattle.edit.specs.declared.Edit.the-variants.{Drop}
 use Rattle.edit.specs.declared.EditRead.the-variants as read
 use Rattle.exchange.specs.Changes.{Change, step, EditLine}
 use Rattle.exchange.specs.Changes as change
 use Rattle.exchange.specs.Changing.{changedProgram}
-use Rattle.exchangetext.specs.Wanted.{ofEdit}
+use Rattle.exchange_text.specs.Wanted.{ofEdit}
 use Rattle.forward.proofs.EditedSteps.{drop-within, drop-initial}
 use Rattle.forward.proofs.ChangedMarks.{edited-sizes}
 use Rattle.repair.specs.Repairs.{repairedTo}

@@ -29,10 +29,10 @@ use Rattle.prune.specs.Pruning.{Pruned}
 use Rattle.exchange.specs.Changes.{Change, ChangeRead, Form, EditLine, ExchangeText}
 use Rattle.exchange.specs.Changes as change
 use Rattle.exchange.specs.Changing.{changedProgram}
-use Rattle.exchangetext.specs.ExchangeText.{textLines, exchangeRows, exchangeIn, exchangeFrom, wantedExchange}
+use Rattle.exchange_text.specs.ExchangeText.{textLines, exchangeRows, exchangeIn, exchangeFrom, wantedExchange}
 use Rattle.exchange.specs.Lengths.{workFirst, measuredRows}
-use Rattle.exchangetext.specs.Wanted.{wantedChange}
-use Rattle.exchangetext.proofs.Theorems.{change-number}
+use Rattle.exchange_text.specs.Wanted.{wantedChange}
+use Rattle.exchange_text.proofs.Theorems.{change-number}
 use Rattle.repair.specs.Repairs.{After, untouched, zeroed, foreign, repairedTo, checkedRepair, ownedBy, measuredBy, wantedBy, repairedBy, repaired}
 use Rattle.rewrite.specs.Room.{roomOf, roomBy, roomWanted, roomAnswer}
 use Rattle.rewrite.specs.declared.RoomAnswer.the-variants as room

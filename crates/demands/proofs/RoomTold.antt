@@ -25,7 +25,7 @@ use Rattle.reach.proofs.ShapeKept.{marks-length}
 use Rattle.exchange.specs.Changes.{Exchange, Change, ExchangeText}
 use Rattle.exchange.specs.Changing.{exchangedProgram, changedProgram}
 use Rattle.exchange.specs.Lengths.{sizesAfter}
-use Rattle.exchangetext.specs.ExchangeText.{textLines, exchangeIn, exchangeFrom, wantedExchange}
+use Rattle.exchange_text.specs.ExchangeText.{textLines, exchangeIn, exchangeFrom, wantedExchange}
 use Rattle.analysis.specs.Answers.{same, foreignRow}
 use Rattle.analysis.proofs.AnswersByChecks.{same-self}
 use Rattle.rewrite.specs.Room.{roomOf, roomWanted, roomAnswer}

@@ -17,7 +17,7 @@ use Rattle.edit.specs.declared.Edit.the-variants.{Add, Drop, Replace}
 use Rattle.exchange.specs.Changes.{Change, step, whole, ChangeRead, Read, Refused, Form}
 use Rattle.exchange.specs.Changing.{others, withNodes}
 use Rattle.exchange.specs.Lengths.{measuredRows, workFirst}
-use Rattle.exchangetext.specs.Wanted.{wantedChange}
+use Rattle.exchange_text.specs.Wanted.{wantedChange}
 
 -- an add: the edge joins the set; a drop: it leaves; a replace: it leaves and joins again with the new label
 abbrev pub bookEdges : Edit → List Edge → List Edge

@@ -34,7 +34,7 @@ use Rattle.base.specs.Flags.{countSet}
 use Rattle.reach.specs.Violations.{Violation, Ascends}
 use Rattle.exchange.specs.Changes.{Change, Read, Form}
 use Rattle.exchange.specs.Changing.{changedProgram}
-use Rattle.exchangetext.specs.Wanted.{wantedChange}
+use Rattle.exchange_text.specs.Wanted.{wantedChange}
 use Rattle.desk.specs.Entries.{Entry, Lent, Room, Back, hasWork, noValues, programIn}
 use Rattle.demands.specs.Refusals.{Returned}
 use Rattle.repair.specs.Repairs.{zeroed}

@@ -14,7 +14,7 @@ use Rattle.reach.specs.Reachable.{Calls}
 use Rattle.reach.specs.Marks.{freshMarks}
 use Rattle.exchange.specs.Changes.{ChangeRead, Read, Refused, Form, EditLine, ExchangeText}
 use Rattle.exchange.specs.Changing.{changedRoutine}
-use Rattle.exchangetext.specs.Wanted.{wantedChange}
+use Rattle.exchange_text.specs.Wanted.{wantedChange}
 use Rattle.repair.specs.Desk.{Desk}
 use Rattle.repair.specs.Repairs.{InsideOutNumber}
 use Rattle.desk.specs.Entries.{Entry, repair-forward, repair-inside-out, exchange-forward, exchange-inside-out}

@@ -19,11 +19,11 @@ use Rattle.program.specs.Checks.{Row, row, firstMet, bufferRows}
 use Rattle.program.specs.declared.Length.the-variants.{NotAsked, Of}
 use Rattle.analysis.specs.Answers.{foreignRow, limitRow}
 use Rattle.edit.specs.Edits.{oldEdge, newEdge}
-use Rattle.editline.specs.EditLines.{onlyLine, badLine, outOfRange, editIn}
+use Rattle.edit_line.specs.EditLines.{onlyLine, badLine, outOfRange, editIn}
 use Rattle.edit.specs.Editing.{hasEdge}
 use Rattle.edit.specs.declared.Edit.{Edit}
 use Rattle.edit.specs.declared.Edit.the-variants.{Add, Drop, Replace}
-use Rattle.exchangetext.specs.ExchangeText.{textLines, exchangeIn, exchangeRows}
+use Rattle.exchange_text.specs.ExchangeText.{textLines, exchangeIn, exchangeRows}
 use Rattle.exchange.specs.Lengths.{sizesAfter, lengthsOf, lengthRows, workFirst}
 use Rattle.exchange.specs.Changes.{Form, EditLine, ExchangeText}
 use Rattle.desk.specs.Entries.{Entry, read, sizes, write, analyze, next-violation, prune, repair-forward}

@@ -18,7 +18,7 @@ use Rattle.writer.specs.declared.WriteAnswer.{WriteAnswer}
 use Rattle.analysis.specs.declared.AnalyzeAnswer.{AnalyzeAnswer}
 use Rattle.analysis.specs.declared.NextAnswer.{NextAnswer}
 use Rattle.prune.specs.Pruning.{Pruned}
-use Rattle.exchangetext.specs.Wanted.{wantedChange}
+use Rattle.exchange_text.specs.Wanted.{wantedChange}
 use Rattle.exchange.specs.Changes.{Form, EditLine, ExchangeText}
 use Rattle.repair.specs.Repairs.{After, repaired, InsideOutNumber}
 use Rattle.rewrite.specs.Room.{roomAnswer, roomRefusal, roomLine, roomNodes, roomMarks, roomWork}

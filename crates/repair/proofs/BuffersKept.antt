@@ -14,8 +14,8 @@ use Rattle.writer.specs.Answers.{refusal}
 use Rattle.analysis.specs.Answers.{owned}
 use Rattle.exchange.specs.Changes.{Exchange, Change, step, whole, ChangeRead, Read, Refused, Form, ExchangeText}
 use Rattle.exchange.specs.Changing.{changedProgram, exchangedProgram}
-use Rattle.exchangetext.specs.ExchangeText.{textLines, exchangeRows, exchangeIn, exchangeFrom, wantedExchange}
-use Rattle.exchangetext.specs.Wanted.{wantedChange}
+use Rattle.exchange_text.specs.ExchangeText.{textLines, exchangeRows, exchangeIn, exchangeFrom, wantedExchange}
+use Rattle.exchange_text.specs.Wanted.{wantedChange}
 use Rattle.repair.specs.Repairs.{After, repairedTo, checkedRepair, ownedBy, measured, measuredBy, wantedBy, repairedBy, repaired}
 
 module _ (marks output work second : List ℕ) where

@@ -20,12 +20,12 @@ use Rattle.analysis.specs.Answers.{owned}
 use Rattle.analysis.proofs.AnswersByChecks.{refused-foreign}
 use Rattle.callgraph.specs.Components.{Bits}
 use Rattle.exchange.specs.Changes.{Change, step, ChangeRead, Read, Form, EditLine}
-use Rattle.editline.specs.EditLines.{wantedEdit}
+use Rattle.edit_line.specs.EditLines.{wantedEdit}
 use Rattle.edit.specs.declared.Edit.{Edit}
 use Rattle.edit.specs.declared.EditRead.{EditRead}
 use Rattle.edit.specs.declared.EditRead.the-variants as edit
-use Rattle.exchangetext.specs.Wanted.{ofEdit, wantedChange}
-use Rattle.exchangetext.proofs.Theorems.{change-number}
+use Rattle.exchange_text.specs.Wanted.{ofEdit, wantedChange}
+use Rattle.exchange_text.proofs.Theorems.{change-number}
 use Rattle.gained.specs.Parts.{FlagsOf}
 use Rattle.inside_out.specs.Reanalyzed.{ReanalyzedBy, Told}
 use Rattle.repair.specs.Repairs.{InsideOutNumber}

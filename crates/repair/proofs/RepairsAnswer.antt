@@ -24,14 +24,14 @@ use Rattle.writer.specs.declared.WriteAnswer.the-variants.{Written, Refused}
 use Rattle.writer.specs.declared.WriteAnswer.{WriteAnswer}
 use Rattle.reach.specs.Marks.{freshAt}
 use Rattle.edit.specs.Editing.{editedProgram, Applies}
-use Rattle.editline.specs.EditLines.{wantedEdit}
+use Rattle.edit_line.specs.EditLines.{wantedEdit}
 use Rattle.edit.specs.declared.Edit.{Edit}
 use Rattle.edit.specs.declared.EditRead.{EditRead}
 use Rattle.edit.specs.declared.EditRead.the-variants as edit
 use Rattle.edit.proofs.Theorems.{applied-well-formed}
 use Rattle.exchange.specs.Changes.{step, Form, EditLine}
 use Rattle.exchange.specs.Lengths.{workFirst}
-use Rattle.exchangetext.specs.Wanted.{ofEdit, wantedChange}
+use Rattle.exchange_text.specs.Wanted.{ofEdit, wantedChange}
 use Rattle.forward.proofs.ChangedMarks.{edited-sizes}
 use Rattle.forward.specs.Parts.{Repaired}
 use Rattle.repair.specs.Repairs.{After, afterwards, zeroed, ownedBy, changedBy, wantedBy, repairedBy, repaired}

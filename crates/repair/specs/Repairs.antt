@@ -21,7 +21,7 @@ use Rattle.callgraph.specs.Components.{Bits}
 use Rattle.exchange.specs.Changes.{Change, step, whole, ChangeRead, Read, Refused as Denied, Form}
 use Rattle.exchange.specs.Changing.{changedProgram}
 use Rattle.exchange.specs.Lengths.{workFirst, measuredRows}
-use Rattle.exchangetext.specs.Wanted.{wantedChange}
+use Rattle.exchange_text.specs.Wanted.{wantedChange}
 use Rattle.inside_out.specs.Reanalyzed.{ReanalyzedBy}
 use Rattle.repair.specs.declared.RepairAnswer.{RepairAnswer}
 use Rattle.repair.specs.declared.RepairAnswer.the-variants as repair

@@ -16,7 +16,7 @@ use Rattle.reach.specs.Configurations.{number, routineOf, nodeOf, rootOf, state
 use Rattle.reach.specs.Worklist.{lowest, mark, wake, markWhen, summary, onEvent, eventWhen, onReturns, rootWhen, onCall, onLabel, labelWhen, onSteps, wakeRoots, calls, wakeWhen, wakeStates, callerWhen, wakeCallers, learn, takeFrom, takeAt, work, opened, analysisAt}
 use Rattle.reach.specs.Marks.{violationsFrom}
 use Rattle.base.specs.Flags.{countSet}
-use Rattle.editline.specs.EditLines.{editFrom, readEdit, wantedEdit}
+use Rattle.edit_line.specs.EditLines.{editFrom, readEdit, wantedEdit}
 use Rattle.edit.specs.Editing.{hasEdge, without, inserted, editedProgram}
 use Rattle.input.specs.Input.{fileSize}
 use Rattle.report.specs.Report.{blockAt, editsText, benchText}

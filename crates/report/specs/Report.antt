@@ -23,7 +23,7 @@ use Rattle.reach.specs.Configurations.{routineOf, nodeOf, rootOf, stateOf}
 use Rattle.reach.specs.Marks.{freshMarks, violationsFrom}
 use Rattle.base.specs.Flags.{countSet}
 use Rattle.edit.specs.Editing.{editedProgram}
-use Rattle.editline.specs.EditLines.{wantedEdit}
+use Rattle.edit_line.specs.EditLines.{wantedEdit}
 use Rattle.edit.specs.declared.EditRead.{EditRead}
 use Rattle.edit.specs.declared.EditRead.the-variants.{Read, Refused}
 

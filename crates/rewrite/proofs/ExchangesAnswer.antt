@@ -23,7 +23,7 @@ use Rattle.reach.specs.Marks.{freshAt}
 use Rattle.analysis.specs.Answers.{owned}
 use Rattle.exchange.specs.Changes.{Exchange, whole, ChangeRead, Read, Refused as Denied, ExchangeText}
 use Rattle.exchange.specs.Changing.{exchangedProgram}
-use Rattle.exchangetext.specs.ExchangeText.{exchangeUnless}
+use Rattle.exchange_text.specs.ExchangeText.{exchangeUnless}
 use Rattle.exchange.specs.Lengths.{sizesAfter, longer, lengthsOf, lengthRows}
 use Rattle.exchange.specs.Wanted.{Fits}
 use Rattle.exchange.proofs.Theorems.{exchanged-well-formed}

@@ -9,7 +9,7 @@ use Rattle.program.specs.Reading.{Outcome, readFile}
 use Rattle.program.specs.declared.Verdict.{Verdict}
 use Rattle.program.specs.Checks.{firstMet}
 use Rattle.exchange.specs.Changes.{Exchange, step, whole, ChangeRead, Read, Refused}
-use Rattle.exchangetext.specs.ExchangeText.{textLines, exchangeRows, exchangeIn, exchangeUnless, exchangeFrom, wantedExchange}
+use Rattle.exchange_text.specs.ExchangeText.{textLines, exchangeRows, exchangeIn, exchangeUnless, exchangeFrom, wantedExchange}
 use Rattle.rewrite.specs.declared.RoomAnswer.{RoomAnswer}
 use Rattle.rewrite.specs.declared.RoomAnswer.the-variants as room
 use Rattle.rewrite.specs.Room.{roomOf, roomUnless, roomWanted, roomBy, roomAnswer}

@@ -10,7 +10,7 @@ use Rattle.program.specs.Checks.{firstMet}
 use Rattle.program.specs.declared.Verdict.{Verdict}
 use Rattle.program.specs.declared.Verdict.the-variants as verdict
 use Rattle.exchange.specs.Changes.{Exchange}
-use Rattle.exchangetext.specs.ExchangeText.{textLines, exchangeRows, exchangeIn}
+use Rattle.exchange_text.specs.ExchangeText.{textLines, exchangeRows, exchangeIn}
 use Rattle.exchange.specs.Lengths.{sizesAfter, lengthsOf}
 use Rattle.rewrite.specs.declared.RoomAnswer.{RoomAnswer}
 use Rattle.rewrite.specs.declared.RoomAnswer.the-variants as room

@@ -32,13 +32,13 @@ use Rattle.analysis.proofs.AnswersByChecks.{by-marks}
 use Rattle.analysis.proofs.LimitDecides.{enough-accepted}
 use Rattle.analysis.specs.declared.AnalyzeAnswer.the-variants as analyzed
 use Rattle.edit.specs.Editing.{editedProgram}
-use Rattle.editline.specs.EditLines.{wantedEdit}
+use Rattle.edit_line.specs.EditLines.{wantedEdit}
 use Rattle.edit.specs.declared.Edit.{Edit}
 use Rattle.edit.specs.declared.EditRead.{EditRead}
 use Rattle.edit.specs.declared.EditRead.the-variants as read
 use Rattle.edit.proofs.Theorems.{applied-well-formed}
-use Rattle.editline.proofs.Theorems.{wanted-applies}
-use Rattle.exchangetext.specs.Wanted.{ofEdit}
+use Rattle.edit_line.proofs.Theorems.{wanted-applies}
+use Rattle.exchange_text.specs.Wanted.{ofEdit}
 use Rattle.exchange.specs.Changes.{step, EditLine}
 use Rattle.repair.specs.Repairs.{After, checkedRepair, repairedTo, ownedBy, wantedBy, repairedBy, repaired}
 use Rattle.repair.specs.Desk.{Desk, fileBy, after}

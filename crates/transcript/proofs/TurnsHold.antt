@@ -23,12 +23,12 @@ use Rattle.reach.specs.Marks.{freshMarks}
 use Rattle.reach.proofs.ShapeKept.{marks-length}
 use Rattle.analysis.proofs.AnswersByChecks.{same-self}
 use Rattle.edit.specs.Editing.{editedProgram}
-use Rattle.editline.specs.EditLines.{wantedEdit}
+use Rattle.edit_line.specs.EditLines.{wantedEdit}
 use Rattle.edit.specs.declared.EditRead.{EditRead}
 use Rattle.edit.specs.declared.EditRead.the-variants as read
 use Rattle.edit.proofs.Theorems.{applied-well-formed, edited-read}
-use Rattle.editline.proofs.Theorems.{wanted-applies}
-use Rattle.exchangetext.specs.Wanted.{ofEdit}
+use Rattle.edit_line.proofs.Theorems.{wanted-applies}
+use Rattle.exchange_text.specs.Wanted.{ofEdit}
 use Rattle.repair.specs.Repairs.{After, wantedBy, repairedBy, repaired}
 use Rattle.repair.specs.Desk.{Desk, started}
 use Rattle.input.specs.Input.{firstSize, fileSize}

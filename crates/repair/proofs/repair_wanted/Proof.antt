@@ -3,7 +3,7 @@ use Rattle.repair.specs.Repairs.{plain, reanalyzed}
 use lib.Dec.{eqb}
 use Rattle.repair.proofs.RepairsAnswer.{wanted-refused, wanted-read}
 use Rattle.repair.proofs.InsideOutNumbers.{number-unwanted, number-wanted}
-use Rattle.editline.proofs.Theorems.{wanted-applies}
+use Rattle.edit_line.proofs.Theorems.{wanted-applies}
 use Rattle.program.specs.Decoded.{programOf}
 use mathlib.Core.Path.{sym, _∙_}
 use borrow.Author.Needs.{needs}

@@ -2,8 +2,8 @@ use Rattle.rewrite.proofs.ExchangesAnswer.{text-read, text-refused, num
 use Rattle.program.specs.Decoded.{programOf}
 use Rattle.exchange.specs.Changes.{Exchange, whole, ChangeRead, Read, Refused, ExchangeText}
 use Rattle.exchange.specs.Decoded.{exchangeOf}
-use Rattle.exchangetext.specs.Wanted.{wantedChange}
-use Rattle.exchangetext.proofs.Theorems.{wanted-change-applies}
+use Rattle.exchange_text.specs.Wanted.{wantedChange}
+use Rattle.exchange_text.proofs.Theorems.{wanted-change-applies}
 use Rattle.writer.specs.Answers.{refusal}
 use Rattle.repair.specs.Repairs.{wantedBy, plain, reanalyzed, InsideOutNumber}
 use lib.Dec.{eqb}

@@ -1,6 +1,0 @@
-use borrow.Author.Needs.{needs}
-use Rattle.editline.proofs.line.is_bad.Statement.{statement}
-use Rattle.editline.proofs.line.is_bad.Tie as tie
-
-pub is-bad-spec : {M : Type 1} → statement M
-is-bad-spec = tie.close (tie.spec (λ c κs. search needs) (λ c κs. search needs) (λ c. cc))

@@ -1,8 +1,0 @@
-use borrow.Author.Needs.{needs}
-use Rattle.editline.proofs.line.outside.Statement.{statement}
-use Rattle.editline.proofs.line.outside.Tie as tie
-
-pub outside-spec : {M : Type 1} → statement M
-outside-spec =
-    tie.close
-    (tie.spec (λ c κs. search needs) (λ c κs. search needs) (λ c κs. search needs) (λ c κs. search needs) (λ c. cc))

@@ -1,6 +1,0 @@
-use borrow.Author.Needs.{needs}
-use Rattle.exchangetext.proofs.line.is_outside.Statement.{statement}
-use Rattle.exchangetext.proofs.line.is_outside.Tie as tie
-
-pub is-outside-spec : {M : Type 1} → statement M
-is-outside-spec = tie.close (tie.spec (λ c κs. search needs) (λ c κs. search needs) (λ c. cc))
