@@ -28,8 +28,8 @@ pub record Keeps (Z : Sizes) (wanted p : Program) (old marks work : List ℕ) : 
 
 -- ---- an edit, forward
 
--- what is asked of the marks: of a drop no more than their length, since they are kept from, whosever they are; else
--- they are the program's own (17)
+-- what is asked of the marks: by a drop no more than their length, since it keeps of any marks, the program's own or
+-- not; by an add and by a replace that they are the program's own (17)
 abbrev pub LentForward : Edit → Sizes → Program → List ℕ → Type 0
 LentForward (Add s) Z p marks = marks ≡ freshAt Z p
 LentForward (Drop s) Z p marks = length marks ≡ numbers Z
