@@ -75,8 +75,32 @@ fn keep_starts(z: Sizes, initial: &[u8; MAX_STATES], marks: &[u8], kept: &mut [u
     }
 }
 
-// Keeps the configuration of number i, if it is marked, not yet kept, and supported. Says whether it did. `part` has
-// the edges of its routine: hence the `requires`.
+// Whether the configuration of number i is to be kept next: it is marked, not yet kept, and supported by what is kept.
+// `part` has the edges of its routine: hence the `requires`.
+fn is_next(
+    z: Sizes,
+    keys: &[u32],
+    part: &[u32],
+    next: &[u16],
+    marks: &[u8],
+    kept: &[u8],
+    i: usize,
+) -> bool
+    requires { ⌜ Usable z × Admitted z × (i < numbers z) × PartOf (now keys) (routineOf z i) (now part) ⌝ }
+    requires { ⌜ (length (now marks) ≡ numbers z) × (length (now kept) ≡ numbers z) ⌝ }
+    ensures { λ y. ⌜ y ≡ keepsAt z (now (keys .entry)) (now (next .entry)) (now (marks .entry)) (now (kept .entry)) i ⌝ }
+{
+    if marks[i] == 0 {
+        return false;
+    }
+    if kept[i] != 0 {
+        return false;
+    }
+    has_support(z, keys, part, next, kept, parts_of(z, i))
+}
+
+// Keeps the configuration of number i, if it is the next to be kept. Says whether it did. `part` has the edges of its
+// routine: hence the `requires`.
 fn keep_at(
     z: Sizes,
     keys: &[u32],
@@ -91,13 +115,7 @@ fn keep_at(
     ensures { λ y. ⌜ (y ≡ keepsAt z (now (keys .entry)) (now (next .entry)) (now (marks .entry)) (now (kept .entry)) i)
         × (now (kept .exit) ≡ cond y (set (now (kept .entry)) i 1) (now (kept .entry))) ⌝ }
 {
-    if marks[i] == 0 {
-        return false;
-    }
-    if kept[i] != 0 {
-        return false;
-    }
-    if has_support(z, keys, part, next, kept, parts_of(z, i)) {
+    if is_next(z, keys, part, next, marks, kept, i) {
         kept[i] = 1;
         return true;
     }

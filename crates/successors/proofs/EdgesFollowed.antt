@@ -5,15 +5,21 @@ use mathlib.Core.Bool.{true, false}
 use mathlib.Core.List.{List}
 use lib.ListN.{getD}
 use borrow.Author.Tests.{lt-ltb, le-ltb}
+use Rattle.automaton.specs.NextStates.{setAt}
 use Rattle.index.specs.Index.{leaves}
 use Rattle.program.specs.Sizes.{maxRoutines}
 use Rattle.program.specs.Program.{isCall, calledBy}
 use Rattle.program.specs.Decoded.{edgeOf}
 use Rattle.reach.specs.Configurations.{number}
 use Rattle.reach.specs.Worklist.{Worklist}
-use Rattle.marking.specs.Parts.{Becomes}
+use Rattle.marking.specs.Parts.{Becomes, each, markState}
 use Rattle.successors.specs.Parts.{moveStep, callStep, labelStep, edgeStep}
 use Rattle.program.specs.declared.sizes.Sizes.{Sizes}
+
+-- the set of a look is marked: the state that was asked for is x
+pub move-from : (states : ℕ) (next : List ℕ) (base l : ℕ) {x y set : ℕ} {m w m′ w′ : List ℕ} → set ≡ setAt next y l → y ≡ x
+    → Becomes (each (markState set base) states 0) m w m′ w′ → Becomes (moveStep states next base x l) m w m′ w′
+move-from states next base l e h b = rw (e, h) at b
 
 module _ (Z : Sizes) where
   module _ (next known : List ℕ) (base q label : ℕ) {m w : List ℕ} where

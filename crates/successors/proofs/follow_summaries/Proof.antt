@@ -1,5 +1,6 @@
 -- `successors::follow_summaries` meets its contract. The loop's invariant: the states from `s` on are left to try.
 use Rattle.base.specs.Flags.{isSet}
+use Rattle.automaton.specs.Automaton.{returnOf}
 use Rattle.words.specs.Words.{flagsOf}
 use Rattle.reach.specs.Worklist.{summary}
 use Rattle.reach.proofs.Numbers.{summary-state}
@@ -7,6 +8,7 @@ use Rattle.successors.specs.Parts.{summaryStep}
 use Rattle.marking.proofs.StepsMark.{Looping, loop-start, loop-turn, loop-skip, loop-idle}
 use Rattle.marking.proofs.StatesTaken.{Leaving, Answered, leaving-all, leaving-next, found-state, tests-passed, tests-over}
 use Rattle.marking.proofs.StepsChosen.{step-taken}
+use Rattle.successors.proofs.EdgesFollowed.{move-from}
 use mathlib.Core.Path.{sym, ap, _∙_}
 use native.Mathlib.Omega.{arith}
 use Prim.Native.Nat.{ℕ, _+_, _-_, _<_}
@@ -75,6 +77,7 @@ loop-again : tie.Need-loop-again Inv-loop μ-loop
 loop-again c =
     let k = tried c .before in
     let p = k .before .before in
+    let a = start p .args in
     let l = p .loop .inv .1 in
     let low = k .lowest-state .ensures in
     let x = p .loop .s + k .lowest-state .result in
@@ -83,7 +86,7 @@ loop-again c =
     let looked = c .before .before .before .before .before .before .before in
     let t = answered p .answered x h ∙ found-state l low (k .before .loop-test .taken) in (
       loop-turn (loop-skip (p .loop .inv .0) (omega arith) (omega arith) (tests-passed (answered p) l _ low (omega arith) (omega arith))) h
-          (step-taken _ t (rw (looked .next-after .ensures, looked .before .narrow .ensures) at (m .ensures .0))) (m .ensures .1) (m .kept .1 .1 .0) (m .kept .1 .1 .1 .0),
+          (step-taken _ t (move-from (a .z .states) (a .next .now) (a .base) (returnOf (a .g)) (looked .next-after .ensures) (looked .before .narrow .ensures) (m .ensures .0))) (m .ensures .1) (m .kept .1 .1 .0) (m .kept .1 .1 .1 .0),
       leaving-next l low,
     )
 
