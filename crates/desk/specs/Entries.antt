@@ -24,6 +24,7 @@ use Rattle.repair.specs.Repairs.{After, repaired, InsideOutNumber}
 use Rattle.rewrite.specs.Room.{roomAnswer, roomRefusal, roomLine, roomNodes, roomMarks, roomWork}
 use Rattle.rewrite.specs.declared.RoomAnswer.{RoomAnswer}
 use Rattle.answers.specs.Told.{told}
+use Rattle.rows.specs.Rows.{Pair}
 
 pub data Entry : Type 0 where
   read : Entry
@@ -68,8 +69,12 @@ pub record Values : Type 0 where
   pub configurations : ℕ
   pub violations : ℕ
   pub iterations : ℕ
-  -- the number of a violation; 4294967295 says that there is none
+  -- the number of a configuration that was sought; 4294967295 says that there is none
   pub found : ℕ
+  -- the place of an edge among the file's
+  pub edge : ℕ
+  -- the pair of a state and an action that a table of rows is refused for
+  pub pair : Pair
   -- the reanalyzed routines (paper: reopened), bit f for routine f
   pub reanalyzed : ℕ
   pub room : Room
@@ -104,6 +109,9 @@ hasWork exchange-inside-out = true
 abbrev pub noRoom : Room
 noRoom = record { routines = 0; nodes = 0; states = 0; marks = 0; work = 0 }
 
+abbrev pub noPair : Pair
+noPair = record { state = 0; action = 0 }
+
 abbrev pub noValues : Values
 noValues = record {
   written = 0;
@@ -111,6 +119,8 @@ noValues = record {
   violations = 0;
   iterations = 0;
   found = 0;
+  edge = 0;
+  pair = noPair;
   reanalyzed = 0;
   room = noRoom;
 }
@@ -122,6 +132,8 @@ counts c v i = record {
   violations = v;
   iterations = i;
   found = 0;
+  edge = 0;
+  pair = noPair;
   reanalyzed = 0;
   room = noRoom;
 }
@@ -133,6 +145,8 @@ finding i = record {
   violations = 0;
   iterations = 0;
   found = i;
+  edge = 0;
+  pair = noPair;
   reanalyzed = 0;
   room = noRoom;
 }
@@ -144,6 +158,8 @@ repairing size routines = record {
   violations = 0;
   iterations = 0;
   found = 0;
+  edge = 0;
+  pair = noPair;
   reanalyzed = routines;
   room = noRoom;
 }
@@ -155,6 +171,8 @@ sizing routines nodes states marks work = record {
   violations = 0;
   iterations = 0;
   found = 0;
+  edge = 0;
+  pair = noPair;
   reanalyzed = 0;
   room = record { routines = routines; nodes = nodes; states = states; marks = marks; work = work };
 }
