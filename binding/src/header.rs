@@ -5,6 +5,13 @@
 #[link(name = "desk", kind = "static", modifiers = "-bundle")]
 extern "C" {
     pub fn palthrenni_read(file: *const u8, file_len: usize, line: *mut u32) -> u32;
+    pub fn palthrenni_faulty_pair(
+        file: *const u8,
+        file_len: usize,
+        line: *mut u32,
+        state: *mut u32,
+        action: *mut u32,
+    ) -> u32;
     pub fn palthrenni_sizes(
         file: *const u8,
         file_len: usize,
@@ -45,6 +52,18 @@ extern "C" {
         from: u32,
         line: *mut u32,
         found: *mut u32,
+    ) -> u32;
+    pub fn palthrenni_next_blocked(
+        file: *const u8,
+        file_len: usize,
+        marks: *const u8,
+        marks_len: usize,
+        work: *mut u8,
+        work_len: usize,
+        from: u32,
+        line: *mut u32,
+        found: *mut u32,
+        edge: *mut u32,
     ) -> u32;
     pub fn palthrenni_prune(
         file: *const u8,

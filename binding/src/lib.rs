@@ -87,6 +87,10 @@ pub fn read(file: Option<&[u8]>) -> Answer<0> {
     answer!(palthrenni_read(file;;))
 }
 
+pub fn faulty_pair(file: Option<&[u8]>) -> Answer<2> {
+    answer!(palthrenni_faulty_pair(file;; state, action))
+}
+
 pub fn sizes(file: Option<&[u8]>) -> Answer<4> {
     answer!(palthrenni_sizes(file;; routines, places, states, marks_size))
 }
@@ -111,6 +115,15 @@ pub fn next_violation(
     from: u32,
 ) -> Answer<1> {
     answer!(palthrenni_next_violation(file, marks, work; from; found))
+}
+
+pub fn next_blocked(
+    file: Option<&[u8]>,
+    marks: Option<&[u8]>,
+    work: Option<&mut [u8]>,
+    from: u32,
+) -> Answer<2> {
+    answer!(palthrenni_next_blocked(file, marks, work; from; found, edge))
 }
 
 pub fn prune(file: Option<&[u8]>, marks: Option<&mut [u8]>, work: Option<&mut [u8]>) -> Answer<0> {

@@ -18,18 +18,16 @@ use reference::generate::programs::{
 };
 use reference::generate::random::Random;
 use reference::generate::shapes::SHAPES;
-use reference::generate::sheets::{foreign, wrong_lengths, FOREIGN};
+use reference::generate::sheets::FOREIGN;
 use reference::generate::size_classes::MetSizes;
 use reference::generate::tables::{complete_file, file_with_rows_of_seed};
-use reference::model::analysis::{self, Analysis, Analyzed, NONE};
+use reference::model::analysis::{self, Analysis, NONE};
 use reference::model::calls::sheets::{analyze_answer, next_answer, Counts, NO_LIMIT};
 use reference::model::calls::Answer;
-use reference::model::file::{self, Reading};
 use reference::model::refusals::{
     BAD_LINE, FOREIGN_SHEET, GAVE_UP, PAIR_MET_TWICE, PAIR_NOT_MET, SHEET_LENGTH, SHEET_TOO_LARGE,
     WORK_LENGTH,
 };
-use reference::model::standing::MOST_SHEET;
 use reference::model::write::{write, OUTPUT_SIZE};
 
 /// How often each refusal and each outcome has to be met, so that agreeing on it means something.
@@ -71,53 +69,16 @@ struct Tally {
     limits: MetLimits,
 }
 
-/// One file with the reference's answer, and where all that varies comes from.
-struct Case {
-    name: String,
-    file: Vec<u8>,
-    reading: Reading,
-    analyzed: Analyzed,
-    random: Random,
+type Case = desk::case::Case<Analysis>;
+
+/// A file with its analysis.
+fn case(name: String, file: Vec<u8>, seed: u64) -> Case {
+    Case::new(name, file, seed, analysis::analyze)
 }
 
-impl Case {
-    fn new(name: String, file: Vec<u8>, seed: u64) -> Case {
-        let reading = file::read(&file);
-        Case {
-            name,
-            analyzed: analysis::analyze_reading(&reading),
-            reading,
-            file,
-            random: Random::new(!seed),
-        }
-    }
-
-    fn input(&self) -> String {
-        format!("{}: {}", self.name, self.file.escape_ascii())
-    }
-
-    fn analysis(&self) -> Option<&Analysis> {
-        self.analyzed.as_ref().ok()
-    }
-
-    /// How long its buffers have to be. Where the file is refused, any length will do.
-    fn length(&mut self) -> usize {
-        match &self.analyzed {
-            Ok(analysis) => analysis.sheet.len(),
-            Err(_) => self.random.pick(&[2, 54, MOST_SHEET]),
-        }
-    }
-
-    /// A buffer of that length.
-    fn lent(&mut self) -> Lent {
-        let length = self.length();
-        Lent::of_length(&mut self.random, length)
-    }
-
-    /// The takings, 0 where the file is refused.
-    fn takings(&self) -> u32 {
-        self.analysis().map_or(0, |analysis| analysis.takings)
-    }
+/// The takings, 0 where the file is refused.
+fn takings(case: &Case) -> u32 {
+    case.known.as_ref().map_or(0, |analysis| analysis.takings)
 }
 
 /// Works the file afresh with both, up to a limit.
@@ -132,11 +93,11 @@ fn compare_analyze(
         &format!("{}, limit {limit}", case.name),
         &Lending::sheet(&case.file, marks, work),
         |file, lent| desk::analyze(file, lent.sheet, lent.work, limit),
-        |lent| analyze_answer(&case.analyzed, lent.sheet, lent.work, limit),
+        |lent| analyze_answer(&case.known, lent.sheet, lent.work, limit),
     );
     tally.analyzed.note(answer.refusal);
     tally.calls += 1;
-    if let Some(analysis) = case.analysis() {
+    if let Ok(analysis) = &case.known {
         tally.limits.note(limit, analysis.takings, answer.refusal);
     }
     answer
@@ -145,8 +106,8 @@ fn compare_analyze(
 /// Works the file afresh with both up to limits about its count of takings, each time in other buffers;
 /// up to one of these where it takes long or the file is refused.
 fn compare_limits(case: &mut Case, tally: &mut Tally) {
-    let takings = case.takings();
-    let limits = match &case.analyzed {
+    let takings = takings(case);
+    let limits = match &case.known {
         Ok(analysis) if analysis.standings() <= MANY_STANDINGS => {
             limits::about(&mut case.random, takings)
         }
@@ -170,7 +131,7 @@ fn compare_next(
         &format!("{}, from {from}", case.name),
         &Lending::sheet(&case.file, marks, work),
         |file, lent| desk::next_violation(file, lent.sheet, lent.work, from),
-        |lent| next_answer(&case.analyzed, lent.sheet, lent.work, from),
+        |lent| next_answer(&case.known, lent.sheet, lent.work, from),
     );
     let found = answer.value;
     tally.asked.note(answer.refusal);
@@ -185,41 +146,22 @@ fn compare_next(
 
 /// Calls with buffers of any length, at least one of them a wrong one.
 fn compare_wrong_lengths(case: &mut Case, tally: &mut Tally) {
-    let right = case.length();
-    let (marks, work) = wrong_lengths(&mut case.random, right);
-    let marks = Lent::of_length(&mut case.random, marks);
-    let work = Lent::of_length(&mut case.random, work);
-    let from = some_number(&mut case.random, &[]);
-    let takings = case.takings();
+    let (marks, work) = case.lent_wrongly();
+    let from = case.some_number(&[]);
+    let takings = takings(case);
     let limit = limits::some(&mut case.random, takings);
     compare_analyze(case, &marks, &work, limit, tally);
     compare_next(case, &marks, &work, from, tally);
 }
 
-/// A number to ask from: the lowest, at a finding or beside it, at the end of a sheet and beyond.
-fn some_number(random: &mut Random, findings: &[u32]) -> u32 {
-    let finding = match findings.len() {
-        0 => random.below(MOST_SHEET) as u32,
-        count => findings[random.below(count)],
-    };
-    let last = findings.last().map_or(0, |&last| last + 1);
-    let any = random.number() as u32;
-    let below = finding.saturating_sub(1);
-    let near = random.pick(&[finding, finding, finding + 1, below, last, 0]);
-    let far = random.pick(&[0, 16_383, 16_384, 16_385, 65_536, NONE - 1, NONE, any]);
-    random.pick(&[near, near, far])
-}
-
 /// Asks with a sheet that is not the program's own.
 fn compare_foreign(case: &mut Case, own: &[u8], way: usize, tally: &mut Tally) {
-    let program = case.reading.as_ref().expect("the file is accepted");
-    let sheet = match foreign(&mut case.random, program, own, way) {
-        Some(sheet) => sheet,
+    let marks = match case.foreign(own, way) {
+        Some(marks) => marks,
         None => return,
     };
-    let marks = Lent::new(&mut case.random, &sheet);
     let work = case.lent();
-    let from = some_number(&mut case.random, &[]);
+    let from = case.some_number(&[]);
     let answer = compare_next(case, &marks, &work, from, tally);
     assert_eq!(answer.refusal, FOREIGN_SHEET);
     tally.foreign[way] += 1;
@@ -230,7 +172,7 @@ fn compare_own(case: &mut Case, analysis: &Analysis, times: usize, tally: &mut T
     let marks = Lent::new(&mut case.random, &analysis.sheet);
     for _ in 0..times {
         let work = case.lent();
-        let from = some_number(&mut case.random, &analysis.findings);
+        let from = case.some_number(&analysis.findings);
         compare_next(case, &marks, &work, from, tally);
     }
     if analysis.standings() <= MANY_STANDINGS && analysis.findings.len() <= LONG_LIST {
@@ -259,26 +201,26 @@ fn compare(case: &mut Case, tally: &mut Tally) {
     compare_limits(case, tally);
     compare_wrong_lengths(case, tally);
     let way = case.random.below(FOREIGN);
-    match case.analysis().cloned() {
-        None => {
-            let from = some_number(&mut case.random, &[]);
+    match case.known.clone() {
+        Err(_) => {
+            let from = case.some_number(&[]);
             compare_next(case, &marks, &work, from, tally);
         }
-        Some(analysis) if answer.value.standings > MANY_STANDINGS => {
+        Ok(analysis) if answer.value.standings > MANY_STANDINGS => {
             if case.random.percent(50) {
                 compare_own(case, &analysis, 1, tally);
             } else {
                 compare_foreign(case, &analysis.sheet, way, tally);
             }
         }
-        Some(analysis) => {
+        Ok(analysis) => {
             compare_own(case, &analysis, 2, tally);
             compare_foreign(case, &analysis.sheet, way, tally);
             compare_foreign(case, &analysis.sheet, (way + 1) % FOREIGN, tally);
         }
     }
     note(&answer, tally);
-    if let (Ok(program), Ok(analysis)) = (&case.reading, &case.analyzed) {
+    if let (Ok(program), Ok(analysis)) = (&case.reading, &case.known) {
         tally.hearing.note(program, &analysis.sheet);
     }
     tally.classes.note(&case.file, &case.reading);
@@ -301,7 +243,7 @@ fn compare_seeds(what: &str, seeds: u64, file: impl Fn(u64) -> Vec<u8>) -> Tally
     let mut tally = Tally::default();
     for seed in 0..seeds {
         let name = format!("{what} {seed}");
-        compare(&mut Case::new(name, file(seed), seed), &mut tally);
+        compare(&mut case(name, file(seed), seed), &mut tally);
     }
     println!("{what} of each seed: {tally:?}");
     tally
@@ -383,10 +325,10 @@ fn every_shape_agrees() {
             let random = &mut Random::new(seed);
             let program = program_of_shape(random, shape);
             let name = format!("{shape:?}, seed {seed}");
-            compare(&mut Case::new(name, write(&program), seed), &mut tally);
+            compare(&mut case(name, write(&program), seed), &mut tally);
             let name = format!("{shape:?} with rows, seed {seed}");
             let file = complete_file(random, &program);
-            compare(&mut Case::new(name, file, seed), &mut tally);
+            compare(&mut case(name, file, seed), &mut tally);
         }
     }
     for (name, hub) in [
@@ -395,7 +337,7 @@ fn every_shape_agrees() {
         ("hub of most roots", hub_of_most_roots()),
         ("hub without returns", hub_without_returns()),
     ] {
-        let mut hub = Case::new(name.to_string(), write(&hub), 0);
+        let mut hub = case(name.to_string(), write(&hub), 0);
         compare(&mut hub, &mut tally);
     }
     println!("shapes: {tally:?}");
@@ -404,8 +346,8 @@ fn every_shape_agrees() {
 #[test]
 fn named_files_agree() {
     let mut tally = Tally::default();
-    for (place, case) in cases::files::all().into_iter().enumerate() {
-        let mut case = Case::new(case.name, case.file, place as u64);
+    for (place, named) in cases::files::all().into_iter().enumerate() {
+        let mut case = case(named.name, named.file, place as u64);
         compare(&mut case, &mut tally);
     }
     println!("named files: {tally:?}");

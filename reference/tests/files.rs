@@ -12,9 +12,10 @@ use reference::generate::damage::{lines_of, one_byte_wrong};
 use reference::generate::files::file_of_seed;
 use reference::generate::label_classes::MetLabels;
 use reference::generate::met::Met;
+use reference::generate::pair_classes::{MetPairs, PairClass};
 use reference::generate::size_classes::MetSizes;
 use reference::generate::tables::{file_with_rows_of_seed, has_rows};
-use reference::model::calls::files::{read_answer, write_answer};
+use reference::model::calls::files::{faulty_pair_answer, read_answer, write_answer, FaultyPair};
 use reference::model::calls::sizes::sizes_answer;
 use reference::model::calls::Answer;
 use reference::model::file::{self, Reading};
@@ -41,6 +42,7 @@ struct Tally {
     lines_with_two_faults: usize,
     /// Files with rows.
     classes: MetClasses,
+    pairs: MetPairs,
     /// Labels of rule lines and steps.
     labels: MetLabels,
     sizes: MetSizes,
@@ -59,6 +61,12 @@ fn compare(name: &str, file: &[u8], tally: &mut Tally) {
     lent::compare(
         name,
         &Lending::file(file),
+        |file, _| desk::faulty_pair(file),
+        |_| faulty_pair_answer(&reading),
+    );
+    lent::compare(
+        name,
+        &Lending::file(file),
         |file, _| desk::sizes(file),
         |_| sizes_answer(&reading),
     );
@@ -72,6 +80,7 @@ fn compare(name: &str, file: &[u8], tally: &mut Tally) {
     }
     tally.files += 1;
     tally.classes.note(file, &reading);
+    tally.pairs.note(file, &reading);
     tally.labels.note(file, &reading);
     tally.sizes.note(file, &reading);
     let two_faults = matches!(reading, Err(refusal) if refusal.faults.len() > 1);
@@ -124,6 +133,20 @@ fn named_cases_agree_with_the_answers_worked_out_by_hand() {
 }
 
 #[test]
+fn faulty_tables_have_the_pairs_worked_out_by_hand() {
+    for table in cases::tables::faulty() {
+        let answer = desk::faulty_pair(&table.file);
+        assert_eq!((answer.refusal, answer.line), (table.refusal, 0));
+        let (state, action) = table.pair;
+        let wanted = FaultyPair {
+            state: state.into(),
+            action: action.into(),
+        };
+        assert_eq!(answer.value, wanted, "{}", table.name);
+    }
+}
+
+#[test]
 fn files_of_many_seeds_agree() {
     let mut tally = Tally::default();
     for seed in 0..SEEDS {
@@ -139,6 +162,7 @@ fn files_of_many_seeds_agree() {
     tally.met.check((0..=FILE_END).chain(refusals), OFTEN);
     tally.labels.check(OFTEN);
     tally.sizes.check(OFTEN);
+    assert!(tally.pairs.times(PairClass::InLines) >= OFTEN, "{tally:?}");
     assert!(tally.lines_with_two_faults >= OFTEN, "{tally:?}");
 }
 
@@ -157,6 +181,7 @@ fn files_with_rows_of_many_seeds_agree() {
     let refusals = [OUTPUT_SHORT, PAIR_NOT_MET, PAIR_MET_TWICE, SHEET_TOO_LARGE];
     tally.met.check((0..=FILE_END).chain(refusals), OFTEN);
     tally.classes.check(30);
+    tally.pairs.check(30);
     assert!(tally.classes.files >= 10_000, "{tally:?}");
 }
 
@@ -309,6 +334,7 @@ fn the_largest_file_with_rows_fills_the_least_output_too() {
 #[test]
 fn buffers_of_no_bytes_may_be_null() {
     assert_eq!(binding::read(None), desk::refused(8, 1));
+    assert_eq!(binding::faulty_pair(None), desk::refused(8, 1));
     assert_eq!(binding::sizes(None), desk::refused(8, 1));
     assert_eq!(binding::exchange_sizes(None, None), desk::refused(8, 1));
     assert_eq!(binding::write(None, None), desk::refused(8, 1));

@@ -7,10 +7,11 @@
 //!   refusal; `tables` has the files with rows, what they are written as, and repairs of one of them.
 //! - `analyses`, `keepings` and `repairs` have what these calls leave; what exchanges leave stands with
 //!   their texts. `heard` has all of these for rules that hear calls and returns. `limits` has fresh
-//!   workings with a limit on the takings.
+//!   workings with a limit on the takings, and `blocked` has where runs are cut off.
 //! - `inputs` has inputs of `bench`.
 
 pub mod analyses;
+pub mod blocked;
 pub mod edits;
 pub mod exchanges;
 pub mod files;

@@ -2,7 +2,7 @@
 //!
 //! A file's classes are read off its lines and off its reading, whatever it was made for.
 
-use crate::generate::met::Times;
+use crate::generate::met::{holding, Times};
 use crate::model::file::Reading;
 use crate::model::kinds::{frames, ROW, RULE, SIZES};
 use crate::model::lines::{lines, numbers_of_kind, numbers_of_line, starts_with_kind};
@@ -159,17 +159,11 @@ fn judged_lines<'a>(file: &'a [u8], reading: &Reading) -> Vec<&'a [u8]> {
 }
 
 /// The rows among these lines of a file with so many states, as far as they are well-formed.
-fn rows(lines: &[&[u8]], states: u8) -> Vec<Row> {
+pub fn rows(lines: &[&[u8]], states: u8) -> Vec<Row> {
     let kinds = frames(states);
     let frames = lines.iter().flat_map(|line| numbers_of_kind(&kinds, line));
     let rows = frames.filter(|frame| frame[0] == ROW);
     rows.map(|frame| Row::of_numbers(&frame[1..])).collect()
-}
-
-/// Those of the classes that hold.
-fn holding(classes: &[(bool, Class)]) -> Vec<Class> {
-    let holding = classes.iter().filter(|(holds, _)| *holds);
-    holding.map(|&(_, class)| class).collect()
 }
 
 fn accepted(file: &[u8], program: &Program, rows: &[Row]) -> Vec<Class> {
@@ -191,7 +185,7 @@ fn accepted(file: &[u8], program: &Program, rows: &[Row]) -> Vec<Class> {
 
 /// The classes of a refused file. The last of the judged lines decides, unless the table does.
 fn refused(file: &[u8], refusal: &FileRefusal, judged: &[&[u8]]) -> Vec<Class> {
-    let mut classes = holding(&[(file.len() > OUTPUT_SIZE, LongAndRefused)]);
+    let mut classes: Vec<Class> = holding(&[(file.len() > OUTPUT_SIZE, LongAndRefused)]);
     let sizes = match judged.first().and_then(|line| numbers_of_line(line)) {
         Some(sizes) if sizes.len() == 4 && sizes[0] == SIZES => sizes,
         _ => return classes,

@@ -4,7 +4,7 @@
 //! Most of the classes are read off what can occur: a call counts where some standing on the program's
 //! own sheet comes to it, and a return where a routine that was so called ends.
 
-use crate::generate::met::Times;
+use crate::generate::met::{holding, Times};
 use crate::model::groups::calls;
 use crate::model::moves::Moves;
 use crate::model::program::{Event, Program, EXIT};
@@ -107,12 +107,6 @@ pub fn classes(program: &Program, own: &[u8]) -> BTreeSet<Heard> {
 }
 
 type States = BTreeSet<u8>;
-
-/// Those of the classes that hold.
-fn holding(classes: &[(bool, Heard)]) -> BTreeSet<Heard> {
-    let holding = classes.iter().filter(|(holds, _)| *holds);
-    holding.map(|&(_, class)| class).collect()
-}
 
 /// The classes that go by the labels of rule lines and steps alone.
 fn by_labels(program: &Program, moves: &Moves) -> BTreeSet<Heard> {

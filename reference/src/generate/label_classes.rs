@@ -3,7 +3,7 @@
 //!
 //! Of an accepted file the rule counts; of a refused one the line that decides.
 
-use crate::generate::met::Times;
+use crate::generate::met::{holding, Times};
 use crate::model::file::Reading;
 use crate::model::kinds::{FRAMES, RULE, SIZES, STEP};
 use crate::model::lines::{lines, numbers_of_kind};
@@ -77,12 +77,6 @@ impl MetLabels {
     pub fn check(&self, least: usize) {
         self.times.check(ALL, least);
     }
-}
-
-/// Those of the classes that hold.
-fn holding(classes: &[(bool, LabelClass)]) -> Vec<LabelClass> {
-    let holding = classes.iter().filter(|(holds, _)| *holds);
-    holding.map(|&(_, class)| class).collect()
 }
 
 fn accepted(program: &Program) -> Vec<LabelClass> {

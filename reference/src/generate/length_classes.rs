@@ -3,7 +3,7 @@
 //!
 //! A call's classes are read off the lengths and the answer, whatever they were made for.
 
-use crate::generate::met::Times;
+use crate::generate::met::{holding, Times};
 use crate::model::change::{changed_by_text, Form};
 use crate::model::program::Program;
 use crate::model::refusals::{FOREIGN_SHEET, SHEET_LENGTH, SHEET_TOO_LARGE, WORK_LENGTH};
@@ -122,12 +122,6 @@ pub fn classes(
         0 => holding(&[(longer, Longer), (shorter, Shorter), (new == old, AsLong)]),
         _ => Vec::new(),
     }
-}
-
-/// Those of the classes that hold.
-fn holding(classes: &[(bool, LengthClass)]) -> Vec<LengthClass> {
-    let holding = classes.iter().filter(|(holds, _)| *holds);
-    holding.map(|&(_, class)| class).collect()
 }
 
 #[cfg(test)]

@@ -4,6 +4,12 @@ use crate::model::refusals::ANSWERS;
 use std::collections::BTreeMap;
 use std::fmt::Debug;
 
+/// Those of the classes that hold.
+pub fn holding<K: Copy, C: FromIterator<K>>(classes: &[(bool, K)]) -> C {
+    let holding = classes.iter().filter(|(holds, _)| *holds);
+    holding.map(|&(_, class)| class).collect()
+}
+
 /// How often each number was answered, 0 where nothing was refused.
 #[derive(Clone, Debug, Default, PartialEq, Eq)]
 pub struct Met {

@@ -11,10 +11,12 @@
 //!   damage to these.
 //! - `sheets` makes sheets, `limits` makes limits of fresh workings, `calls` makes the calls of a list,
 //!   and `inputs` makes inputs of `bench`.
-//! - `met` counts what they have met: refusals, the `classes` of files with rows, the `size_classes` of
-//!   files, the `label_classes` of rule lines and steps, the `hearing` of rules, and of exchanges the
-//!   `text_classes` and the `length_classes` of what is lent to them.
+//! - `met` counts what they have met: refusals, the `classes` of files with rows, the `pair_classes` of
+//!   files by the first faulty pair of their table, the `size_classes` of files, the `label_classes` of rule lines and steps, the `hearing` of rules, the `blocked_classes` of
+//!   programs by where runs are cut off, and of exchanges the `text_classes` and the `length_classes` of
+//!   what is lent to them.
 
+pub mod blocked_classes;
 pub mod calls;
 pub mod classes;
 pub mod damage;
@@ -27,6 +29,7 @@ pub mod label_classes;
 pub mod length_classes;
 pub mod limits;
 pub mod met;
+pub mod pair_classes;
 pub mod programs;
 pub mod random;
 pub mod row_damage;

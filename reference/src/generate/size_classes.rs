@@ -2,7 +2,7 @@
 //!
 //! Of an accepted file the program counts; of a refused one the line that decides, or its sizes.
 
-use crate::generate::met::Times;
+use crate::generate::met::{holding, Times};
 use crate::generate::shapes::room_for_places;
 use crate::model::file::Reading;
 use crate::model::kinds::{ROUTINE, RULE, SIZES};
@@ -94,12 +94,6 @@ impl MetSizes {
     pub fn check_accepted(&self, least: usize) {
         self.times.check(ACCEPTED, least);
     }
-}
-
-/// Those of the classes that hold.
-fn holding(classes: &[(bool, SizeClass)]) -> Vec<SizeClass> {
-    let holding = classes.iter().filter(|(holds, _)| *holds);
-    holding.map(|&(_, class)| class).collect()
 }
 
 fn accepted(program: &Program) -> Vec<SizeClass> {

@@ -275,10 +275,12 @@ mod tests {
     use super::*;
     use crate::generate::classes::MetClasses;
     use crate::generate::met::Met;
+    use crate::generate::pair_classes::MetPairs;
     use crate::model::file::read;
     use crate::model::program::{Event, RuleLine};
     use crate::model::refusals::{FILE_END, PAIR_MET_TWICE, PAIR_NOT_MET, SHEET_TOO_LARGE};
-    use crate::model::table::pairs;
+    use crate::model::table::{pairs, rule_of_rows};
+    use std::collections::BTreeMap;
 
     #[test]
     fn complete_tables_are_accepted_with_a_line_for_each_pair() {
@@ -324,17 +326,56 @@ mod tests {
         }
     }
 
+    /// How often each pair is met, counted row by row.
+    fn times_met(rows: &BTreeSet<Row>, program: &Program) -> BTreeMap<Pair, usize> {
+        let all = pairs(program.states, program.actions);
+        let mut times: BTreeMap<Pair, usize> = all.map(|pair| (pair, 0)).collect();
+        for line in rows.iter().flat_map(lines_of_row) {
+            let pair = (line.from, line.event.number());
+            *times.entry(pair).or_default() += 1;
+        }
+        times
+    }
+
+    #[test]
+    fn the_first_faulty_pair_is_the_first_that_is_not_met_once() {
+        let mut met = Met::default();
+        for seed in 0..1000 {
+            let random = &mut Random::new(seed);
+            let program = some_program(random);
+            let rows = complete_rows(random, program.states, program.actions);
+            let rows = with_fault(random, rows, &program);
+            let rows = with_fault(random, rows, &program);
+            let times = times_met(&rows, &program);
+            let wanted = times.iter().find(|(_, &times)| times != 1);
+            let wanted = wanted.map(|(&pair, &times)| match times {
+                0 => (PAIR_NOT_MET, pair),
+                _ => (PAIR_MET_TWICE, pair),
+            });
+            let rows: Vec<Row> = rows.into_iter().collect();
+            let given = rule_of_rows(&rows, program.states, program.actions);
+            assert_eq!(given.err(), wanted, "seed {seed}");
+            met.note(wanted.map_or(0, |(refusal, _)| refusal));
+        }
+        println!("{met:?}");
+        met.check([0], 5);
+        met.check([PAIR_NOT_MET, PAIR_MET_TWICE], 200);
+    }
+
     #[test]
     fn the_files_of_the_seeds_meet_every_class_and_every_refusal() {
         let (mut classes, mut met) = (MetClasses::default(), Met::default());
+        let mut pairs = MetPairs::default();
         for seed in 0..5000 {
             let file = file_with_rows_of_seed(seed);
             let reading = read(&file);
             classes.note(&file, &reading);
+            pairs.note(&file, &reading);
             met.note(reading.map_or_else(|refusal| refusal.number(), |_| 0));
         }
-        println!("{met:?}, {classes:?}");
+        println!("{met:?}, {classes:?}, {pairs:?}");
         classes.check(10);
+        pairs.check(10);
         met.check(0..=FILE_END, 10);
         met.check([0, PAIR_NOT_MET, PAIR_MET_TWICE], 300);
         met.check([SHEET_TOO_LARGE], 50);

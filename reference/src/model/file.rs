@@ -14,7 +14,7 @@ use crate::model::refusals::{
     refuse_if, FileRefusal, END_COUNT, FILE_END, ORDER, RANGE, SHEET_TOO_LARGE, TABLE_FULL,
 };
 use crate::model::standing::MOST_SHEET;
-use crate::model::table::{rule_of_rows, Row};
+use crate::model::table::{rule_of_rows, Pair, Row};
 use std::collections::BTreeSet;
 
 /// What reading a file gives.
@@ -38,18 +38,14 @@ pub fn read(file: &[u8]) -> Reading {
             }
         };
         if !faults.is_empty() {
-            return Err(FileRefusal { faults, line });
+            return Err(FileRefusal::of_line(faults, line));
         }
         line += 1;
     }
     if !ended(&before) {
-        let faults = vec![FILE_END];
-        return Err(FileRefusal { faults, line });
+        return Err(FileRefusal::of_line(vec![FILE_END], line));
     }
-    program_of(&before).map_err(|fault| FileRefusal {
-        faults: vec![fault],
-        line: 0,
-    })
+    program_of(&before)
 }
 
 /// How many states there are, as far as the accepted frames say it.
@@ -169,12 +165,12 @@ fn end_count_wrong(before: &[Frame], frame: &Frame) -> bool {
 }
 
 /// The program that accepted frames say; or the refusal of their table, 19 or 20, or of their sizes, 23.
-fn program_of(frames: &[Frame]) -> Result<Program, u32> {
+fn program_of(frames: &[Frame]) -> Reading {
     let ranges = ranges_of(frames);
     let step = |frame: &Frame| Step::of_numbers(&frame[1..]);
     let state = |frame: &Frame| frame[1];
     let program = Program {
-        rule: rule_of(frames, &ranges)?,
+        rule: rule_of(frames, &ranges).map_err(FileRefusal::of_pair)?,
         places: ranges.places,
         states: ranges.states,
         actions: ranges.actions,
@@ -182,7 +178,7 @@ fn program_of(frames: &[Frame]) -> Result<Program, u32> {
         starts: of_kind(frames, START).map(state).collect(),
         forbidden: of_kind(frames, FORBIDDEN).map(state).collect(),
     };
-    check_sizes(&program)?;
+    check_sizes(&program).map_err(FileRefusal::of_sizes)?;
     Ok(program)
 }
 
@@ -191,8 +187,9 @@ pub fn check_sizes(program: &Program) -> Result<(), u32> {
     refuse_if(program.sizes().length() > MOST_SHEET, SHEET_TOO_LARGE)
 }
 
-/// The rule that accepted frames say. Nothing is asked of one that is put down in lines.
-fn rule_of(frames: &[Frame], ranges: &Ranges) -> Result<BTreeSet<RuleLine>, u32> {
+/// The rule that accepted frames say, or the first faulty pair of their table. Nothing is asked of a rule
+/// that is put down in lines.
+fn rule_of(frames: &[Frame], ranges: &Ranges) -> Result<BTreeSet<RuleLine>, (u32, Pair)> {
     let rule_line = |frame: &Frame| RuleLine::of_numbers(&frame[1..]);
     let row = |frame: &Frame| Row::of_numbers(&frame[1..]);
     let rows: Vec<Row> = of_kind(frames, ROW).map(row).collect();

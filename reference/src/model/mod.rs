@@ -24,7 +24,8 @@
 //!   once had; `acted_out` makes programs in which that comes to the same.
 //! - `least` and `runs` find the same standings in two other ways: as a least set, and step by step
 //!   with a stack of open calls.
-//! - `analysis` has the sheet, the counts and the findings of a program.
+//! - `analysis` has the sheet, the counts and the findings of a program, and `blocked` says where its
+//!   runs are cut off.
 //! - `keeping` keeps of any sheet what has support back to a start.
 //! - `groups` says which routines an inside-out repair reopens; `inside_out` follows the repair
 //!   itself.
@@ -37,6 +38,7 @@
 pub mod acted_out;
 pub mod analysis;
 pub mod bench;
+pub mod blocked;
 pub mod book;
 pub mod calls;
 pub mod change;

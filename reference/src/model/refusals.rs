@@ -1,5 +1,7 @@
 //! The refusals: their numbers, and the forms in which they are handed on.
 
+use crate::model::table::Pair;
+
 // Of a line of a file.
 pub const BAD_LINE: u32 = 1;
 pub const UNKNOWN_KIND: u32 = 2;
@@ -42,9 +44,33 @@ pub const ANSWERS: usize = 24;
 pub struct FileRefusal {
     pub faults: Vec<u32>,
     pub line: u32,
+    /// The first faulty pair, where the table decides.
+    pub pair: Option<Pair>,
 }
 
 impl FileRefusal {
+    /// The refusal of a line with these faults.
+    pub fn of_line(faults: Vec<u32>, line: u32) -> FileRefusal {
+        FileRefusal {
+            faults,
+            line,
+            pair: None,
+        }
+    }
+
+    /// The refusal of a file's table, by its first faulty pair.
+    pub fn of_pair((fault, pair): (u32, Pair)) -> FileRefusal {
+        FileRefusal {
+            pair: Some(pair),
+            ..FileRefusal::of_sizes(fault)
+        }
+    }
+
+    /// The refusal of the sizes of a file's program.
+    pub fn of_sizes(fault: u32) -> FileRefusal {
+        FileRefusal::of_line(vec![fault], 0)
+    }
+
     /// The refusal's number: the lowest fault.
     pub fn number(&self) -> u32 {
         self.faults[0]

@@ -1,11 +1,19 @@
 //! Runs, one step at a time, with every open call on a stack. What a search over them meets can
-//! occur, for the run that met it is there to be shown. A search can be cut short, at a depth of
-//! the stack or at a count of moments, and says whether it was.
+//! occur, for the run that met it is there to be shown, and so is one that came to a way on which the
+//! rule does not let it go. A search can be cut short, at a depth of the stack or at a count of moments,
+//! and says whether it was.
 
 use crate::model::moves::Moves;
-use crate::model::program::{Event, Label, Program, EXIT};
+use crate::model::program::{Event, Label, Program, Step, EXIT};
 use crate::model::standing::Standing;
 use std::collections::BTreeSet;
+
+/// A way on from a standing: a step, or the return to an open call.
+#[derive(Clone, Copy, Debug, PartialEq, Eq, PartialOrd, Ord)]
+pub enum Way {
+    Step(Step),
+    Return,
+}
 
 /// An open call: where the caller goes on, and what was its root.
 #[derive(Clone, Copy, Debug, PartialEq, Eq, PartialOrd, Ord)]
@@ -26,6 +34,8 @@ struct Moment {
 /// What a search has met, and whether it has met everything.
 pub struct Search {
     pub met: BTreeSet<Standing>,
+    /// The ways on that a run came to and could not go.
+    pub blocked: BTreeSet<(Standing, Way)>,
     /// No call was left out for its depth.
     pub all_depths: bool,
     /// The search did not stop for the count of its moments.
@@ -42,6 +52,7 @@ impl Search {
 pub fn search(program: &Program, depth: usize, most_moments: usize) -> Search {
     let mut search = Search {
         met: BTreeSet::new(),
+        blocked: BTreeSet::new(),
         all_depths: true,
         all_moments: true,
     };
@@ -57,12 +68,14 @@ pub fn search(program: &Program, depth: usize, most_moments: usize) -> Search {
             break;
         }
         search.met.insert(moment.standing);
-        for next in next_moments(program, &moves, &moment) {
-            if next.open.len() <= depth {
-                to_follow.push(next);
-            } else {
-                search.all_depths = false;
+        for (way, next) in ways_on(program, &moves, &moment) {
+            if next.is_empty() {
+                search.blocked.insert((moment.standing, way));
             }
+            let (near, deep): (Vec<_>, Vec<_>) =
+                next.into_iter().partition(|next| next.open.len() <= depth);
+            search.all_depths &= deep.is_empty();
+            to_follow.extend(near);
         }
         seen.insert(moment);
     }
@@ -78,30 +91,25 @@ fn beginnings(program: &Program) -> Vec<Moment> {
     starts.map(begin).collect()
 }
 
-/// Every moment that one step, or one return, leads to.
-fn next_moments(program: &Program, moves: &Moves, moment: &Moment) -> Vec<Moment> {
+/// Every way on from a moment, with the moments to which it leads; there is none where main's first
+/// activation ends.
+fn ways_on(program: &Program, moves: &Moves, moment: &Moment) -> Vec<(Way, Vec<Moment>)> {
     let here = moment.standing;
     if here.place == EXIT {
-        return returned(moves, moment);
+        let innermost = moment.open.split_last().into_iter();
+        let back = |(call, open): (&Open, &[Open])| returned(moves, here, *call, open);
+        return innermost.map(|one| (Way::Return, back(one))).collect();
     }
-    program
-        .steps_from(here.routine, here.place)
-        .flat_map(|step| match step.label {
-            Label::Action(action) => acted(moves, moment, action, step.to),
-            Label::Call(callee) => called(moves, moment, callee, step.to),
-        })
-        .collect()
+    let led_to = |step: &Step| match step.label {
+        Label::Action(action) => acted(moves, moment, action, step.to),
+        Label::Call(callee) => called(moves, moment, callee, step.to),
+    };
+    let steps = program.steps_from(here.routine, here.place);
+    steps.map(|step| (Way::Step(*step), led_to(step))).collect()
 }
 
-/// The moments after the return from the innermost call; none if main's first activation ends, or if
-/// the rule does not let the return happen.
-fn returned(moves: &Moves, moment: &Moment) -> Vec<Moment> {
-    let here = moment.standing;
-    let mut open = moment.open.clone();
-    let call = match open.pop() {
-        Some(call) => call,
-        None => return Vec::new(),
-    };
+/// The moments after the return to a call, with those calls open that were before it.
+fn returned(moves: &Moves, here: Standing, call: Open, open: &[Open]) -> Vec<Moment> {
     let after = |state| Moment {
         standing: Standing {
             routine: call.routine,
@@ -109,7 +117,7 @@ fn returned(moves: &Moves, moment: &Moment) -> Vec<Moment> {
             root: call.root,
             state,
         },
-        open: open.clone(),
+        open: open.to_vec(),
     };
     let states = moves.after(here.state, Event::Return(here.routine));
     states.into_iter().map(after).collect()

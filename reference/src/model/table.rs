@@ -70,10 +70,14 @@ pub fn pairs(states: u8, actions: u8) -> impl Iterator<Item = Pair> {
     (0..states).flat_map(move |state| (0..actions).map(move |action| (state, action)))
 }
 
-/// The rule lines that a table becomes, one for each pair; or the refusal of the first faulty pair.
-pub fn rule_of_rows(rows: &[Row], states: u8, actions: u8) -> Result<BTreeSet<RuleLine>, u32> {
+/// The rule lines that a table becomes, one for each pair; or the first faulty pair, with its refusal.
+pub fn rule_of_rows(
+    rows: &[Row],
+    states: u8,
+    actions: u8,
+) -> Result<BTreeSet<RuleLine>, (u32, Pair)> {
     pairs(states, actions)
-        .map(|pair| line_of_pair(rows, pair))
+        .map(|pair| line_of_pair(rows, pair).map_err(|refusal| (refusal, pair)))
         .collect()
 }
 
@@ -138,9 +142,10 @@ mod tests {
         let lines = rule_of_rows(&rows, 2, 2).expect("each pair is met once");
         let lines: Vec<_> = lines.into_iter().map(RuleLine::numbers).collect();
         assert_eq!(lines, [[0, 0, 1], [0, 1, 1], [1, 0, 0], [1, 1, 1]]);
-        assert_eq!(rule_of_rows(&rows[1..], 2, 2), Err(PAIR_NOT_MET));
-        assert_eq!(rule_of_rows(&rows, 2, 3), Err(PAIR_NOT_MET));
+        let faulty = |rows: &[Row], actions| rule_of_rows(rows, 2, actions).unwrap_err();
+        assert_eq!(faulty(&rows[1..], 2), (PAIR_NOT_MET, (0, 0)));
+        assert_eq!(faulty(&rows, 3), (PAIR_NOT_MET, (0, 2)));
         let twice = [&rows[..], &[row(0b11, 0b10, 0)]].concat();
-        assert_eq!(rule_of_rows(&twice, 2, 2), Err(PAIR_MET_TWICE));
+        assert_eq!(faulty(&twice, 2), (PAIR_MET_TWICE, (0, 1)));
     }
 }

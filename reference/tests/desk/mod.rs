@@ -2,11 +2,14 @@
 //! this.
 #![allow(dead_code)]
 
+pub mod case;
 pub mod lent;
 pub mod lists;
 pub mod trial;
 
 use reference::model::analysis::NONE;
+use reference::model::blocked::Blocked;
+use reference::model::calls::files::FaultyPair;
 use reference::model::calls::repairs::{Buffers, Function, Repaired};
 use reference::model::calls::sheets::Counts;
 use reference::model::calls::sizes::{SizesOfExchange, SizesOfFile};
@@ -39,6 +42,12 @@ pub fn refused<const N: usize>(refusal: u32, line: u32) -> binding::Answer<N> {
 
 pub fn read(file: &[u8]) -> Answer<()> {
     in_words(binding::read(Some(file)), |[]| ())
+}
+
+/// The first faulty pair of a table, with NULL for a file of no bytes.
+pub fn faulty_pair(file: &[u8]) -> Answer<FaultyPair> {
+    let answer = binding::faulty_pair(unless_empty(file));
+    in_words(answer, |[state, action]| FaultyPair { state, action })
 }
 
 pub fn sizes(file: &[u8]) -> Answer<SizesOfFile> {
@@ -89,6 +98,14 @@ pub fn next_violation(file: &[u8], marks: &[u8], work: &mut [u8], from: u32) -> 
     in_words(answer, |[found]| found)
 }
 
+/// The list of where runs are cut off: the first at or above a number, with NULL for each buffer of no
+/// bytes.
+pub fn next_blocked(file: &[u8], marks: &[u8], work: &mut [u8], from: u32) -> Answer<Blocked> {
+    let (marks, work) = (unless_empty(marks), unless_empty_mut(work));
+    let answer = binding::next_blocked(unless_empty(file), marks, work, from);
+    in_words(answer, |[standing, step]| Blocked { standing, step })
+}
+
 /// A fresh working by the library alone, without a limit: the marked numbers and the three counts.
 pub fn worked(file: &[u8]) -> (Vec<usize>, Counts) {
     let length = sheet_length(file);
@@ -102,18 +119,33 @@ pub fn worked(file: &[u8]) -> (Vec<usize>, Counts) {
 
 /// The list of findings by the library alone.
 pub fn listed(file: &[u8]) -> Vec<u32> {
+    listed_by(file, next_violation, |&finding| finding)
+}
+
+/// The list of where runs are cut off by the library alone.
+pub fn blocked(file: &[u8]) -> Vec<Blocked> {
+    listed_by(file, next_blocked, |blocked| blocked.standing)
+}
+
+/// A list, gone through with the program's own sheet by asking for the next each time.
+fn listed_by<V>(
+    file: &[u8],
+    next: impl Fn(&[u8], &[u8], &mut [u8], u32) -> Answer<V>,
+    number: impl Fn(&V) -> u32,
+) -> Vec<V> {
     let length = sheet_length(file);
     let (mut marks, mut work) = (vec![0; length], vec![0; length]);
     analyze(file, &mut marks, &mut work, binding::NO_LIMIT);
     let mut found = Vec::new();
     loop {
-        let from = found.last().map_or(0, |&last| last + 1);
-        let answer = next_violation(file, &marks, &mut work, from);
+        let from = found.last().map_or(0, |last| number(last) + 1);
+        let answer = next(file, &marks, &mut work, from);
         assert_eq!((answer.refusal, answer.line), (0, 0));
-        if answer.value == NONE {
+        let at = number(&answer.value);
+        if at == NONE {
             return found;
         }
-        assert!(answer.value >= from, "{} from {from}", answer.value);
+        assert!(at >= from, "{at} from {from}");
         found.push(answer.value);
     }
 }

@@ -1,7 +1,9 @@
 //! Tables of 8 states and 32 actions, and of 16, and tables with as many rows as there may be.
 
 use crate::cases::files::{case, with_most_states, Case};
+use crate::cases::tables::FaultyTable;
 use crate::model::lines::text_of;
+use crate::model::refusals::{PAIR_MET_TWICE, PAIR_NOT_MET};
 use crate::model::write::end;
 
 pub fn all() -> Vec<Case> {
@@ -82,26 +84,45 @@ pub fn largest_in_lines() -> Vec<u8> {
     with_most_states(&rule.collect::<Vec<_>>())
 }
 
+/// A row for each pair of 8 states and 32 actions, and one more for the first.
+fn first_twice() -> Vec<Vec<u8>> {
+    let mut rows = every_pair();
+    rows.insert(1, pair_row(0, 0, 7));
+    rows
+}
+
+pub fn faulty() -> Vec<FaultyTable> {
+    let (every_pair, every_two_pairs) = (every_pair(), every_two_pairs());
+    vec![
+        FaultyTable {
+            name: "Q 16, 255 rows, not met",
+            file: with_most_states(&every_two_pairs[..255]),
+            refusal: PAIR_NOT_MET,
+            pair: (15, 30),
+        },
+        FaultyTable {
+            name: "255 rows, a pair not met",
+            file: large(0, &every_pair[..255]),
+            refusal: PAIR_NOT_MET,
+            pair: (7, 31),
+        },
+        FaultyTable {
+            name: "256 rows, a pair not met, one twice",
+            file: large(0, &first_twice()[..256]),
+            refusal: PAIR_MET_TWICE,
+            pair: (0, 0),
+        },
+    ]
+}
+
 fn full_tables() -> Vec<Case> {
-    let mut first_twice = every_pair();
-    first_twice.insert(1, pair_row(0, 0, 7));
-    let mut last_left_out = every_pair();
-    last_left_out.pop();
     let all = vec![vec![0x55, 0xFF, 0xFF, 0xFF, 0xFF, 0xFF, 7]];
-    let mut half_left_out = every_two_pairs();
-    half_left_out.pop();
     let mut one_more = every_two_pairs();
     one_more.push(row_of_two(15, 30, 15));
     let alone = [vec![0x55, 0xFF, 0xFF, 0xFF, 0xFF, 0xFF, 0xFF, 15]];
     vec![
         case("the largest file with rows", largest(), 0, 0),
         case("Q 16 and A 32, one row", with_most_states(&alone), 0, 0),
-        case(
-            "Q 16, 255 rows, not met",
-            with_most_states(&half_left_out),
-            19,
-            0,
-        ),
         case("Q 16, 257 rows", with_most_states(&one_more), 6, 530),
         case("Q 8 and A 32, one row", large(0, &all), 0, 0),
         case("Q 8 and A 32, 256 rows", large(0, &every_pair()), 0, 0),
@@ -110,14 +131,7 @@ fn full_tables() -> Vec<Case> {
         case("257 rows", large(0, &padded(257)), 6, 274),
         case("257 rows after 256 steps", large(256, &padded(257)), 6, 530),
         case("300 rows", large(0, &padded(300)), 6, 274),
-        case("255 rows, a pair not met", large(0, &last_left_out), 19, 0),
-        case("257 rows, a pair twice", large(0, &first_twice), 6, 274),
-        case(
-            "256 rows, a pair not met, one twice",
-            large(0, &first_twice[..256]),
-            20,
-            0,
-        ),
+        case("257 rows, a pair twice", large(0, &first_twice()), 6, 274),
     ]
 }
 

@@ -3,7 +3,7 @@
 //! A row is written 55, state bits, action bits in four numbers, next state. Most of these files have
 //! one routine and no step, so that their rows begin at line 3.
 //!
-//! - `pairs` has tables, whole ones and faulty ones, and `rows` has what is judged of a row by itself
+//! - `pairs` has tables, whole ones and faulty ones with the first faulty pair, and `rows` has what is judged of a row by itself
 //!   and beside other lines; `full` has tables that are full.
 //! - `written` has what tables are written as.
 //! - `completed` is the sample with a rule that can be put down in rows, and repairs of it.
@@ -14,13 +14,33 @@ pub mod pairs;
 pub mod rows;
 pub mod written;
 
-use crate::cases::files::Case;
+use crate::cases::files::{case, Case};
 use crate::model::lines::line_of;
+use crate::model::table::Pair;
 use crate::model::write::end;
 
 /// Every named file.
 pub fn files() -> Vec<Case> {
+    let faulty = faulty().into_iter();
+    let faulty = faulty.map(|table| case(table.name, table.file, table.refusal, 0));
     [pairs::all(), rows::all(), full::all()]
+        .into_iter()
+        .flatten()
+        .chain(faulty)
+        .collect()
+}
+
+/// A file whose table has faulty pairs: the first of them, and its refusal.
+pub struct FaultyTable {
+    pub name: &'static str,
+    pub file: Vec<u8>,
+    pub refusal: u32,
+    pub pair: Pair,
+}
+
+/// Every file that is refused for its table, with the pair worked out by hand.
+pub fn faulty() -> Vec<FaultyTable> {
+    [pairs::faulty(), full::faulty()]
         .into_iter()
         .flatten()
         .collect()

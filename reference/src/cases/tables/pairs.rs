@@ -2,16 +2,24 @@
 
 use crate::cases::files::{case, Case};
 use crate::cases::tables::completed;
-use crate::cases::tables::{file, two_by_two, FOUR_ROWS, ONE_ROW};
+use crate::cases::tables::{file, two_by_two, FaultyTable, FOUR_ROWS, ONE_ROW};
+use crate::model::refusals::{PAIR_MET_TWICE, PAIR_NOT_MET};
+use crate::model::table::Pair;
 
 pub fn all() -> Vec<Case> {
     let mut cases = Vec::new();
     cases.extend(complete());
-    cases.extend(pairs_not_met());
-    cases.extend(pairs_met_twice());
-    cases.extend(first_faulty_pairs());
     cases.extend(rows_without_a_bit());
     cases
+}
+
+pub fn faulty() -> Vec<FaultyTable> {
+    let mut tables = Vec::new();
+    tables.extend(pairs_not_met());
+    tables.extend(pairs_met_twice());
+    tables.extend(first_faulty_pairs());
+    tables.extend(first_by_state());
+    tables
 }
 
 fn complete() -> Vec<Case> {
@@ -61,65 +69,104 @@ fn complete() -> Vec<Case> {
     ]
 }
 
-fn pairs_not_met() -> Vec<Case> {
-    let none = |name: &str, rows: &str| case(name, two_by_two(rows), 19, 0);
+/// A table whose first faulty pair no row meets, and one where it is met twice.
+fn not_met(name: &'static str, file: Vec<u8>, pair: Pair) -> FaultyTable {
+    FaultyTable {
+        name,
+        file,
+        refusal: PAIR_NOT_MET,
+        pair,
+    }
+}
+
+fn met_twice(name: &'static str, file: Vec<u8>, pair: Pair) -> FaultyTable {
+    FaultyTable {
+        refusal: PAIR_MET_TWICE,
+        ..not_met(name, file, pair)
+    }
+}
+
+fn pairs_not_met() -> Vec<FaultyTable> {
+    let none = |name, rows: &str, pair| not_met(name, two_by_two(rows), pair);
     let without = |left_out: usize| {
         let mut rows: Vec<&str> = FOUR_ROWS.split(' ').collect();
         rows.remove(left_out);
         rows.join(" ")
     };
     vec![
-        none("the first pair not met", &without(0)),
-        none("the second pair not met", &without(1)),
-        none("the third pair not met", &without(2)),
-        none("the last pair not met", &without(3)),
-        none("a state not met", "55010000000300"),
-        none("an action not met", "55030000000100"),
-        none("only the last pair met", "55020000000200"),
-        case(
+        none("the first pair not met", &without(0), (0, 0)),
+        none("the second pair not met", &without(1), (0, 1)),
+        none("the third pair not met", &without(2), (1, 0)),
+        none("the last pair not met", &without(3), (1, 1)),
+        none("a state not met", "55010000000300", (1, 0)),
+        none("an action not met", "55030000000100", (0, 1)),
+        none("only the last pair met", "55020000000200", (0, 0)),
+        not_met(
             "three states, the last not met",
             file("50010302 520002 55030000000301"),
-            19,
-            0,
+            (2, 0),
         ),
-        case(
+        not_met(
             "32 actions, the last not met",
             file("50010120 520002 55017FFFFFFF00"),
-            19,
-            0,
+            (0, 31),
         ),
-        case(
+        not_met(
             "eight states, the last not met",
             file("50010801 520002 557F0000000107"),
-            19,
-            0,
+            (7, 0),
+        ),
+        not_met(
+            "nine states, the last not met",
+            file("50010901 520002 5500FF0000000108"),
+            (8, 0),
         ),
     ]
 }
 
-fn pairs_met_twice() -> Vec<Case> {
-    let twice = |name: &str, rows: &str| case(name, two_by_two(rows), 20, 0);
+fn pairs_met_twice() -> Vec<FaultyTable> {
+    let twice = |name, rows: &str, pair| met_twice(name, two_by_two(rows), pair);
     vec![
-        twice("the first pair twice", "55010000000100 55030000000301"),
-        twice("the last pair twice", "55020000000200 55030000000301"),
-        twice("all pairs twice", "55030000000300 55030000000301"),
+        twice(
+            "the first pair twice",
+            "55010000000100 55030000000301",
+            (0, 0),
+        ),
+        twice(
+            "the last pair twice",
+            "55020000000200 55030000000301",
+            (1, 1),
+        ),
+        twice("all pairs twice", "55030000000300 55030000000301", (0, 0)),
         twice(
             "all pairs twice, by a row and by four",
             "55010000000100 55010000000201 55020000000101 55020000000200 55030000000300",
+            (0, 0),
         ),
         twice(
             "twice by rows that go to the same state",
             "55010000000301 55030000000301",
+            (0, 0),
         ),
         twice(
             "a state and an action cross",
             "55010000000300 55020000000200 55030000000101",
+            (0, 0),
         ),
-        case(
+        met_twice(
             "a pair three times",
             file("50010301 520002 55010000000101 55030000000101 55050000000102"),
-            20,
-            0,
+            (0, 0),
+        ),
+        met_twice(
+            "a later pair three times",
+            file("50010301 520002 55010000000101 55020000000101 55020000000102 55060000000100"),
+            (1, 0),
+        ),
+        met_twice(
+            "16 states and 32 actions, the last pair twice",
+            file("50011020 520002 5580008000000000 55FFFFFFFFFFFF00"),
+            (15, 31),
         ),
     ]
 }
@@ -127,62 +174,82 @@ fn pairs_met_twice() -> Vec<Case> {
 /// Tables that have pairs of both faults: the first by state, then action, decides. The pairs are
 /// (0, 0), (0, 1), (1, 0), (1, 1) in this order; by action, then state, the middle two would change
 /// places.
-fn first_faulty_pairs() -> Vec<Case> {
-    let two = |name: &str, rows: &str, refusal| case(name, two_by_two(rows), refusal, 0);
+fn first_faulty_pairs() -> Vec<FaultyTable> {
+    let none = |name, rows: String, pair| not_met(name, two_by_two(&rows), pair);
+    let twice = |name, rows: String, pair| met_twice(name, two_by_two(&rows), pair);
     let (first, second) = ("55010000000100", "55010000000201");
     let (third, last) = ("55020000000101", "55020000000200");
     vec![
-        two(
+        none(
             "(0, 0) not met, (0, 1) twice",
-            &format!("55010000000200 {second} {third} {last}"),
-            19,
+            format!("55010000000200 {second} {third} {last}"),
+            (0, 0),
         ),
-        two(
+        twice(
             "(0, 0) twice, (0, 1) not met",
-            &format!("{first} 55010000000101 {third} {last}"),
-            20,
+            format!("{first} 55010000000101 {third} {last}"),
+            (0, 0),
         ),
-        two(
+        none(
             "(0, 1) not met, (1, 0) twice",
-            &format!("{first} 55020000000100 {third} {last}"),
-            19,
+            format!("{first} 55020000000100 {third} {last}"),
+            (0, 1),
         ),
-        two(
+        twice(
             "(0, 1) twice, (1, 0) not met",
-            &format!("{first} 55010000000200 {second} {last}"),
-            20,
+            format!("{first} 55010000000200 {second} {last}"),
+            (0, 1),
         ),
-        two(
+        none(
             "(0, 0) not met, (1, 1) twice",
-            &format!("{second} {third} {last} 55020000000201"),
-            19,
+            format!("{second} {third} {last} 55020000000201"),
+            (0, 0),
         ),
-        two(
+        twice(
             "(0, 0) twice, (1, 1) not met",
-            &format!("{first} 55010000000101 {second} {third}"),
-            20,
+            format!("{first} 55010000000101 {second} {third}"),
+            (0, 0),
         ),
-        two(
+        none(
             "(1, 0) not met, (1, 1) twice",
-            &format!("{first} {second} {last} 55020000000201"),
-            19,
+            format!("{first} {second} {last} 55020000000201"),
+            (1, 0),
         ),
-        two(
+        twice(
             "(1, 0) twice, (1, 1) not met",
-            &format!("{first} {second} 55020000000100 {third}"),
-            20,
+            format!("{first} {second} 55020000000100 {third}"),
+            (1, 0),
         ),
-        case(
+    ]
+}
+
+/// Tables in which, by action, then state, another pair would be the first.
+fn first_by_state() -> Vec<FaultyTable> {
+    vec![
+        not_met(
+            "(0, 3) and (1, 0) not met",
+            file("50010204 520002 55010000000700 55020000000E01"),
+            (0, 3),
+        ),
+        met_twice(
+            "(0, 3) and (1, 0) twice",
+            file("50010204 520002 55010000000800 55010000000F01 55020000000100 55020000000F01"),
+            (0, 3),
+        ),
+        not_met(
             "(0, 31) not met, (1, 0) twice",
             file("50010220 520002 55017FFFFFFF00 55020000000101 5502FFFFFFFF00"),
-            19,
-            0,
+            (0, 31),
         ),
-        case(
+        met_twice(
             "(0, 31) twice, (1, 0) not met",
             file("50010220 520002 55018000000000 5501FFFFFFFF00 5502FFFFFFFE00"),
-            20,
-            0,
+            (0, 31),
+        ),
+        not_met(
+            "(0, 5) not met, (8, 0) twice",
+            file("50010C06 520002 5500010000001F00 5501000000000100 550FFE0000003F00"),
+            (0, 5),
         ),
     ]
 }

@@ -1,8 +1,10 @@
 //! The calls of the C interface: what the library has to answer to each, and what it has to leave
 //! in all that is lent.
 //!
-//! - `files` has the calls that take a file: reading it and writing it back.
-//! - `sheets` has those that take a sheet too: the fresh working, the list of findings, the keeping.
+//! - `files` has the calls that take a file: reading it, finding the first faulty pair of its table, and
+//!   writing it back.
+//! - `sheets` has those that take a sheet too: the fresh working, the list of findings, the list of where
+//!   runs are cut off, the keeping.
 //! - `repairs` has the two repairs.
 //! - `sizes` has those that say how long the buffers of the others have to be.
 
@@ -16,7 +18,7 @@ use crate::model::standing::Sizes;
 use crate::model::write::OUTPUT_SIZE;
 
 /// What a call answers: the refusal's number and its line, 0 where there is none, and the value that
-/// the call has, all 0 on a refusal.
+/// the call has, all 0 on a refusal; only the faulty pair of a table comes with one.
 #[derive(Clone, Copy, Debug, Default, PartialEq, Eq)]
 pub struct Answer<V> {
     pub refusal: u32,

@@ -1,6 +1,7 @@
-//! The fresh working, the list of findings, and the keeping.
+//! The fresh working, the list of findings, the list of where runs are cut off, and the keeping.
 
 use crate::model::analysis::{Analysis, Analyzed};
+use crate::model::blocked::{Blocked, BlockedRuns};
 use crate::model::calls::{check_sheet, check_work, Answer};
 use crate::model::file::Reading;
 use crate::model::keeping::keep;
@@ -42,12 +43,18 @@ fn checked<'a, T>(
     Ok(given)
 }
 
-fn analysis<'a>(
-    analyzed: &'a Analyzed,
+/// The same for a call that takes the program's own sheet and no other: from there on the working buffer
+/// is all zero.
+fn checked_with_own<'a, T>(
+    given: &'a Result<T, FileRefusal>,
+    own: impl Fn(&T) -> &[u8],
     sheet: &[u8],
-    work: &[u8],
-) -> Result<&'a Analysis, Refused> {
-    checked(analyzed, |analysis| analysis.sheet.len(), sheet, work)
+    work: &mut [u8],
+) -> Result<&'a T, Refused> {
+    let given = checked(given, |given| own(given).len(), sheet, work)?;
+    work.fill(0);
+    refuse_if(sheet != own(given), FOREIGN_SHEET)?;
+    Ok(given)
 }
 
 /// What the library has to answer when it works a file afresh that has this analysis, with a limit on
@@ -59,7 +66,7 @@ pub fn analyze_answer(
     work: &mut [u8],
     limit: u64,
 ) -> Answer<Counts> {
-    let analysis = analysis(analyzed, sheet, work);
+    let analysis = checked(analyzed, |analysis| analysis.sheet.len(), sheet, work);
     Answer::from(analysis.and_then(|analysis| {
         work.fill(0);
         refuse_if(u64::from(analysis.takings) > limit, GAVE_UP)?;
@@ -71,12 +78,20 @@ pub fn analyze_answer(
 /// What the library has to answer when it is asked for the next finding of that file, and what it
 /// has to leave in the working buffer. The sheet is only read.
 pub fn next_answer(analyzed: &Analyzed, sheet: &[u8], work: &mut [u8], from: u32) -> Answer<u32> {
-    let analysis = analysis(analyzed, sheet, work);
-    Answer::from(analysis.and_then(|analysis| {
-        work.fill(0);
-        refuse_if(sheet != analysis.sheet, FOREIGN_SHEET)?;
-        Ok(analysis.next_finding(from))
-    }))
+    let analysis = checked_with_own(analyzed, |analysis| &analysis.sheet, sheet, work);
+    Answer::from(analysis.map(|analysis| analysis.next_finding(from)))
+}
+
+/// What the library has to answer when it is asked where the runs of a file's program are cut off next,
+/// and what it has to leave in the working buffer. The sheet is only read.
+pub fn next_blocked_answer(
+    runs: &Result<BlockedRuns, FileRefusal>,
+    sheet: &[u8],
+    work: &mut [u8],
+    from: u32,
+) -> Answer<Blocked> {
+    let runs = checked_with_own(runs, |runs| &runs.sheet, sheet, work);
+    Answer::from(runs.map(|runs| runs.next_blocked(from)))
 }
 
 /// What the library has to answer when it is asked for the keeping with a file of this reading, and
