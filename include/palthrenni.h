@@ -1,9 +1,13 @@
 /*
  * Palthrenni: the checker of measuring programs, as C calls it.
  *
- * Build the archive with `rt staticlib desk`, and link with it:
+ * `./install PREFIX` puts this header, the archive and a file for pkg-config
+ * under PREFIX. A program is then built by
  *
- *     gcc -std=c11 -O2 -Iinclude my_program.c target/staticlib/libdesk.a
+ *     gcc -std=c11 my_program.c $(pkg-config --cflags --libs palthrenni)
+ *
+ * with PREFIX/lib/pkgconfig in PKG_CONFIG_PATH, if pkg-config does not look
+ * there by itself. examples/check_file.c is a whole program.
  *
  * Terms. A program has routines; a routine has nodes (paper: places), which
  * edges (paper: steps) join. An edge's label is an action or a call. What
@@ -14,10 +18,37 @@
  * never arrive in a rejecting one (paper: forbidden). docs/GLOSSARY.md has all
  * terms; "paper" is the scope paper.
  *
- * Labels. An edge, frame 53 f n l m, leads from node n to node m of routine f
- * by the label l. A transition, frame 54 q l s, leads from state q to state s
- * by the label l. In a program of R routines and A actions a label is one of
- * these, in hexadecimal as in the file:
+ * The file. A program file is lines of hexadecimal. Two digits 0-9 A-F make a
+ * number, and a byte 0A ends the line. A line is a frame, and its first number
+ * is the kind of the frame. Kinds and labels are written here in hexadecimal,
+ * as in the file, and all else in decimal.
+ *
+ *     kind   then           how many    meaning
+ *     50 P   R Q A          one         the program has R routines, 1 to 16,
+ *                                       Q states, 1 to 16, and A actions, 1 to
+ *                                       32
+ *     52 R   f p            R           routine f has p nodes, 2 to 64; f is 0
+ *                                       in the first, and one more in each
+ *     53 S   f n l m        0 to 256    an edge of routine f leads from node n
+ *                                       to node m by the label l; f is below R,
+ *                                       n and m below the nodes of f, and n is
+ *                                       not 1
+ *     54 T   q l s          0 to 512    a transition leads from state q to
+ *                                       state s by the label l; q and s are
+ *                                       below Q
+ *     55 U   s a a a a q    0 to 256    a row, in the place of transitions:
+ *                                       "Rows", below
+ *     49 I   q              0 to Q      state q is initial; q is below Q
+ *     46 F   q              0 to Q      state q is rejecting; q is below Q
+ *     45 E   h l            one         the end: h * 256 + l frames came before
+ *
+ * The kinds come in the order of this table. That is not the order of their
+ * numbers, which are the ASCII codes of the letters beside them: 49 comes after
+ * 54 and 55. Within a kind the frames ascend strictly, their numbers compared
+ * left to right, so that no frame stands there twice. Routine 0 is main. Node 0
+ * of a routine is its entry and node 1 its exit, which no edge leaves.
+ *
+ * Labels. The label l of an edge or of a transition is one of these:
  *
  *     a         below A           an action; of edges and transitions
  *     40 + f    with f below R    a call of routine f; of edges and transitions
@@ -42,7 +73,8 @@
  *     54 01 42 02     in state 1 a call of routine 2 leads to state 2
  *
  * Without the second line the call would only be left out of the runs, and the
- * program could pass. examples/README.md has this example (clamp).
+ * program could pass. palthrenni_next_blocked lists where runs are cut off so.
+ * examples/README.md has this example (clamp).
  *
  * Rows. A file has its transitions one by one, frames 54, or as a table of
  * rows, frames 55; or it has none. A row is
@@ -95,23 +127,54 @@
  *
  * Buffers. A buffer is a pointer and a length in bytes. The pointer has to be
  * valid for that many bytes during the call; with length 0 it is not looked
- * at and may be NULL. No two buffers of a call may overlap, and the numbers
- * that a call sets may not lie inside a buffer or be the same number twice.
- * A file is lent for reading only and is never changed. It need not end with
- * a zero byte.
+ * at and may be NULL. A file is lent for reading only and is never changed. It
+ * need not end with a zero byte.
+ *
+ * No two buffers of a call may overlap, and the numbers that a call sets may
+ * not lie inside a buffer or be the same number twice. Where they do, it is not
+ * noticed: the call comes back as any other does, and whatever it says or
+ * leaves in the buffers may be wrong. With the marks lent as the working buffer
+ * too, palthrenni_next_violation was seen to say that there is no violation
+ * where there was one.
  *
  * Answers. Each function returns the number of the refusal it met, or
  * PALTHRENNI_OK. Every pointer to a number has to be valid, and every number
  * is set on every call, to 0 where there is nothing to say. The number that is
  * returned says whether the file was accepted, and the line does not: 19, 20
- * and 23 are refusals of the file, with line 0. (Of an exchange 23 may also be
- * a refusal of the text.)
+ * and 23 are refusals of the file, with line 0.
  *
  * Threads. Nothing is kept between calls and no memory is allocated: two
  * threads may call at once, each with buffers and numbers of its own.
  *
- * Coming from the version whose marks always had 16384 bytes, a caller has to
- * change this:
+ * Stack. A call takes no more bytes of stack than this:
+ *
+ *     palthrenni_read                  32768
+ *     palthrenni_faulty_pair           32768
+ *     palthrenni_sizes                 32768
+ *     palthrenni_write                 32768
+ *     palthrenni_analyze               49152
+ *     palthrenni_next_violation        49152
+ *     palthrenni_next_blocked          49152
+ *     palthrenni_prune                 32768
+ *     palthrenni_repair_forward        65536
+ *     palthrenni_repair_inside_out     98304
+ *     palthrenni_exchange_sizes        32768
+ *     palthrenni_exchange_forward      98304
+ *     palthrenni_exchange_inside_out   98304
+ *
+ * PALTHRENNI_STACK is the largest of them, for whoever gives a thread its
+ * stack. These bounds are measured, and not proved: include/stack.c calls each
+ * function on a painted stack, with the largest programs and with what is
+ * refused, and no byte that a call touched was as deep as its bound. Nothing in
+ * the archive calls itself, so that a longer input does not go deeper.
+ *
+ * Platforms. Tried on Linux on x86_64 (Debian 12), as C11 with gcc 12.2 and
+ * clang 14.0 and as C++17 with g++ 12.2 and clang++ 14.0; on nothing else.
+ *
+ * Coming from 0.6.0, nothing has to change: PALTHRENNI_VERSION,
+ * PALTHRENNI_STACK, palthrenni_reason, palthrenni_next_blocked and
+ * palthrenni_faulty_pair are new. Coming from the version whose marks always
+ * had 16384 bytes, a caller has to change this:
  *
  *     buffers      lend marks and working buffers of the length that
  *                  palthrenni_sizes gives, and outputs of 7712 bytes or more
@@ -137,107 +200,122 @@
 extern "C" {
 #endif
 
-/* Nothing was refused. */
+/* The version of this header, and of the archive that belongs to it. The second
+ * number rises where a caller has to change something, and the third where
+ * something is added and a caller may stay as it is. The first is 0. */
+#define PALTHRENNI_VERSION "0.6.1"
+
+/*
+ * Refusals. A function judges in the order of this table, as far as it has the
+ * row, and returns the first number that it meets. The column "by" says which
+ * functions have the row:
+ *
+ *     all       every function
+ *     marks     those that marks are lent to
+ *     output    those that an output is lent to
+ *     work      those that a working buffer is lent to, but for exchanges
+ *     edit      palthrenni_repair_forward, palthrenni_repair_inside_out
+ *     text      palthrenni_exchange_sizes, and both exchanges
+ *     exchange  palthrenni_exchange_forward, palthrenni_exchange_inside_out
+ *     own       palthrenni_next_violation, palthrenni_next_blocked, both
+ *               repairs by an edit, and both exchanges
+ *
+ * 1 to 8, 19, 20 and the first 23 are the refusals of the file. Of its lines
+ * the first faulty one decides, and in it the lowest of 1 to 7; but whatever
+ * follows the end frame is 8. 1 to 8 come with the line, counted from 1, and
+ * every other number with line 0. Of the text of an exchange each row is judged
+ * over the whole text before the next row.
+ *
+ *     by        no.  met when
+ *     all         1  a line is empty, has an odd count of digits, holds a byte
+ *                    other than the digits 0-9 A-F, or has no byte 0A at its
+ *                    end
+ *     all         2  the first number of a line is no kind of frame
+ *     all         3  the kind has another count of numbers. For a row that goes
+ *                    by the states of the program; a row before the frame 50 is
+ *                    judged as one of up to 8 states
+ *     all         4  the first frame is not 50, there is a second 50, the kinds
+ *                    are not in the order of the table of kinds, the numbers
+ *                    within a kind do not ascend, there are both transitions
+ *                    and rows, or a routine frame is left out or repeated
+ *     all         5  a number, or a bit of a row, is outside its range, or an
+ *                    edge leaves the exit. A label's range is that of "Labels",
+ *                    above: so the label of a return is refused in an edge, and
+ *                    that of a routine which is not there, in a transition too
+ *     all         6  there is a 257th edge, a 513th transition, of whatever
+ *                    labels, or a 257th row
+ *     all         7  the end frame does not say how many frames came before it
+ *     all         8  the input ends without an end frame (the line is then the
+ *                    one after the last), or a line follows the end frame (the
+ *                    line is that one)
+ *     all        19  a file has rows, and the first state-action pair, by
+ *                    state, then by action, that is not met by exactly one row
+ *                    is met by none; palthrenni_faulty_pair tells which it is
+ *     all        20  that pair is met by two rows or more
+ *     all        23  the program is too large: routines * nodes * states *
+ *                    states is above PALTHRENNI_MARKS_MOST
+ *     marks       9  the marks, of an exchange the old ones, do not have
+ *                    exactly the length that palthrenni_sizes gives
+ *     output     10  the output has fewer than PALTHRENNI_OUTPUT_SIZE bytes
+ *     work       11  the working buffer does not have exactly that length
+ *     edit       12  the edit is not exactly one line of hexadecimal, its kind
+ *                    is none of 2B, 2D and 3D, or the kind has another count of
+ *                    numbers
+ *     text       12  the text has no line at all, or some line of it is not one
+ *                    of hexadecimal, has a kind other than 52 and 53, or has
+ *                    another count of numbers than its kind
+ *     edit       13  a number of the edit is outside its range, or its edge
+ *                    leaves the exit, as in 5; the new label of a 3D too
+ *     text       13  so it is for some frame of the text. If the first frame is
+ *                    a 52, the edges of its routine are judged by its count of
+ *                    nodes, and those of every other routine by the program's
+ *     edit       14  the edge that is to be dropped or replaced is not there
+ *     edit       15  the edge that would be made is there already
+ *     text       21  the first frame of the text is not 52, a later one is, or
+ *                    an edge is of another routine or is not above the edge
+ *                    before it, compared left to right: it may be the same
+ *     edit       16  an edge is to be added, and there are 256
+ *     text       16  the new program would have more than 256 edges
+ *     text       23  the new program is too large
+ *     exchange    9  the new marks do not have exactly the length that
+ *                    palthrenni_exchange_sizes gives for them
+ *     exchange   11  the working buffer does not have exactly the length that
+ *                    palthrenni_exchange_sizes gives for it
+ *     own        17  the marks are not the program's own: some byte is not the
+ *                    one that palthrenni_analyze would leave there
+ *     analyze    22  palthrenni_analyze gave up: its count of iterations
+ *                    (paper: takings) is above the limit. That is no fault of
+ *                    the file, and says nothing of its violations
+ *     none       18  the input of the program `bench` has more than 16384
+ *                    bytes. No function returns it, and none has such a bound
+ *
+ * Two numbers of an exchange can mean two things. 23 is about the file where
+ * palthrenni_read returns it too, and else about the new program; 9 is about
+ * the old marks where they do not have the length that palthrenni_sizes gives,
+ * and else about the new ones.
+ */
 #define PALTHRENNI_OK 0
-
-/*
- * Refusals of a file by one of its lines, 1 to 8. They come with the line,
- * counted from 1. The first faulty line decides, and in it the lowest number;
- * but whatever follows the end frame is 8.
- */
-
-/* A line is empty, has an odd count of digits, holds a byte other than the
- * digits 0-9 A-F, or has no byte 0A at its end. */
 #define PALTHRENNI_BAD_LINE 1
-/* The first number of a line is no kind of frame. */
 #define PALTHRENNI_UNKNOWN_KIND 2
-/* The kind has another count of numbers. For a row that goes by the states of
- * the program ("Rows", above); a row before the frame 50 is judged as one of
- * up to 8 states. */
 #define PALTHRENNI_WRONG_COUNT 3
-/* The first frame is not 50, there is a second 50, the kinds or the numbers
- * within a kind do not ascend, there are both transitions and rows, or a
- * routine frame is left out or repeated. */
 #define PALTHRENNI_ORDER 4
-/* A number, or a bit of a row, is outside its range, or an edge leaves the
- * exit. Labels have a range too ("Labels", above): that of a transition is an
- * action, a call or a return, that of an edge an action or a call, of what the
- * program has. So a return's label, 60 + f, is refused in an edge, and any
- * label of a routine that is not there in both. */
 #define PALTHRENNI_RANGE 5
-/* The 257th edge, the 513th transition or the 257th row. Transitions are
- * counted together, those for actions, for calls and for returns. */
 #define PALTHRENNI_TABLE_FULL 6
-/* The end frame does not say how many frames came before it. */
 #define PALTHRENNI_END_COUNT 7
-/* The input ends without an end frame (the line is then the one after the
- * last), or a line follows the end frame (the line is that one). */
 #define PALTHRENNI_FILE_END 8
-
-/*
- * Refusals of a file as a whole, 19, 20 and 23. They come with line 0, since no
- * one line is at fault, in every function that reads a file, only where no line
- * of it is faulty, and before 9. Only a file with rows can meet 19 and 20: the
- * first faulty state-action pair decides, by state, then by action; which one
- * it is, is not told. 23 comes after them.
- */
-
-/* A state-action pair is met by no row. */
 #define PALTHRENNI_PAIR_NOT_MET 19
-/* A state-action pair is met by two rows or more. */
 #define PALTHRENNI_PAIR_MET_TWICE 20
-/* The program is too large: routines * nodes * states * states ("Sizes", above)
- * is above PALTHRENNI_MARKS_MOST. Of an exchange also, judged after 16: so for
- * the new program. The file is meant where palthrenni_read returns 23 for it,
- * and else the new program. */
 #define PALTHRENNI_TOO_LARGE 23
-
-/* Refusals of buffers, of an edit, of an exchange and of marks, and giving up.
- * They come with line 0. */
-
-/* The marks do not have exactly the length that palthrenni_sizes gives for the
- * file. Of an exchange: so for the old marks; or, judged after 23, the new
- * marks do not have exactly the length that palthrenni_exchange_sizes gives for
- * them. The old ones are meant where their length is not the one that
- * palthrenni_sizes gives, and else the new ones. */
 #define PALTHRENNI_MARKS_LENGTH 9
-/* The output has fewer than PALTHRENNI_OUTPUT_SIZE bytes. */
 #define PALTHRENNI_OUTPUT_SHORT 10
-/* The working buffer does not have exactly the length that palthrenni_sizes
- * gives for the marks of the file. Of an exchange, judged after both marks: it
- * does not have exactly the length that palthrenni_exchange_sizes gives for
- * it. */
 #define PALTHRENNI_WORK_LENGTH 11
-/* The edit is not exactly one line of hexadecimal, its kind is none of 2B, 2D
- * and 3D, or the kind has another count of numbers. Of an exchange: the text
- * has no line at all, or some line of it is not one of hexadecimal, has a kind
- * other than 52 and 53, or another count of numbers than its kind. */
 #define PALTHRENNI_EDIT_LINE 12
-/* A number of the edit is outside its range, or its edge leaves the exit, as
- * in 5; so a label that is a return's is refused, also as the new label of a
- * 3D. Of an exchange: so for some frame of the text. If the first frame is a
- * 52, its count of nodes is the one that the edges of its routine are judged
- * by; the edges of every other routine are judged by the program's own
- * count. */
 #define PALTHRENNI_EDIT_RANGE 13
-/* The edge that is to be dropped or replaced is not there. */
 #define PALTHRENNI_NO_SUCH_EDGE 14
-/* The edge that would be made is there already. */
 #define PALTHRENNI_EDGE_EXISTS 15
-/* An edge is to be added, and there are 256. Of an exchange: the new program
- * would have more than 256 edges. */
-#define PALTHRENNI_EDGES_FULL 16
-/* The marks are not the program's own: some byte is not the one that
- * palthrenni_analyze would leave there. */
-#define PALTHRENNI_FOREIGN_MARKS 17
-/* Of an exchange only, and judged after 13 and before 16: the first frame of
- * the text is not 52, a later one is, or an edge is of another routine or is
- * not above the edge before it, compared left to right. So the same edge twice
- * is 21. */
 #define PALTHRENNI_EXCHANGE_ORDER 21
-/* Of palthrenni_analyze only, and judged last: the analysis of an accepted
- * file gave up, since its count of iterations (paper: takings) is above the
- * limit. That is no fault of the file, and says nothing of its violations. */
+#define PALTHRENNI_EDGES_FULL 16
+#define PALTHRENNI_FOREIGN_MARKS 17
 #define PALTHRENNI_GAVE_UP 22
 
 /* The most bytes that are ever written, and so the least length of an output.
@@ -247,11 +325,14 @@ extern "C" {
  * longest working buffer. */
 #define PALTHRENNI_MARKS_MOST 16384
 
+/* More stack than any call takes ("Stack", above). */
+#define PALTHRENNI_STACK 98304
+
 /* The largest limit of palthrenni_analyze, by which it never gives up. */
 #define PALTHRENNI_NO_LIMIT UINT64_MAX
 
-/* What palthrenni_next_violation sets where there is no violation (paper:
- * finding). */
+/* What palthrenni_next_violation and palthrenni_next_blocked set where nothing
+ * is found; and the edge that the second sets where a return is cut off. */
 #define PALTHRENNI_NONE UINT32_MAX
 
 /*
@@ -273,15 +354,63 @@ extern "C" {
  * numbers left over, of nodes that it does not have; nothing occurs there.
  */
 #define PALTHRENNI_ROUTINE(number, nodes, states) \
-    ((uint32_t)(number) / (uint32_t)(states) / (uint32_t)(states) \
-     / (uint32_t)(nodes))
+    (PALTHRENNI_U32(number) / PALTHRENNI_U32(states) \
+     / PALTHRENNI_U32(states) / PALTHRENNI_U32(nodes))
 #define PALTHRENNI_NODE(number, nodes, states) \
-    ((uint32_t)(number) / (uint32_t)(states) / (uint32_t)(states) \
-     % (uint32_t)(nodes))
+    (PALTHRENNI_U32(number) / PALTHRENNI_U32(states) \
+     / PALTHRENNI_U32(states) % PALTHRENNI_U32(nodes))
 #define PALTHRENNI_ROOT(number, nodes, states) \
-    ((uint32_t)(number) / (uint32_t)(states) % (uint32_t)(states))
+    (PALTHRENNI_U32(number) / PALTHRENNI_U32(states) % PALTHRENNI_U32(states))
 #define PALTHRENNI_STATE(number, nodes, states) \
-    ((uint32_t)(number) % (uint32_t)(states))
+    (PALTHRENNI_U32(number) % PALTHRENNI_U32(states))
+
+/* For the macros above alone: C++ warns of the casts of C, if it is asked. */
+#ifdef __cplusplus
+#define PALTHRENNI_U32(value) static_cast<uint32_t>(value)
+#else
+#define PALTHRENNI_U32(value) ((uint32_t)(value))
+#endif
+
+/*
+ * What a refusal means, in words of one line for the user, without a full stop.
+ * It has words for every number that a function here returns, for PALTHRENNI_OK
+ * and for 18, which `bench` alone has, and "unknown refusal" for any other. The
+ * words stay where they are: they need not be freed, and may not be changed.
+ */
+static inline const char *palthrenni_reason(uint32_t refusal)
+{
+    switch (refusal) {
+    case 0: return "nothing was refused";
+    case 1: return "the line is not pairs of digits 0-9 A-F ended by 0A";
+    case 2: return "there is no such kind of frame";
+    case 3: return "wrong count of numbers for the kind";
+    case 4: return "the order of the frames is broken,"
+                   " or there are transitions and rows";
+    case 5: return "a number is outside its range, or an edge leaves the exit";
+    case 6: return "more than 256 edges, 512 transitions or 256 rows";
+    case 7: return "the end count is wrong";
+    case 8: return "no end frame, or something after it";
+    case 9: return "the marks do not have the length that is needed";
+    case 10: return "the output has fewer than 7712 bytes";
+    case 11: return "the working buffer does not have the length"
+                    " that is needed";
+    case 12: return "not one edit line of a kind 2B, 2D or 3D,"
+                    " or not lines of an exchange, 52 and 53";
+    case 13: return "a number is outside its range, or an edge leaves the exit";
+    case 14: return "the edge to be dropped or replaced is not there";
+    case 15: return "the edge that would be made is there already";
+    case 16: return "the new program would have more than 256 edges";
+    case 17: return "the marks are not the program's own";
+    case 18: return "the input has more than 16384 bytes";
+    case 19: return "a state and an action are met by no row";
+    case 20: return "a state and an action are met by more than one row";
+    case 21: return "not one frame 52 and then edges of its routine, ascending";
+    case 22: return "gave up: there are more iterations than the limit";
+    case 23: return "routines x nodes x states x states"
+                    " would be more than 16384";
+    default: return "unknown refusal";
+    }
+}
 
 /*
  * Reads a program file and says whether it is accepted.
@@ -289,9 +418,26 @@ extern "C" {
  *   file, file_len  the file's bytes, of any length
  *   line            set to the line of a refusal 1 to 8, else to 0
  *
- * Returns 1 to 8; then 19 or 20; then 23; else PALTHRENNI_OK.
+ * Returns a refusal of the file, or PALTHRENNI_OK.
  */
 uint32_t palthrenni_read(const uint8_t *file, size_t file_len, uint32_t *line);
+
+/*
+ * Reads a program file and says which state-action pair of its table is faulty,
+ * where it is refused with 19 or 20.
+ *
+ *   file, file_len  the file's bytes, of any length
+ *   line            set to the line of a refusal 1 to 8, else to 0
+ *   state, action   set to the first faulty pair, by state, then by action: on
+ *                   19 no row meets it, on 20 two rows or more do, and each
+ *                   pair before it is met by exactly one row. Both are set to 0
+ *                   on every other number
+ *
+ * Returns a refusal of the file, or PALTHRENNI_OK: the same as palthrenni_read.
+ */
+uint32_t palthrenni_faulty_pair(const uint8_t *file, size_t file_len,
+                                uint32_t *line, uint32_t *state,
+                                uint32_t *action);
 
 /*
  * Reads a program file and gives the sizes of its program, and the length of
@@ -304,8 +450,8 @@ uint32_t palthrenni_read(const uint8_t *file, size_t file_len, uint32_t *line);
  *   states          set to how many states there are
  *   marks_size      set to routines * nodes * states * states
  *
- * Returns 1 to 8; then 19 or 20; then 23; else PALTHRENNI_OK: the same as
- * palthrenni_read. On a refusal the sizes and the length are 0.
+ * Returns a refusal of the file, or PALTHRENNI_OK: the same as palthrenni_read.
+ * On a refusal the sizes and the length are 0.
  */
 uint32_t palthrenni_sizes(const uint8_t *file, size_t file_len,
                           uint32_t *line, uint32_t *routines, uint32_t *nodes,
@@ -324,10 +470,10 @@ uint32_t palthrenni_sizes(const uint8_t *file, size_t file_len,
  *   written             set to how many bytes were written, or to 0 if the
  *                       call was refused
  *
- * Returns 1 to 8; then 19 or 20; then 23; then 10, if the file is accepted and
- * the output is too short; else PALTHRENNI_OK. On PALTHRENNI_OK the program's
- * bytes are at the start of the output and the rest of the output is
- * unchanged. On a refusal all of the output is unchanged.
+ * Returns a refusal of the file; then 10, if it is accepted and the output is
+ * too short; else PALTHRENNI_OK. On PALTHRENNI_OK the program's bytes are at
+ * the start of the output and the rest of the output is unchanged. On a refusal
+ * all of the output is unchanged.
  */
 uint32_t palthrenni_write(const uint8_t *file, size_t file_len,
                           uint8_t *output, size_t output_len,
@@ -335,9 +481,9 @@ uint32_t palthrenni_write(const uint8_t *file, size_t file_len,
 
 /*
  * Reads a program file and marks every configuration that can occur in a run
- * of its program: the full analysis (paper: working afresh). A violation is
- * one of them whose state is rejecting; so no run arrives in a rejecting state
- * if and only if there are no violations.
+ * of its program: the full analysis (paper: working afresh). A violation
+ * (paper: finding) is one of them whose state is rejecting; so no run arrives
+ * in a rejecting state if and only if there are no violations.
  *
  * The limit (paper: the ceiling on takings). In each iteration the analysis
  * takes one configuration, always the lowest that is pending (paper: waiting);
@@ -386,12 +532,12 @@ uint32_t palthrenni_write(const uint8_t *file, size_t file_len,
  *   iterations        set to how many iterations were made, which is never
  *                     above the limit
  *
- * Returns 1 to 8; then 19 or 20; then 23; then 9 or 11, the lower first, if the
- * file is accepted and a buffer has another length; then 22, if the analysis
- * gave up; else PALTHRENNI_OK. On PALTHRENNI_OK the marks are set, each to 0 or
- * 1, and the working buffer is all zero. On 22 the marks are unchanged and the
- * working buffer is all zero, on every other refusal both buffers are
- * unchanged. On any refusal the three counts are 0.
+ * Returns a refusal of the file; then 9 or 11, the lower first, if it is
+ * accepted and a buffer has another length; then 22, if the analysis gave up;
+ * else PALTHRENNI_OK. On PALTHRENNI_OK the marks are set, each to 0 or 1, and
+ * the working buffer is all zero. On 22 the marks are unchanged and the working
+ * buffer is all zero, on every other refusal both buffers are unchanged. On any
+ * refusal the three counts are 0.
  */
 uint32_t palthrenni_analyze(const uint8_t *file, size_t file_len,
                             uint8_t *marks, size_t marks_len,
@@ -411,7 +557,7 @@ uint32_t palthrenni_analyze(const uint8_t *file, size_t file_len,
  * Where the marks are sure to be those that palthrenni_analyze, a repair or an
  * exchange left for this file, they can be read instead: the violations are
  * the numbers whose byte is 1 and whose state is rejecting, that is, has a
- * frame 46 in the file. examples/check_file.c does both.
+ * frame 46 in the file.
  *
  *   file, file_len    the file's bytes, of any length
  *   marks, marks_len  the marks as palthrenni_analyze left them for this
@@ -423,16 +569,65 @@ uint32_t palthrenni_analyze(const uint8_t *file, size_t file_len,
  *   found             set to the number of the violation, to PALTHRENNI_NONE
  *                     if there is none, or to 0 if the call was refused
  *
- * Returns 1 to 8; then 19 or 20; then 23; then 9 or 11, the lower first, if the
- * file is accepted and a buffer has another length; then 17, if the marks are
- * not the program's own; else PALTHRENNI_OK. On 17 and on PALTHRENNI_OK the
- * working buffer is all zero, on every other number it is unchanged.
+ * Returns a refusal of the file; then 9 or 11, the lower first, if it is
+ * accepted and a buffer has another length; then 17, if the marks are not the
+ * program's own; else PALTHRENNI_OK. On 17 and on PALTHRENNI_OK the working
+ * buffer is all zero, on every other number it is unchanged.
  */
 uint32_t palthrenni_next_violation(const uint8_t *file, size_t file_len,
                                    const uint8_t *marks, size_t marks_len,
                                    uint8_t *work, size_t work_len,
                                    uint32_t from,
                                    uint32_t *line, uint32_t *found);
+
+/*
+ * Reads a program file and finds the first configuration, at or above a number,
+ * where a run is cut off: it can occur, and the program would go on from it,
+ * but the automaton has no transition for that. What comes after is not looked
+ * at, so a program may have no violation because a transition was forgotten.
+ * That a run is cut off is no fault by itself: an automaton may leave out on
+ * purpose what cannot happen. There are two ways, and a configuration is never
+ * cut off in both, since no edge leaves an exit:
+ *
+ *     at an edge     some edge leads from its node, and its event is not
+ *                    allowed in its state: an action for which the state has no
+ *                    transition, or a call that is heard and for which it has
+ *                    none. A call that is not heard is always allowed
+ *     at a return    it is the exit of a routine that was called: some
+ *                    configuration can occur from which an edge calls the
+ *                    routine, and the call can give this root. The return from
+ *                    the routine is heard, and the state has no transition for
+ *                    it. Main that began the run returns to nowhere and is not
+ *                    cut off at its exit; main that was called may be
+ *
+ * To go through all of them, begin from 0 and go on from the one after the last
+ * that was found. Each call costs what palthrenni_next_violation costs.
+ *
+ *   file, file_len    the file's bytes, of any length
+ *   marks, marks_len  the marks as palthrenni_analyze, a repair or an exchange
+ *                     left them for this file; they are lent for reading only
+ *   work, work_len    room to work in: as many bytes as the marks, which may
+ *                     hold anything before
+ *   from              where to begin; any number
+ *   line              set to the line of a refusal 1 to 8, else to 0
+ *   found             set to the number of the configuration, to
+ *                     PALTHRENNI_NONE if there is none, or to 0 if the call was
+ *                     refused
+ *   edge              at an edge set to its place among the file's edges, from
+ *                     0, the first one if there are several: its frame 53 is
+ *                     the line routines + 2 + edge of the file. At a return set
+ *                     to PALTHRENNI_NONE. Set to 0 if there is none, or if the
+ *                     call was refused
+ *
+ * Returns the numbers of palthrenni_next_violation, in the same order, and
+ * leaves the working buffer as it does.
+ */
+uint32_t palthrenni_next_blocked(const uint8_t *file, size_t file_len,
+                                 const uint8_t *marks, size_t marks_len,
+                                 uint8_t *work, size_t work_len,
+                                 uint32_t from,
+                                 uint32_t *line, uint32_t *found,
+                                 uint32_t *edge);
 
 /*
  * Reads a program file and prunes marks by it (paper: the keeping): of the
@@ -452,8 +647,8 @@ uint32_t palthrenni_next_violation(const uint8_t *file, size_t file_len,
  *                     hold anything before
  *   line              set to the line of a refusal 1 to 8, else to 0
  *
- * Returns 1 to 8; then 19 or 20; then 23; then 9 or 11, the lower first, if the
- * file is accepted and a buffer has another length; else PALTHRENNI_OK. On
+ * Returns a refusal of the file; then 9 or 11, the lower first, if it is
+ * accepted and a buffer has another length; else PALTHRENNI_OK. On
  * PALTHRENNI_OK each mark that stays is 1, every other byte of the marks is 0,
  * and the working buffer is all zero. On a refusal both buffers are unchanged.
  */
@@ -470,7 +665,8 @@ uint32_t palthrenni_prune(const uint8_t *file, size_t file_len,
  *     2D f n a m      drops that edge
  *     3D f n a m b    gives that edge the label b
  *
- * two digits a number and a byte 0A at the end.
+ * two digits a number and a byte 0A at the end. (The kinds are the ASCII codes
+ * of +, - and =.)
  *
  * For a chain of repairs, with exchanges among them or not, keep two buffers
  * for files, one lent as the file and the other as the output, and swap them
@@ -495,13 +691,12 @@ uint32_t palthrenni_prune(const uint8_t *file, size_t file_len,
  *   written             set to how many bytes were written, or to 0 if the
  *                       call was refused
  *
- * Returns 1 to 8 for the file; then 19 or 20; then 23; then, if it is accepted,
- * the lowest of 9 to 17 that is met; else PALTHRENNI_OK. On PALTHRENNI_OK the
- * marks are those that palthrenni_analyze would set for the new file, the new
- * file is at the start of the output and the rest of the output is unchanged,
- * and the working buffer is all zero. On a refusal the marks and the output
- * are unchanged; the working buffer is all zero on 17 and unchanged on every
- * other number.
+ * Returns a refusal of the file; then, if it is accepted, the lowest of 9 to 17
+ * that is met; else PALTHRENNI_OK. On PALTHRENNI_OK the marks are those that
+ * palthrenni_analyze would set for the new file, the new file is at the start
+ * of the output and the rest of the output is unchanged, and the working buffer
+ * is all zero. On a refusal the marks and the output are unchanged; the working
+ * buffer is all zero on 17 and unchanged on every other number.
  */
 uint32_t palthrenni_repair_forward(const uint8_t *file, size_t file_len,
                                    uint8_t *marks, size_t marks_len,
@@ -552,9 +747,8 @@ uint32_t palthrenni_repair_inside_out(const uint8_t *file, size_t file_len,
  *   work_size       set to the length of the working buffer for the exchange:
  *                   that of the old marks or of the new ones, the longer
  *
- * Returns 1 to 8 for the file; then 19 or 20; then 23; then, if it is accepted,
- * the first that is met of 12, 13, 21, 16 and 23, in this order, each judged
- * over the whole text before the next; else PALTHRENNI_OK. On a refusal the
+ * Returns a refusal of the file; then, if it is accepted, the first that is met
+ * of 12, 13, 21, 16 and 23, in this order; else PALTHRENNI_OK. On a refusal the
  * three numbers after the line are 0.
  */
 uint32_t palthrenni_exchange_sizes(const uint8_t *file, size_t file_len,
@@ -637,19 +831,9 @@ uint32_t palthrenni_exchange_sizes(const uint8_t *file, size_t file_len,
  *   written                   set to how many bytes were written, or to 0 if
  *                             the call was refused
  *
- * Returns 1 to 8 for the file; then 19 or 20; then 23; then, if it is accepted,
- * the first that is met of these, in this order, each of 12, 13, 21 and 16
- * judged over the whole text before the next; else PALTHRENNI_OK:
- *
- *     9                   the old marks have another length
- *     10                  the output is too short
- *     12, 13, 21, 16      the text does not fit
- *     23                  the new program is too large
- *     9                   the new marks have another length
- *     11                  the working buffer has another length
- *     17                  the old marks are not those of the file's program
- *
- * (14 and 15 are never met.)
+ * Returns a refusal of the file; then, if it is accepted, the first that is met
+ * of 9 for the old marks, 10, 12, 13, 21, 16, 23 for the new program, 9 for the
+ * new marks, 11, and 17, in this order; else PALTHRENNI_OK.
  *
  * On PALTHRENNI_OK the new marks are those that palthrenni_analyze would set
  * for the new file, the new file is at the start of the output and the rest of
