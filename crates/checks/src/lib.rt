@@ -74,7 +74,12 @@ pub fn checked_program(file: &[u8], marks: Length, output: Length, work: Length)
     let r = read(file);
     let v = r.verdict;
     let program = r.program;
+    let pair = r.pair;
     let size = length_of(sizes_of(program));
     let verdict = check(v, size, marks, output, work);
-    Reading { verdict, program }
+    Reading {
+        verdict,
+        program,
+        pair,
+    }
 }

@@ -1,11 +1,13 @@
 // The outcome of reading a file: refused by a number at a line, or accepted with its program. Rows are judged as a table
-// (19, 20) and the sizes (23) where all lines are good.
+// (19, 20), which tells its first faulty pair, and the sizes (23) where all lines are good.
 use automaton::DecodedAutomaton;
 use automaton::transitions::Transitions;
 use program::DecodedProgram;
+use program::FaultyPair;
 use program::Reading;
 use program::Verdict;
 use program::chosen::sizes_of;
+use program::no_pair;
 use program::no_program;
 use program::sizes::MARKS_MOST;
 use program::sizes::length_of;
@@ -18,26 +20,42 @@ ghost use Prim.Native.Nat.{_≤_};
 ghost use Rattle.automaton.specs.Sizes.{maxStates, maxActions};
 ghost use Rattle.automaton.specs.Decoded.{transitionKeysOf, transitionOf};
 ghost use Rattle.rows.specs.Decoded.{rowsOf};
-ghost use Rattle.program.specs.Reading.{accepted, refused, withTransitions, sizesDecide, finished};
-ghost use Rattle.program.specs.Decoded.{programOf};
+ghost use Rattle.program.specs.Reading.{accepted, refused, refusedFor, withTransitions, sizesDecide, finished};
+ghost use Rattle.program.specs.Decoded.{programOf, pairOf};
 ghost use Rattle.outcome.specs.Outcome.{outcomeOf};
 
 pub fn refuse(number: u8, line: usize) -> Reading
     ensures { λ r. ⌜ outcomeOf r ≡ refused number line ⌝ }
 {
     let program = no_program();
+    let pair = no_pair();
     Reading {
         verdict: Verdict::Refused(number, line),
         program,
+        pair,
+    }
+}
+
+// Refused for a pair of the table, which has no line.
+fn refuse_for(number: u8, pair: FaultyPair) -> Reading
+    ensures { λ r. ⌜ outcomeOf r ≡ refusedFor number (pairOf pair) ⌝ }
+{
+    let program = no_program();
+    Reading {
+        verdict: Verdict::Refused(number, 0),
+        program,
+        pair,
     }
 }
 
 fn accept(program: DecodedProgram) -> Reading
     ensures { λ r. ⌜ outcomeOf r ≡ accepted (programOf program) ⌝ }
 {
+    let pair = no_pair();
     Reading {
         verdict: Verdict::Accepted,
         program,
+        pair,
     }
 }
 
@@ -87,7 +105,11 @@ pub fn finish(p: DecodedProgram, rows: Rows) -> Reading
     let a = p.automaton;
     let table = table_of(rows, a.states, a.actions);
     if 0 < table.refusal {
-        return refuse(table.refusal, 0);
+        let pair = FaultyPair {
+            state: table.state,
+            action: table.action,
+        };
+        return refuse_for(table.refusal, pair);
     }
     let transitions = table.transitions;
     accept_sized(with_transitions(p, transitions))

@@ -12,9 +12,9 @@ use Rattle.program.specs.Chosen.{largest, numbers}
 use Rattle.program.specs.Sample.{bytes, header, F}
 use Rattle.program.specs.declared.Verdict.the-variants.{Accepted}
 use Rattle.program.specs.Writing.{nodesFrames, framesWith, text, writtenWith, written}
-use Rattle.program.specs.Reading.{accepted, refused, full, judgeAs, judge, afterAs, after, readFrom, readFile}
+use Rattle.program.specs.Reading.{accepted, refused, refusedFor, full, judgeAs, judge, afterAs, after, readFrom, readFile}
 use Rattle.program.specs.Frames.{rowFrame}
-use Rattle.rows.specs.Rows.{TableRow, pairsFrom, timesMet, tableRefusal, nextState}
+use Rattle.rows.specs.Rows.{TableRow, pairsFrom, timesMet, tableRefusal, faultyPair, nextState}
 
 abbrev pub sample : Program
 sample =
@@ -38,7 +38,7 @@ sample =
 
 -- to unfold this is to unfold all that reading computes with
 reading : Unit {0}
-unfolding lines numbersOf judgeAs judge afterAs after pairsFrom timesMet tableRefusal nextState largest numbers readFrom readFile
+unfolding lines numbersOf judgeAs judge afterAs after pairsFrom timesMet tableRefusal faultyPair nextState largest numbers readFrom readFile
 reading = tt
 
 sample-read : readFile (bytes F) ≡ accepted sample
@@ -235,16 +235,16 @@ unfolding reading
 one-row = refl
 
 -- no row meets state 1
-pair-missing : readFile (rule ("55010000000301" ∷ []) "450003") ≡ refused 19 0
+pair-missing : readFile (rule ("55010000000301" ∷ []) "450003") ≡ refusedFor 19 (record { state = 1; action = 0 })
 unfolding reading
 pair-missing = refl
 
-pair-doubled : readFile (rule ("55010000000301" ∷ "55030000000300" ∷ []) "450004") ≡ refused 20 0
+pair-doubled : readFile (rule ("55010000000301" ∷ "55030000000300" ∷ []) "450004") ≡ refusedFor 20 (record { state = 0; action = 0 })
 unfolding reading
 pair-doubled = refl
 
 -- state 0 with action 1 is missing, state 1 with action 0 is met twice: the lower state decides, not the lower action
-first-pair : readFile (rule ("55010000000100" ∷ "55020000000100" ∷ "55020000000300" ∷ []) "450005") ≡ refused 19 0
+first-pair : readFile (rule ("55010000000100" ∷ "55020000000100" ∷ "55020000000300" ∷ []) "450005") ≡ refusedFor 19 (record { state = 0; action = 1 })
 unfolding reading
 first-pair = refl
 
@@ -305,7 +305,7 @@ wide-rows-descend : readFile (nine ("5501000000000108" ∷ "5500FF0000000108" �
 unfolding reading
 wide-rows-descend = refl
 
-last-pair-missing : readFile (nine ("5500FF0000000108" ∷ []) "450003") ≡ refused 19 0
+last-pair-missing : readFile (nine ("5500FF0000000108" ∷ []) "450003") ≡ refusedFor 19 (record { state = 8; action = 0 })
 unfolding reading
 last-pair-missing = refl
 
@@ -354,7 +354,7 @@ unfolding reading
 product-above = refl
 
 -- the table is judged before the sizes
-table-before-sizes : readFile (bytes ("50021001" ∷ "520021" ∷ "520102" ∷ "557FFF0000000100" ∷ "450004" ∷ [])) ≡ refused 19 0
+table-before-sizes : readFile (bytes ("50021001" ∷ "520021" ∷ "520102" ∷ "557FFF0000000100" ∷ "450004" ∷ [])) ≡ refusedFor 19 (record { state = 15; action = 0 })
 unfolding reading
 table-before-sizes = refl
 

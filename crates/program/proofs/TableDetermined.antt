@@ -21,7 +21,7 @@ use Rattle.program.proofs.TableWellFormed.{TableOf, table-ascends}
 once-accepted : (rs : List TableRow) (ps : List Pair) → ((p : Pair) → List·Memᴰ p ps → timesMet p rs ≡ 1) → tableRefusal rs ps ≡ 0
 unfolding tableRefusal
 once-accepted rs [] h = refl
-once-accepted rs (p ∷ ps) h = clean-pair rs p ps (ap pairRefusal (h p (List·Memᴰ·head refl))) ∙ once-accepted rs ps (λ x m. h x (List·Memᴰ·tail m))
+once-accepted rs (p ∷ ps) h = clean-pair rs p ps (ap pairRefusal (h p (List·Memᴰ·head refl))) .0 ∙ once-accepted rs ps (λ x m. h x (List·Memᴰ·tail m))
 
 module _ (p : Program) (w : WellFormed p) (rs : List TableRow) (fit : All (rowFits (p .automaton)) rs) where
   abbrev states : ℕ

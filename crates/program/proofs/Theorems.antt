@@ -53,6 +53,11 @@ pub no-rows : (p : Program) → WellFormedRows p []
 unfolding All Ascending
 no-rows p = record { rows-fit = tt; rows-ascend = tt; rows-limited = omega arith }
 
+-- An accepted file's outcome is that of its program: no pair is told.
+pub accepted-as : (file : List ℕ) → readFile file .verdict ≡ Accepted → readFile file ≡ accepted (readFile file .program)
+accepted-as file h =
+    ap readFile (sym (written-back file h)) ∙ read-again-with (readFile file .program) (accepted-well-formed file h) (rowsIn file) (accepted-rows file h) (accepted-file file h .table)
+
 -- What is written of a well-formed program has no row.
 pub no-row-written : (p : Program) → WellFormed p → rowsIn (written p) ≡ []
 no-row-written p w = rows-again p w [] (no-rows p) (λ n. absurd (n refl))

@@ -3,9 +3,11 @@ use Prim.Native.Nat.{ℕ, _/_, _%_}
 use mathlib.Core.List.{List, map}
 use lib.ListN.{take}
 use Rattle.automaton.specs.Decoded.{automatonOf}
+use Rattle.rows.specs.Rows.{Pair}
 use Rattle.program.specs.Program.{Edge, Program}
 use Rattle.program.specs.declared.Nodes.{Nodes}
 use Rattle.program.specs.declared.DecodedProgram.{DecodedProgram}
+use Rattle.program.specs.declared.FaultyPair.{FaultyPair}
 use Rattle.program.specs.declared.edges.Edges.{Edges}
 use Rattle.program.specs.declared.edges.DecodedEdge.{DecodedEdge}
 
@@ -32,3 +34,6 @@ programOf d =
       edges = map edgeOf (edgeKeysOf (d .edges));
       automaton = automatonOf (d .automaton);
     }
+
+abbrev pub pairOf : FaultyPair → Pair
+pairOf x = record { state = x .state; action = x .action }

@@ -8,7 +8,8 @@ use Rattle.text.specs.Lines.{lines, numbersOf, lineFrom}
 use Rattle.text.specs.declared.Line.{Line}
 use Rattle.automaton.specs.Automaton.{Transition, Automaton}
 use Rattle.automaton.specs.Sizes.{maxTransitions}
-use Rattle.rows.specs.Rows.{maxRows, TableRow, rowFits, Pair, pairs, tableRefusal, tableTransitions}
+use Rattle.rows.specs.Rows.{maxRows, TableRow, rowFits, Pair, noPair, pairs, tableRefusal, faultyPair}
+use Rattle.rows.specs.Rows.{tableTransitions}
 use Rattle.program.specs.Sizes.{maxEdges}
 use Rattle.program.specs.Program.{Edge, Program, noProgram, within, nodesFit, countsFit}
 use Rattle.program.specs.Program.{edgeFits, transitionFits}
@@ -149,16 +150,22 @@ after s l = afterAs s (kind l) l
 
 -- ---- a whole file
 
--- accepted, with the program; or refused by a number at a line, and then there is no program
+-- accepted, with the program; or refused by a number at a line, and then there is no program; and the pair that a table
+-- is refused for
 pub record Outcome : Type 0 where
   pub verdict : Verdict
   pub program : Program
+  pub pair : Pair
 
 abbrev pub accepted : Program → Outcome
-accepted p = record { verdict = Accepted; program = p }
+accepted p = record { verdict = Accepted; program = p; pair = noPair }
 
 abbrev pub refused : ℕ → ℕ → Outcome
-refused n line = record { verdict = Refused n line; program = noProgram }
+refused n line = record { verdict = Refused n line; program = noProgram; pair = noPair }
+
+-- for a pair of a table, which has no line
+abbrev pub refusedFor : ℕ → Pair → Outcome
+refusedFor n x = record { verdict = Refused n 0; program = noProgram; pair = x }
 
 -- ---- the table of a file with rows
 
@@ -186,9 +193,12 @@ withTransitions p ts =
 abbrev pub sizesDecide : Program → Outcome
 sizesDecide p = cond (sizesFit p) (accepted p) (refused 23 0)
 
--- a table that is refused (19, 20) refuses the file, with line 0; else its transitions are the program's
+-- a table that is refused (19, 20) refuses the file, with line 0 and for its first faulty pair; else its transitions are
+-- the program's
 abbrev pub tableDecides : Bool → ℕ → List TableRow → Program → Outcome
-tableDecides good n rs p = cond good (sizesDecide (withTransitions p (tableTransitions rs (pairsOf p)))) (refused n 0)
+tableDecides good n rs p =
+    cond good (sizesDecide (withTransitions p (tableTransitions rs (pairsOf p))))
+    (refusedFor n (faultyPair rs (pairsOf p)))
 
 -- every line is good: only a file with rows has a table, and the sizes are asked last
 abbrev pub finished : List TableRow → Program → Outcome

@@ -11,8 +11,9 @@ use edges::Edges;
 use edges::no_edges;
 use sizes::MAX_ROUTINES;
 ghost use mathlib.Core.Path.{_≡_};
+ghost use Rattle.rows.specs.Rows.{noPair};
 ghost use Rattle.program.specs.Program.{noProgram};
-ghost use Rattle.program.specs.Decoded.{programOf};
+ghost use Rattle.program.specs.Decoded.{programOf, pairOf};
 
 // How many nodes each routine has: the first `count` are in use.
 pub struct Nodes {
@@ -34,16 +35,32 @@ pub enum Verdict {
     Refused(u8, usize),
 }
 
-// The verdict on a file, and its program.
+// The state and the action that a table of rows is refused for; 0 and 0 where there is none.
+pub struct FaultyPair {
+    pub state: u8,
+    pub action: u8,
+}
+
+// The verdict on a file, its program, and the pair that its table is refused for.
 pub struct Reading {
     pub verdict: Verdict,
     pub program: DecodedProgram,
+    pub pair: FaultyPair,
 }
 
 // The length of a buffer that a call is lent; or the call has no such buffer.
 pub enum Length {
     NotAsked,
     Of(usize),
+}
+
+pub fn no_pair() -> FaultyPair
+    ensures { λ r. ⌜ pairOf r ≡ noPair ⌝ }
+{
+    FaultyPair {
+        state: 0,
+        action: 0,
+    }
 }
 
 pub fn no_program() -> DecodedProgram

@@ -2,6 +2,7 @@ pub mod PairsComplete
 pub mod PairsAscend
 pub mod RowsMet
 pub mod TableRefused
+pub mod FirstFaulty
 pub mod TableListed
 pub mod MeetingLoop
 pub mod TableLoop

@@ -10,7 +10,7 @@ use lib.Seq.{append-snoc, length-take-le}
 use Rattle.tables.specs.Keys.{Holds}
 use Rattle.automaton.specs.Sizes.{maxStates, maxActions, maxTransitions}
 use Rattle.automaton.specs.Decoded.{transitionOf}
-use Rattle.rows.specs.Rows.{TableRow, pairAt, pairsFrom, pairs, timesMet, pairRefusal, tableRefusal, transitionFor, tableTransitions}
+use Rattle.rows.specs.Rows.{TableRow, noPair, pairAt, pairsFrom, pairs, timesMet, pairRefusal, tableRefusal, faultyPair, transitionFor, tableTransitions}
 use Rattle.rows.proofs.TableRefused.{faulty-pair, clean-pair}
 
 -- a transition for each pair finds room
@@ -27,10 +27,12 @@ pub record Tabling (rs : List TableRow) (states actions : ℕ) (keys : List ℕ)
   pub within : i ≤ states * actions
   pub made : map transitionOf (take i keys) ++ tableTransitions rs (pairsFrom actions (states * actions - i) i) ≡ tableTransitions rs (pairs states actions)
   pub rest : tableRefusal rs (pairsFrom actions (states * actions - i) i) ≡ tableRefusal rs (pairs states actions)
+  pub first : faultyPair rs (pairsFrom actions (states * actions - i) i) ≡ faultyPair rs (pairs states actions)
 
 pub tabling-none : (rs : List TableRow) (states actions : ℕ) (keys : List ℕ) → length keys ≡ maxTransitions → Tabling rs states actions keys 0
 tabling-none rs states actions keys l =
-    record { size = l; within = omega arith; made = rw (sub-zero (states * actions)); rest = rw (sub-zero (states * actions)) }
+    let z = sub-zero (states * actions) in
+    record { size = l; within = omega arith; made = rw z; rest = rw z; first = rw z }
 
 from-next : (actions n i : ℕ) → i < n → pairsFrom actions (n - i) i ≡ pairAt actions i ∷ pairsFrom actions (n - (i + 1)) (i + 1)
 unfolding pairsFrom
@@ -42,8 +44,11 @@ from-none actions n i h = let z : n - i ≡ 0 = omega arith in rw z
 
 module _ {rs : List TableRow} {states actions : ℕ} {keys : List ℕ} {i : ℕ} (t : Tabling rs states actions keys i) where
   pub tabling-faulty : i < states * actions → pairRefusal (timesMet (pairAt actions i) rs) ≢ 0
-      → pairRefusal (timesMet (pairAt actions i) rs) ≡ tableRefusal rs (pairs states actions)
-  tabling-faulty h f = sym (faulty-pair rs (pairAt actions i) _ f) ∙ rw (from-next actions (states * actions) i h) at (t .rest)
+      → (pairRefusal (timesMet (pairAt actions i) rs) ≡ tableRefusal rs (pairs states actions)) × (pairAt actions i ≡ faultyPair rs (pairs states actions))
+  tabling-faulty h f =
+      let o = from-next actions (states * actions) i h in
+      let w = faulty-pair rs (pairAt actions i) _ f in
+      (sym (w .0) ∙ rw o at (t .rest), sym (w .1) ∙ rw o at (t .first))
 
   pub tabling-more : {new : List ℕ} (key : ℕ) {r : ℕ} → i < states * actions → i < length keys → pairRefusal (timesMet (pairAt actions i) rs) ≡ 0
       → transitionOf key ≡ transitionFor rs (pairAt actions i) → length new ≡ length keys → Holds new r (take i keys ++ (key ∷ []))
@@ -57,13 +62,14 @@ module _ {rs : List TableRow} {states actions : ℕ} {keys : List ℕ} {i : ℕ}
         made =
             rw (w .are, n, map-append transitionOf (take i keys) (key ∷ []), f, append-snoc)
             (rw o at (t .made));
-        rest = rw n (sym (clean-pair rs (pairAt actions i) _ e) ∙ rw o at (t .rest));
+        rest = rw n (sym (clean-pair rs (pairAt actions i) _ e .0) ∙ rw o at (t .rest));
+        first = rw n (sym (clean-pair rs (pairAt actions i) _ e .1) ∙ rw o at (t .first));
       }
 
   module _ (h : states * actions ≤ i) where
     pub tabling-made : map transitionOf (take i keys) ≡ tableTransitions rs (pairs states actions)
     tabling-made = sym (append-nil _) ∙ rw (from-none actions (states * actions) i h) at (t .made)
 
-    pub tabling-clean : 0 ≡ tableRefusal rs (pairs states actions)
-    unfolding tableRefusal
-    tabling-clean = rw (from-none actions (states * actions) i h) at (t .rest)
+    pub tabling-clean : (0 ≡ tableRefusal rs (pairs states actions)) × (noPair ≡ faultyPair rs (pairs states actions))
+    unfolding tableRefusal faultyPair
+    tabling-clean = let o = from-none actions (states * actions) i h in (rw o at (t .rest), rw o at (t .first))

@@ -5,7 +5,7 @@ use mathlib.Core.Logic.{_≢_}
 use mathlib.Core.List.{List, [], map}
 use lib.ListN.{take}
 use Rattle.automaton.specs.Decoded.{transitionKeysOf, transitionOf}
-use Rattle.rows.specs.Rows.{TableRow, Pair, tableRefusal, tableTransitions}
+use Rattle.rows.specs.Rows.{TableRow, Pair, tableRefusal, faultyPair, tableTransitions}
 use Rattle.rows.specs.declared.Rows.{Rows}
 use Rattle.rows.specs.declared.Table.{Table}
 
@@ -20,8 +20,9 @@ rowKeysOf t = take (t .count) (t .keys)
 abbrev pub rowsOf : Rows → List TableRow
 rowsOf t = map rowOf (rowKeysOf t)
 
--- what a table is refused for, and its transitions; a refused one has none
+-- what a table is refused for and the pair that decides, and its transitions; a refused one has none
 pub record Tabled (rs : List TableRow) (ps : List Pair) (t : Table) : Type 0 where
   pub refusal : t .refusal ≡ tableRefusal rs ps
+  pub pair : _≡_ {A = Pair} (record { state = t .state; action = t .action }) (faultyPair rs ps)
   pub transitions : t .refusal ≡ 0 → map transitionOf (transitionKeysOf (t .transitions)) ≡ tableTransitions rs ps
   pub no-transitions : t .refusal ≢ 0 → transitionKeysOf (t .transitions) ≡ []

@@ -35,6 +35,10 @@ pub record Pair : Type 0 where
   pub state : ℕ
   pub action : ℕ
 
+-- what is told where there is none
+abbrev pub noPair : Pair
+noPair = record { state = 0; action = 0 }
+
 -- the i-th pair, by state and then by action, where there are so many actions
 abbrev pub pairAt : ℕ → ℕ → Pair
 pairAt actions i = record { state = i / actions; action = i % actions }
@@ -70,6 +74,11 @@ unfoldable pub tableRefusal : List TableRow → List Pair → ℕ
 tableRefusal rs [] = 0
 tableRefusal rs (p ∷ ps) =
     cond (eqb (pairRefusal (timesMet p rs)) 0) (tableRefusal rs ps) (pairRefusal (timesMet p rs))
+
+-- that pair; state 0 and action 0 where none is faulty
+unfoldable pub faultyPair : List TableRow → List Pair → Pair
+faultyPair rs [] = noPair
+faultyPair rs (p ∷ ps) = cond (eqb (pairRefusal (timesMet p rs)) 0) (faultyPair rs ps) p
 
 -- ---- the transitions of a table
 

@@ -26,9 +26,11 @@ pub struct Rows {
     pub keys: [u64; MAX_ROWS],
 }
 
-// What a table is refused for, or 0, and its transitions.
+// What a table is refused for, or 0, the pair that decides, 0 and 0 where there is none, and its transitions.
 pub struct Table {
     pub refusal: u8,
+    pub state: u8,
+    pub action: u8,
     pub transitions: Transitions,
 }
 
@@ -140,8 +142,8 @@ fn pair_refusal(times: usize) -> u8
     20
 }
 
-// What a table is refused for, and its transitions. The header has been judged, so that there is room for a transition
-// for each pair: hence the `requires`.
+// What a table is refused for and by which pair, and its transitions. The header has been judged, so that there is room
+// for a transition for each pair: hence the `requires`.
 pub fn table_of(rows: Rows, states: u8, actions: u8) -> Table
     requires { ⌜ (states ≤ maxStates) × (actions ≤ maxActions) ⌝ }
     ensures { λ r. ⌜ Tabled (rowsOf rows) (pairs states actions) r ⌝ }
@@ -161,6 +163,8 @@ pub fn table_of(rows: Rows, states: u8, actions: u8) -> Table
             let transitions = no_transitions();
             return Table {
                 refusal,
+                state: q,
+                action: a,
                 transitions,
             };
         }
@@ -169,6 +173,8 @@ pub fn table_of(rows: Rows, states: u8, actions: u8) -> Table
     let transitions = Transitions { count: i, keys };
     Table {
         refusal: 0,
+        state: 0,
+        action: 0,
         transitions,
     }
 }

@@ -13,7 +13,7 @@ use Rattle.program.specs.Reading.{Outcome, accepted, readFile}
 use Rattle.program.specs.Checks.{firstMet, checkedBy, checked}
 use Rattle.program.specs.declared.Verdict.{Verdict}
 use Rattle.program.specs.declared.Verdict.the-variants as verdict
-use Rattle.program.proofs.Theorems.{accepted-well-formed}
+use Rattle.program.proofs.Theorems.{accepted-well-formed, accepted-as}
 use Rattle.program.specs.Chosen.{sizesOf, numbers}
 use Rattle.reach.proofs.ProgramInSizes.{usable}
 use Rattle.program.specs.declared.Length.the-variants.{Of}
@@ -123,7 +123,7 @@ module _ {input : List ℕ} {t : Turn} {texts : List (List ℕ)} (ts : Turns inp
       let own : Holds p (started (fileOf input)) =
       record {
         well-formed = accepted-well-formed (fileOf input) h;
-        file = λ i. record { verdict = h i; program = p };
+        file = accepted-as (fileOf input) h;
         marks = refl;
       }
       in

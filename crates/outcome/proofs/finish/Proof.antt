@@ -27,8 +27,9 @@ returns-2 : tie.Need-returns-2
 returns-2 c =
     let t = c .before .before .before in
     let u = t .before .before .before in
-    c .refuse .ensures
-    ∙ table-refused (rows u) (program u) (λ z. t .before .before .if1 .left (u .row-count .ensures ∙ z)) (t .table-of .ensures .refusal) (omega (arith, c .before .if2 .taken))
+    let k = t .table-of .ensures in
+    c .refuse-for .ensures
+    ∙ table-refused (rows u) (program u) (λ z. t .before .before .if1 .left (u .row-count .ensures ∙ z)) (k .refusal) (k .pair) (omega (arith, c .before .if2 .taken))
 
 returns-3 : tie.Need-returns-3
 returns-3 c =

@@ -3,4 +3,4 @@ use Rattle.outcome.proofs.refuse.Statement.{statement}
 use Rattle.outcome.proofs.refuse.Tie as tie
 
 pub refuse-spec : {M : Type 1} → statement M
-refuse-spec = tie.close (tie.spec (λ c κs. search needs) (λ c. cc))
+refuse-spec = tie.close (tie.spec (λ c κs. search needs) (λ c κs. search needs) (λ c. cc))

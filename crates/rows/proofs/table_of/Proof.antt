@@ -2,14 +2,14 @@
 -- others decide.
 use mathlib.Core.Path.{_≡_, refl, sym, ap, _∙_}
 use mathlib.Core.List.{map}
-use Prim.Native.Nat.{_-_, _/_, _%_, _<_}
+use Prim.Native.Nat.{_-_, _<_}
 use native.Mathlib.Omega.{arith}
-use native.Mathlib.Nat.{div-lt-iff-lt-mul, mod-lt}
+use native.Mathlib.Nat.{mod-lt}
 use lib.ListN.{length, take}
 use borrow.Author.Needs.{needs}
 use Rattle.rows.specs.Rows.{pairAt, timesMet, pairRefusal}
 use Rattle.rows.specs.Decoded.{rowOf, rowsOf}
-use Rattle.rows.proofs.PairsComplete.{some-action}
+use Rattle.rows.proofs.PairsComplete.{some-action, state-below}
 use Rattle.rows.proofs.TableLoop.{few-pairs, one-more, Tabling, tabling-none, tabling-faulty, tabling-more, tabling-made, tabling-clean}
 use Rattle.rows.proofs.table_of.Statement.{statement}
 use Rattle.rows.proofs.table_of.Tie as tie
@@ -26,9 +26,12 @@ mul-size c = let z = c .before in omega (arith, few-pairs (z .pre .0) (z .pre .1
 loop-holds : tie.Need-loop-holds Inv-loop μ-loop
 loop-holds c = tabling-none _ _ _ _ refl
 
--- there is an action where there is a pair
-some : (c : tie.In-loop Inv-loop μ-loop) → 0 < c .before .before .before .args .actions
-some c = let a = c .before .before .before .args in some-action (a .states) (a .actions) (c .before .loop .i) (omega arith)
+-- where there is a pair, there is a state and an action. This and the two casts are said of both alike, so that pairs in another order are refused for what is
+-- promised
+some : (c : tie.In-loop Inv-loop μ-loop) → (0 < c .before .before .before .args .states) × (0 < c .before .before .before .args .actions)
+some c =
+    let a = c .before .before .before .args in
+    (some-action (a .actions) (a .states) (c .before .loop .i) (omega arith), some-action (a .states) (a .actions) (c .before .loop .i) (omega arith))
 
 -- the transitions that are made leave room for this one
 room : (c : tie.In-loop Inv-loop μ-loop) → c .before .loop .i < length (c .before .loop .keys)
@@ -37,14 +40,13 @@ room c = let z = c .before .before .before in omega (arith, c .before .loop .inv
 cast-q : tie.Need-cast-q Inv-loop μ-loop
 cast-q c =
     let a = c .before .before .before .args in
-    let h : c .before .loop .i / a .actions < a .states = div-lt-iff-lt-mul {k = a .actions} (some c) .1 (omega arith) in
-    omega (arith, h)
+    let i = c .before .loop .i in
+    omega (arith, state-below (a .states) (a .actions) i (omega arith), state-below (a .actions) (a .states) i (omega arith))
 
 cast-a : tie.Need-cast-a Inv-loop μ-loop
 cast-a c =
-    let a = c .before .before .before .args in
-    let h : c .before .loop .i % a .actions < a .actions = mod-lt _ (some c) in
-    omega (arith, h)
+    let i = c .before .loop .i in
+    omega (arith, mod-lt i (some c .0), mod-lt i (some c .1))
 
 -- what the pair meets
 judged : (c : tie.After-pair-refusal Inv-loop μ-loop)
@@ -55,8 +57,10 @@ returns : tie.Need-returns Inv-loop μ-loop
 returns c =
     let p = c .before .before in
     let t = p .before .before .before .before .loop .inv in
+    let w = tabling-faulty t (omega arith) (λ e. c .before .if1 .taken (judged p ∙ e)) in
     record {
-      refusal = judged p ∙ tabling-faulty t (omega arith) (λ e. c .before .if1 .taken (judged p ∙ e));
+      refusal = judged p ∙ w .0;
+      pair = w .1;
       transitions = λ e. absurd (c .before .if1 .taken e);
       no-transitions = λ f. c .no-transitions .ensures;
     }
@@ -85,11 +89,12 @@ loop-again c =
 returns-2 : tie.Need-returns-2 Inv-loop μ-loop
 returns-2 c =
     let t = c .before .loop .inv in
-    record { refusal = tabling-clean t (omega arith); transitions = λ e. tabling-made t (omega arith); no-transitions = λ f. absurd (f refl) }
+    let w = tabling-clean t (omega arith) in
+    record { refusal = w .0; pair = w .1; transitions = λ e. tabling-made t (omega arith); no-transitions = λ f. absurd (f refl) }
 
 pub table-of-spec : {M : Type 1} → statement M
 table-of-spec =
     tie.close
-    (tie.spec Inv-loop μ-loop mul-size loop-holds some cast-q some cast-a (λ c. search needs) (λ c κs. search needs)
+    (tie.spec Inv-loop μ-loop mul-size loop-holds (λ c. omega (arith, some c)) cast-q (λ c. omega (arith, some c)) cast-a (λ c. search needs) (λ c κs. search needs)
     (λ c κs. search needs) (λ c κs. search needs) returns slice-aggregate-with-key (λ c κs. search needs) with-key-requires
     loop-less loop-again returns-2)
