@@ -1,4 +1,3 @@
-pub mod NumbersSought
 pub mod ListsChained
 pub mod EdgesIndexed
 pub mod RoutinePart

@@ -9,9 +9,9 @@ use native.Mathlib.Decide.{ℕ-discrete}
 use lib.ListN.{length, getD, set, length-set}
 use lib.Seq.{getD-set-same, getD-set-other, lt-length-set}
 use Rattle.base.proofs.Bools.{never}
-use Rattle.index.specs.Index.{seek}
+use Rattle.base.specs.Searches.{seek}
 use Rattle.index.specs.Linked.{linked}
-use Rattle.index.proofs.NumbersSought.{seek-none, seek-met, seek-on}
+use Rattle.base.proofs.NumbersSought.{seek-none, seek-met, seek-on}
 
 -- ---- a number goes before the first of a list: what stands where
 

@@ -1,18 +1,14 @@
 -- An index of a table of edges: chained lists of the edges from each node, and of those that call each routine.
-use Prim.Native.Nat.{ℕ, zero, suc, _+_, _-_, _*_, _≤_, _<_}
+use Prim.Native.Nat.{ℕ, _+_, _-_, _*_, _≤_, _<_}
 use mathlib.Core.Path.{_≡_}
-use mathlib.Core.Bool.{Bool, true, cond, _&&_}
+use mathlib.Core.Bool.{Bool, true, _&&_}
 use mathlib.Core.List.{List}
 use lib.Dec.{eqb}
 use lib.ListN.{length, getD}
+use Rattle.base.specs.Searches.{seek}
 use Rattle.program.specs.Sizes.{maxRoutines, maxNodes, maxEdges}
 use Rattle.program.specs.Program.{isCall, calledBy}
 use Rattle.program.specs.Decoded.{edgeOf}
-
--- the first of k numbers from i on that meets a test; i + k where none does
-unfoldable pub seek : (ℕ → Bool) → ℕ → ℕ → ℕ
-seek t zero i = i
-seek t (suc k) i = cond (t i) i (seek t k (suc i))
 
 -- edge i of the table leads from node n of routine f
 abbrev pub leaves : List ℕ → ℕ → ℕ → ℕ → Bool

@@ -16,8 +16,9 @@ use Rattle.program.specs.Sizes.{maxRoutines}
 use Rattle.program.specs.Program.{Edge}
 use Rattle.reach.specs.Configurations.{number}
 use Rattle.reach.proofs.Numbers.{number-state, number-root}
-use Rattle.kept.specs.Parts.{anyFrom, rootKept, callerKept, moveKept, exitKept, rootReturns, returnKept}
-use Rattle.kept.proofs.SearchesAsk.{found-from, any-from}
+use Rattle.base.specs.Searches.{anyFrom}
+use Rattle.kept.specs.Parts.{rootKept, callerKept, moveKept, exitKept, rootReturns, returnKept}
+use Rattle.base.proofs.SearchesAsk.{found-from, any-from}
 use Rattle.program.specs.declared.sizes.Sizes.{Sizes}
 use Rattle.reach.specs.Configurations.{Usable}
 

@@ -1,2 +1,1 @@
-pub mod SearchesAsk
 pub mod CallsFound

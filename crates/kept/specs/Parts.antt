@@ -1,21 +1,17 @@
 -- What the searches over states ask of the kept configurations; nothing here has to be believed.
-use Prim.Native.Nat.{ℕ, zero, suc, _+_, _*_}
-use mathlib.Core.Bool.{Bool, false, cond, _&&_, _||_}
+use Prim.Native.Nat.{ℕ, _+_, _*_}
+use mathlib.Core.Bool.{Bool, false, cond, _&&_}
 use mathlib.Core.List.{List}
 use lib.Dec.{ltb}
 use Rattle.program.specs.Sizes.{maxRoutines}
 use Rattle.program.specs.declared.sizes.Sizes.{Sizes}
+use Rattle.base.specs.Searches.{anyFrom}
 use Rattle.base.specs.Bits.{bit}
 use Rattle.base.specs.Flags.{isSet}
 use Rattle.program.specs.Program.{Edge}
 use Rattle.automaton.specs.Automaton.{callOf, returnOf}
 use Rattle.automaton.specs.NextStates.{setAt}
 use Rattle.reach.specs.Configurations.{number}
-
--- one of n numbers, from j on
-unfoldable pub anyFrom : (ℕ → Bool) → ℕ → ℕ → Bool
-anyFrom t zero j = false
-anyFrom t (suc n) j = t j || anyFrom t n (j + 1)
 
 -- the configuration from this number on is kept in state x, and label l may lead from x to t
 unfoldable pub moveKept : List ℕ → List ℕ → ℕ → ℕ → ℕ → ℕ → Bool

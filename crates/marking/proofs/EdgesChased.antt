@@ -5,8 +5,8 @@ use mathlib.Core.Bool.{Bool, true, false}
 use mathlib.Core.List.{List}
 use native.Mathlib.Omega.{arith}
 use lib.ListN.{length}
-use Rattle.index.specs.Index.{seek}
-use Rattle.index.proofs.NumbersSought.{seek-at-least, seek-at-most, seek-meets, seek-passes}
+use Rattle.base.specs.Searches.{seek}
+use Rattle.base.proofs.NumbersSought.{seek-at-least, seek-at-most, seek-meets, seek-passes}
 use Rattle.reach.specs.Worklist.{Worklist}
 use Rattle.marking.specs.Parts.{Becomes, Lowers}
 use Rattle.marking.proofs.StepsMark.{Looping, loop-start, loop-turn, loop-skip}

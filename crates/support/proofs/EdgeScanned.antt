@@ -5,7 +5,8 @@ use mathlib.Core.List.{List}
 use Prim.Native.Nat.{ℕ}
 use Rattle.program.specs.Program.{Edge}
 use Rattle.reach.specs.Configurations.{number}
-use Rattle.kept.specs.Parts.{anyFrom, moveKept}
+use Rattle.base.specs.Searches.{anyFrom}
+use Rattle.kept.specs.Parts.{moveKept}
 use Rattle.support.specs.Parts.{callSupports, statesToTry, actionSupports, edgeSupports}
 use Rattle.program.specs.declared.sizes.Sizes.{Sizes}
 

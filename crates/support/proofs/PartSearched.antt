@@ -16,7 +16,7 @@ use Rattle.tables.specs.Keys.{Ascending}
 use Rattle.program.specs.Decoded.{edgeOf}
 use Rattle.index.specs.Part.{FirstOf}
 use Rattle.index.proofs.RoutinePart.{part-starts, before-part, after-part}
-use Rattle.kept.specs.Parts.{anyFrom}
+use Rattle.base.specs.Searches.{anyFrom}
 use Rattle.support.specs.Parts.{anyKey, entrySupports, returnSupports, callSupports, statesToTry, actionSupports, edgeSupports, supports, PartOf}
 use Rattle.program.specs.declared.sizes.Sizes.{Sizes}
 

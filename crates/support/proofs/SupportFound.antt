@@ -24,10 +24,11 @@ use Rattle.reach.specs.Runs.{Step, eventOf, stepOf, HasStep, Moves}
 use Rattle.reach.specs.Marks.{Marked}
 use Rattle.reach.proofs.ProgramInSizes.{map-in}
 use Rattle.reach.proofs.Labels.{call-label, label-calls, step-event}
-use Rattle.kept.specs.Parts.{anyFrom, moveKept, callerKept, returnKept}
+use Rattle.base.specs.Searches.{anyFrom}
+use Rattle.kept.specs.Parts.{moveKept, callerKept, returnKept}
 use Rattle.support.specs.Parts.{entrySupports, returnSupports, callSupports}
 use Rattle.support.specs.Parts.{statesToTry, actionSupports, edgeSupports, supports, Tables}
-use Rattle.kept.proofs.SearchesAsk.{found-from, any-from}
+use Rattle.base.proofs.SearchesAsk.{found-from, any-from}
 use Rattle.support.proofs.KeysAsked.{found-key, any-key, in-map}
 use Rattle.kept.proofs.CallsFound.{move-found, move-there, CallerAt, caller-found, caller-there, ReturnAt, return-found, return-there}
 use Rattle.program.specs.declared.sizes.Sizes.{Sizes}

@@ -14,7 +14,8 @@ use Rattle.program.specs.WellFormed.{WellFormed}
 use Rattle.program.specs.Decoded.{edgeOf}
 use Rattle.reach.specs.Ranged.{Sized}
 use Rattle.reach.specs.Configurations.{number}
-use Rattle.kept.specs.Parts.{anyFrom, moveKept, callerKept, returnKept}
+use Rattle.base.specs.Searches.{anyFrom}
+use Rattle.kept.specs.Parts.{moveKept, callerKept, returnKept}
 
 -- one key of a list
 unfoldable pub anyKey : (ℕ → Bool) → List ℕ → Bool

@@ -1,6 +1,7 @@
 -- `callers::wake_callers` meets its contract. The loop's invariant: the edges from `i` on are left to try.
-use Rattle.index.specs.Index.{callsOne, seek}
-use Rattle.index.proofs.NumbersSought.{seek-at-least}
+use Rattle.base.specs.Searches.{seek}
+use Rattle.index.specs.Index.{callsOne}
+use Rattle.base.proofs.NumbersSought.{seek-at-least}
 use Rattle.program.specs.declared.sizes.Sizes.{Sizes}
 use Rattle.program.specs.Decoded.{edgeOf}
 use Rattle.callers.specs.Parts.{callerStep}

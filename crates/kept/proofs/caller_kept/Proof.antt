@@ -7,7 +7,7 @@ use Rattle.automaton.specs.NextStates.{setAt}
 use Rattle.base.specs.Bits.{bit}
 use Rattle.reach.specs.Configurations.{number}
 use Rattle.kept.specs.Parts.{rootKept, callerKept}
-use Rattle.kept.proofs.SearchesAsk.{both-met, first-fails, second-fails, Trying, try-all, try-found, try-next, try-none}
+use Rattle.base.proofs.SearchesAsk.{both-met, first-fails, second-fails, Trying, try-all, try-found, try-next, try-none}
 use borrow.Author.Needs.{needs}
 use Rattle.kept.proofs.caller_kept.Statement.{statement}
 use Rattle.kept.proofs.caller_kept.Tie as tie

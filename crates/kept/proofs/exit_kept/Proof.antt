@@ -2,7 +2,7 @@
 use mathlib.Core.Path.{sym, _∙_}
 use Prim.Native.Nat.{_-_}
 use Rattle.kept.specs.Parts.{moveKept, exitKept}
-use Rattle.kept.proofs.SearchesAsk.{Trying, try-all, try-found, try-next, try-none}
+use Rattle.base.proofs.SearchesAsk.{Trying, try-all, try-found, try-next, try-none}
 use borrow.Author.Needs.{needs}
 use Rattle.kept.proofs.exit_kept.Statement.{statement}
 use Rattle.kept.proofs.exit_kept.Tie as tie

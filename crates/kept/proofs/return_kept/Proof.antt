@@ -6,7 +6,7 @@ use Prim.Native.Nat.{_+_, _-_}
 use borrow.Author.Tests.{lt-ltb, le-ltb}
 use Rattle.base.specs.Flags.{isSet}
 use Rattle.kept.specs.Parts.{rootReturns, returnKept}
-use Rattle.kept.proofs.SearchesAsk.{both-met, first-fails, second-fails, Trying, try-all, try-found, try-next, try-none}
+use Rattle.base.proofs.SearchesAsk.{both-met, first-fails, second-fails, Trying, try-all, try-found, try-next, try-none}
 use borrow.Author.Needs.{needs}
 use Rattle.kept.proofs.return_kept.Statement.{statement}
 use Rattle.kept.proofs.return_kept.Tie as tie

@@ -4,7 +4,7 @@ use native.Mathlib.Omega.{arith}
 use Prim.Native.Nat.{_+_, _*_, _-_, _≤_}
 use Rattle.base.specs.Flags.{isSet}
 use Rattle.kept.specs.Parts.{rootKept}
-use Rattle.kept.proofs.SearchesAsk.{Trying, try-all, try-found, try-next, try-none}
+use Rattle.base.proofs.SearchesAsk.{Trying, try-all, try-found, try-next, try-none}
 use borrow.Author.Needs.{needs}
 use Rattle.kept.proofs.root_kept.Statement.{statement}
 use Rattle.kept.proofs.root_kept.Tie as tie

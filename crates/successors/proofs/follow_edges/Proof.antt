@@ -1,6 +1,7 @@
 -- `successors::follow_edges` meets its contract. The loop's invariant: the edges from `i` on are left to follow.
-use Rattle.index.specs.Index.{leaves, seek}
-use Rattle.index.proofs.NumbersSought.{seek-at-least}
+use Rattle.base.specs.Searches.{seek}
+use Rattle.index.specs.Index.{leaves}
+use Rattle.base.proofs.NumbersSought.{seek-at-least}
 use Rattle.program.specs.Program.{Edge}
 use Rattle.program.specs.declared.sizes.Sizes.{Sizes}
 use Rattle.program.specs.Decoded.{edgeOf}

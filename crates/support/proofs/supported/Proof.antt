@@ -10,7 +10,7 @@ use Rattle.program.specs.Program.{Edge}
 use Rattle.program.specs.Decoded.{edgeOf}
 use Rattle.support.specs.Parts.{anyKey, edgeSupports, supports}
 use Rattle.kept.specs.Parts.{moveKept}
-use Rattle.kept.proofs.SearchesAsk.{Trying, try-all, try-found, try-next, try-none}
+use Rattle.base.proofs.SearchesAsk.{Trying, try-all, try-found, try-next, try-none}
 use Rattle.support.proofs.KeysAsked.{asks-key, all-keys}
 use Rattle.support.proofs.EdgeScanned.{edge-calls, edge-is}
 use borrow.Author.Needs.{needs}

@@ -1,11 +1,11 @@
 -- The first number that meets a test: where it is, what it meets and what is passed on the way.
 use Prim.Native.Nat.{ℕ, zero, suc, _+_, _-_, _≤_, _<_}
-use mathlib.Core.Path.{_≡_, refl}
+use mathlib.Core.Path.{_≡_, refl, _∙_}
 use mathlib.Core.Bool.{Bool, true, false, cond}
 use native.Mathlib.Numerals.{add-one}
 use native.Mathlib.Omega.{arith}
 use native.Mathlib.Decide.{ℕ-discrete}
-use Rattle.index.specs.Index.{seek}
+use Rattle.base.specs.Searches.{seek}
 
 -- ---- one number more
 
@@ -61,3 +61,19 @@ seek-passes t (suc k) i j h l = go t i j (seek t k (suc i)) (seek-passes t k (su
     go : (t : ℕ → Bool) (i j x : ℕ) → (suc i ≤ j → j < x → t j ≡ false) → (b : Bool) → t i ≡ b → i ≤ j → j < cond b i x → t j ≡ false
     go t i j x f true e h l = absurd (omega arith)
     go t i j x f false e h l = elim (ℕ-discrete j i) [ yes d ↦ rw d e | no d ↦ f (omega arith) l ]
+
+-- ---- tests that are met alike find the same
+
+pub seek-same : {t u : ℕ → Bool} (k i : ℕ) → ((j : ℕ) → j < i + k → t j ≡ u j) → seek t k i ≡ seek u k i
+unfolding seek
+seek-same zero i h = refl
+seek-same (suc k) i h = rw (h i (omega arith), seek-same k (suc i) (λ j l. h j (omega arith))) refl
+
+-- ---- d numbers that fail are passed
+
+pub seek-past : (t : ℕ → Bool) (n d i : ℕ) → i + d ≤ n → ((j : ℕ) → i ≤ j → j < i + d → t j ≡ false) → seek t (n - i) i ≡ seek t (n - (i + d)) (i + d)
+seek-past t n zero i h f = let e : i + 0 ≡ i = omega arith in rw e refl
+seek-past t n (suc d) i h f =
+    let e : i + 1 + d ≡ i + suc d = omega arith in
+    seek-on t n i (omega arith) (f i (omega arith) (omega arith))
+    ∙ rw e at (seek-past t n d (i + 1) (omega arith) (λ j a b. f j (omega arith) (omega arith)))

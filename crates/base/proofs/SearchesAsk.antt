@@ -4,8 +4,8 @@ use mathlib.Core.Bool.{Bool, true, false, _&&_, _||_, or-true}
 use Prim.Native.Nat.{ℕ, zero, suc, _+_, _-_, _≤_, _<_}
 use native.Mathlib.Omega.{arith}
 use native.Mathlib.Decide.{ℕ-discrete}
 use Rattle.base.proofs.Bools.{either, never}
-use Rattle.kept.specs.Parts.{anyFrom}
+use Rattle.base.specs.Searches.{anyFrom}
 
 -- ---- a test of two parts: the second is asked only where the first is met
 
