@@ -6,7 +6,7 @@ use Prim.Native.Nat.{ℕ}
 use Rattle.automaton.specs.declared.Event.the-variants.{Call}
 use Rattle.program.specs.Program.{Program}
 use Rattle.reach.specs.Runs.{HasStep, Moves, Activation, Run, begin, act, enter, leave, Occurs}
-use Rattle.reach.specs.Reachable.{seeded, by-action, by-call, by-return, Initial, initial, Any, Reachable}
+use Rattle.reach.specs.Reachable.{seeded, by-action, by-call, by-return, Initial, initial, Any, Reachable, Calls}
 use Rattle.reach.proofs.LeastSetLaws.{Rooted, entry-of}
 
 -- ---- where a run arrives is reachable
@@ -46,6 +46,34 @@ entered (by-return d e v d′ v′ w) = entered d
 pub occurs-iff : {p : Program} {f n r q : ℕ} → Occurs p f n r q ↔ Reachable p f n r q
 occurs-iff =
     (λ o. run-reaches (o .run) .0, λ d. let o = entered d in record { below = o .below; run = inside d (o .below) (o .run) })
+
+-- ---- an activation that another one called
+
+-- some reachable configuration calls g, and r is the root that this gives
+pub record CalledWith (p : Program) (g r : ℕ) : Type 0 where
+  pub from : ℕ
+  pub calls : Calls p (Reachable p) from g r
+
+pub was-called : {p : Program} {g n r q : ℕ} {t : Activation} {k : List Activation} → Run p g n r (t ∷ k) q → CalledWith p g r
+was-called {t = t} ρ =
+    let b = run-reaches ρ .1 in
+    record {
+      from = t .routine;
+      calls = record { node = b .0; root = t .root; state = b .1; target = t .node; holds = b .2; calls = b .3; moves = b .4 };
+    }
+
+-- a run that has arrived there, over the activation that called
+pub record CalledRun (p : Program) (g n r q : ℕ) : Type 0 where
+  pub caller : Activation
+  pub below : List Activation
+  pub run : Run p g n r (caller ∷ below) q
+
+pub run-called : {p : Program} {g n r q : ℕ} → Reachable p g n r q → CalledWith p g r → CalledRun p g n r q
+run-called d c =
+    let x = c .calls in
+    let o = occurs-iff .1 (x .holds) in
+    let t : Activation = record { routine = c .from; node = x .target; root = x .root } in
+    record { caller = t; below = o .below; run = inside d (t ∷ o .below) (enter (o .run) (x .calls) (x .moves)) }
 
 -- ---- a configuration with root r has its entry
 

@@ -7,4 +7,5 @@ pub mod Worklist
 pub mod Takings
 pub mod Marks
 pub mod Violations
+pub mod Blocked
 pub mod SplitParts

@@ -1,0 +1,4 @@
+pub mod EventsAllowed
+pub mod RunsCutOff
+pub mod KeysSearched
+pub mod EdgesSought
