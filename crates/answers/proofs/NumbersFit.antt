@@ -3,12 +3,12 @@ use mathlib.Core.Path.{_≡_, refl}
 use mathlib.Core.Bool.{Bool, true, false, cond}
 use mathlib.Core.Option.{Option, some, none}
 use mathlib.Core.List.{List}
-use Prim.Native.Nat.{ℕ, _+_, _^_, _<_, _≤_}
+use Prim.Native.Nat.{ℕ, _+_, _-_, _^_, _<_, _≤_}
 use native.Mathlib.Nat.{mul-le-mul}
 use native.Mathlib.Omega.{arith}
-use lib.Dec.{eqb, leb}
+use lib.Dec.{eqb, leb, ltb}
 use lib.ListN.{length}
-use borrow.Author.Tests.{leb-true}
+use borrow.Author.Tests.{leb-true, ltb-true}
 use Rattle.program.specs.declared.sizes.Sizes.{Sizes}
 use Rattle.program.specs.Sizes.{marksMost}
 use Rattle.program.specs.Chosen.{sizesOf, sizesFit, numbers, Admitted}
@@ -28,7 +28,7 @@ use Rattle.program.proofs.Theorems.{accepted-well-formed, written-limited, few-
 use Rattle.program.proofs.ChecksPassed.{passes, few-checks}
 use Rattle.writer.specs.Answers.{answerBy, writeAnswer}
 use Rattle.writer.specs.declared.WriteAnswer.the-variants.{Written}
-use Rattle.reach.specs.Marks.{violations, firstFrom}
+use Rattle.reach.specs.Marks.{freshMarks, violations, firstFrom}
 use Rattle.reach.proofs.TakingsBounded.{iterations-bound}
 use Rattle.reach.proofs.MarksShown.{fresh-shows, few-marks}
 use Rattle.reach.specs.Violations.{Violation, First, nowhere, at}
@@ -36,6 +36,10 @@ use Rattle.reach.proofs.ViolationsExact.{few-violations, next-violation}
 use Rattle.analysis.specs.Answers.{limited, followedBy, analyzeBy, analyzeAnswer, owned, foundOf, foundBy, nextAnswer}
 use Rattle.analysis.proofs.AnswersByChecks.{by-marks}
 use Rattle.analysis.proofs.LimitDecides.{by-limit}
+use Rattle.base.specs.Searches.{seek}
+use Rattle.blocked.specs.Blocks.{Block, isBlocked, blockedBy, blockFrom, nextBlock}
+use Rattle.blocked.proofs.RunsCutOff.{edge-small}
+use Rattle.block_list.specs.Answers.{blockOf, blockBy, blockAnswer}
 use Rattle.exchange.specs.Changes.{Exchange, Change, step, whole, ChangeRead, Read, Refused as Denied, Form, ExchangeText}
 use Rattle.exchange.specs.Changing.{withNodes, changedProgram}
 use Rattle.exchange_text.specs.Wanted.{wantedChange}
@@ -46,7 +50,7 @@ use Rattle.exchange.specs.Lengths.{sizesAfter, measuredRows, workFirst}
 use Rattle.repair.specs.Repairs.{After, repairedTo, ownedBy, changedBy, measured, measuredBy, wantedBy, repairedBy, repaired}
 use Rattle.rewrite.specs.Room.{roomOf, roomWanted, roomBy, roomAnswer}
 use Rattle.rewrite.specs.declared.RoomAnswer.the-variants as room
-use Rattle.answers.specs.Parts.{VerdictFits, WriteFits, AnalyzeFits, NextFits, RoomFits}
+use Rattle.answers.specs.Parts.{VerdictFits, WriteFits, AnalyzeFits, NextFits, BlockFits, RoomFits}
 
 pub read-fits : (file : List ℕ) → VerdictFits (readFile file .verdict)
 read-fits file = go (readFile file .verdict) refl
@@ -117,6 +121,22 @@ module _ (file marks work : List ℕ) where
       number : WellFormed p → (o : Option ℕ) → First (Violation (sizesOf p) p) low o → NextFits (foundOf o)
       number w none (nowhere x) = (omega arith, omega arith)
       number w (some i) (at x h y) = (omega arith, omega (arith, x .inside, admitted p w .product))
+
+  -- where runs are cut off
+  block-there : WellFormed p → (i : ℕ) (t : Bool) → ltb i (numbers (sizesOf p)) ≡ t
+      → BlockFits (blockOf (cond t (some (record { number = i; edge = blockedBy (sizesOf p) p i })) none))
+  block-there w i true e =
+      (omega arith, omega (arith, ltb-true i (numbers (sizesOf p)) e, admitted p w .product), omega (arith, edge-small (sizesOf p) p (w .edges-limited) i))
+  block-there w i false e = (omega arith, omega arith, omega arith)
+
+  pub block-fits : (low : ℕ) → BlockFits (blockAnswer file marks work low)
+  unfolding blockAnswer blockFrom
+  block-fits low =
+      by-checks file (Of (length marks)) NotAsked (Of (length work)) (λ v. BlockFits (blockBy (followedBy v (owned p marks)) (nextBlock p low)))
+      (λ w. by-marks p marks (λ v. BlockFits (blockBy v (nextBlock p low)))
+      (λ t. block-there w (seek (isBlocked (sizesOf p) p (freshMarks p)) (numbers (sizesOf p) - low) low) (ltb (seek (isBlocked (sizesOf p) p (freshMarks p)) (numbers (sizesOf p) - low) low) (numbers (sizesOf p))) refl)
+      (λ t. (omega arith, omega arith, omega arith)))
+      (λ n line h. (h, omega arith, omega arith))
 
 -- ---- a repair
 

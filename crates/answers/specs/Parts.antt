@@ -8,6 +8,8 @@ use Rattle.writer.specs.declared.WriteAnswer.{WriteAnswer}
 use Rattle.analysis.specs.Answers.{analyzeLine, configurationCount, violationCount, iterationCount, nextLine, nextFound}
 use Rattle.analysis.specs.declared.AnalyzeAnswer.{AnalyzeAnswer}
 use Rattle.analysis.specs.declared.NextAnswer.{NextAnswer}
+use Rattle.block_list.specs.Answers.{blockLine, blockFound, blockEdge}
+use Rattle.block_list.specs.declared.BlockAnswer.{BlockAnswer}
 use Rattle.rewrite.specs.Room.{roomLine, roomMarks, roomWork}
 use Rattle.rewrite.specs.declared.RoomAnswer.{RoomAnswer}
 
@@ -23,6 +25,9 @@ AnalyzeFits a = (analyzeLine a < 2 ^ 32) × (configurationCount a < 2 ^ 32) × (
 
 abbrev pub NextFits : NextAnswer → Type 0
 NextFits a = (nextLine a < 2 ^ 32) × (nextFound a < 2 ^ 32)
+
+abbrev pub BlockFits : BlockAnswer → Type 0
+BlockFits a = (blockLine a < 2 ^ 32) × (blockFound a < 2 ^ 32) × (blockEdge a < 2 ^ 32)
 
 abbrev pub RoomFits : RoomAnswer → Type 0
 RoomFits a = (roomLine a < 2 ^ 32) × (roomMarks a < 2 ^ 32) × (roomWork a < 2 ^ 32)

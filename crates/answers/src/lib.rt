@@ -2,6 +2,8 @@
 // each `requires`.
 use analysis::AnalyzeAnswer;
 use analysis::NextAnswer;
+use block_list::BlockAnswer;
+use program::FaultyPair;
 use program::Verdict;
 use program::sizes::Sizes;
 use program::sizes::length_of;
@@ -14,10 +16,14 @@ ghost use Rattle.program.specs.Reading.{refusal, refusalLine};
 ghost use Rattle.writer.specs.Answers.{refusal as writeRefusal, refusalLine as writeLine, writtenLength};
 ghost use Rattle.analysis.specs.Answers.{analyzeRefusal, analyzeLine, configurationCount, violationCount};
 ghost use Rattle.analysis.specs.Answers.{iterationCount, nextRefusal, nextLine, nextFound};
+ghost use Rattle.block_list.specs.Answers.{blockRefusal, blockLine, blockFound, blockEdge};
 ghost use Rattle.repair.specs.Repairs.{plain, reanalyzed as reanalyzedNumber};
 ghost use Rattle.rewrite.specs.Room.{roomRefusal, roomLine, roomNodes, roomMarks, roomWork};
 ghost use Rattle.answers.specs.Told.{told};
-ghost use Rattle.answers.specs.Parts.{VerdictFits, WriteFits, AnalyzeFits, NextFits, RoomFits};
+ghost use Rattle.answers.specs.Parts.{VerdictFits, WriteFits, AnalyzeFits, NextFits, BlockFits, RoomFits};
+
+// Told in the place of a number where a search finds none.
+const NONE: u32 = 4294967295;
 
 pub struct VerdictNumbers {
     pub refusal: u32,
@@ -118,12 +124,47 @@ pub fn next_numbers(a: NextAnswer) -> NextNumbers
         NextAnswer::Nothing => NextNumbers {
             refusal: 0,
             line: 0,
-            found: 4294967295,
+            found: NONE,
         },
         NextAnswer::Refused(n, at) => NextNumbers {
             refusal: n as u32,
             line: at as u32,
             found: 0,
+        },
+    }
+}
+
+pub struct BlockNumbers {
+    pub refusal: u32,
+    pub line: u32,
+    pub found: u32,
+    pub edge: u32,
+}
+
+// An edge's place is below 256, and 4294967295 in its place stands for the return.
+pub fn block_numbers(a: BlockAnswer) -> BlockNumbers
+    requires { ⌜ BlockFits a ⌝ }
+    ensures { λ r. ⌜ (r .refusal ≡ blockRefusal a) × (r .line ≡ blockLine a) × (r .found ≡ blockFound a)
+        × (r .edge ≡ blockEdge a) ⌝ }
+{
+    match a {
+        BlockAnswer::Found(i, k) => BlockNumbers {
+            refusal: 0,
+            line: 0,
+            found: i as u32,
+            edge: k as u32,
+        },
+        BlockAnswer::Nothing => BlockNumbers {
+            refusal: 0,
+            line: 0,
+            found: NONE,
+            edge: 0,
+        },
+        BlockAnswer::Refused(n, at) => BlockNumbers {
+            refusal: n as u32,
+            line: at as u32,
+            found: 0,
+            edge: 0,
         },
     }
 }
@@ -183,6 +224,21 @@ pub fn sizes_numbers(v: Verdict, z: Sizes) -> SizesNumbers
             states: 0,
             marks: 0,
         },
+    }
+}
+
+pub struct PairNumbers {
+    pub state: u32,
+    pub action: u32,
+}
+
+// The pair that a table is refused for.
+pub fn pair_numbers(x: FaultyPair) -> PairNumbers
+    ensures { λ r. ⌜ (r .state ≡ x .state) × (r .action ≡ x .action) ⌝ }
+{
+    PairNumbers {
+        state: x.state as u32,
+        action: x.action as u32,
     }
 }
 

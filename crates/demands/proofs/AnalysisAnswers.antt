@@ -42,7 +42,7 @@ pub checked-well-formed : (b : Lent) → checkedMarks (b .file) (b .marks) (b .w
 checked-well-formed b e = passes (b .file) (Of (length (b .marks))) NotAsked (Of (length (b .work))) e .well-formed
 
 -- and a refusal has a number
-not-none : (b : Lent) {n line : ℕ} {A : Type 0} → checkedMarks (b .file) (b .marks) (b .work) ≡ Refused n line → n ≡ 0 → A
+pub not-none : (b : Lent) {n line : ℕ} {A : Type 0} → checkedMarks (b .file) (b .marks) (b .work) ≡ Refused n line → n ≡ 0 → A
 not-none b e z = absurd (omega (arith, few-checks (b .file) (Of (length (b .marks))) NotAsked (Of (length (b .work))) e))
 
 -- ---- what is given back

@@ -14,7 +14,7 @@ use Rattle.program.specs.Writing.{nodesFrames, framesWith, text, writtenWith}
 use Rattle.reach.specs.Configurations.{number, routineOf, nodeOf, rootOf, stateOf, none-set}
 use Rattle.reach.specs.Worklist.{lowest, mark, wake, markWhen, summary, onEvent, eventWhen, onReturns, rootWhen, onCall, onLabel, labelWhen, onSteps, wakeRoots, calls, wakeWhen, wakeStates, callerWhen, wakeCallers, learn, takeFrom, takeAt, work, opened, analysisAt}
 use Rattle.reach.specs.Sizes.{summaries, enoughIterations}
-use Rattle.rows.specs.Rows.{pairsFrom, timesMet, tableRefusal, nextState}
+use Rattle.rows.specs.Rows.{pairsFrom, timesMet, tableRefusal, faultyPair, nextState}
 use Rattle.reach.specs.Marks.{violationsFrom}
 use Rattle.analysis.specs.Answers.{same, analyzeAnswer, marksAfter, workAfter}
 use Rattle.edit_line.specs.EditLines.{editFrom, readEdit, wantedEdit}
@@ -25,10 +25,13 @@ use Rattle.exchange_text.specs.Wanted.{wantedChange}
 use Rattle.repair.specs.Repairs.{repaired, InsideOutNumber}
 use Rattle.program.specs.Sample.{bytes}
 use Rattle.rewrite.specs.Room.{roomWanted, roomAnswer}
-use Rattle.desk.specs.Entries.{sizes, analyze, exchange-sizes, Lent, Back, analyzeBack, repairBack, programIn, repairedIn, Gives}
+use Rattle.base.specs.Searches.{seek, anyFrom}
+use Rattle.blocked.specs.Blocks.{firstBarred, isCalled, noReturn, isBlocked, blockedBy, blockFrom}
+use Rattle.block_list.specs.Answers.{blockAnswer}
+use Rattle.desk.specs.Entries.{sizes, faulty-pair, next-blocked, analyze, exchange-sizes, Lent, Back, analyzeBack, repairBack, programIn, repairedIn, Gives}
 use Rattle.demands.specs.Lists.{entry}
 use Rattle.demands.specs.Lists as repair
-use Rattle.demands.specs.Cases.{Fresh, Changed, Limited, Case, Said, lentFresh, Analyzed, lentChange, Repaired, RepairedBoth, lentLimited, Tried, lentAsked, Told, Holds, P1, P2, P3, P4, P5, P6, P7, P8, P9, P10, R1, R2, T1, E1, E2, E3, E4, E5, H1, H2, H3, H4, H5, H6, L1, L2, L3, L4, S1, S2, S3, S4, S5, S6, S7, S8, table}
+use Rattle.demands.specs.Cases.{Fresh, Changed, Limited, Case, Said, lentFresh, Analyzed, lentChange, Repaired, RepairedBoth, lentLimited, Tried, lentAsked, Told, lentPairAsked, PairAnswered, lentCutAsked, CutAnswered, Holds, P1, P2, P3, P4, P5, P6, P7, P8, P9, P10, R1, R2, T1, T2, T3, T4, E1, E2, E3, E4, E5, H1, H2, H3, H4, H5, H6, B1, B2, B3, B4, B5, B6, L1, L2, L3, L4, S1, S2, S3, S4, S5, S6, S7, S8, table}
 use Rattle.demands.proofs.EntriesGive.{forward-gives, inside-out-gives}
 use Rattle.demands.proofs.OneAnswer.{one-number}
 use Rattle.demands.proofs.CasesReanalyzed.{p5-reanalyzed, p6-reanalyzed, p8-reanalyzed, r1-reanalyzed, r2-reanalyzed, e1-reanalyzed, e5-reanalyzed}
@@ -44,8 +47,13 @@ analyzing = tt
 
 -- the table of a file with rows
 tabling : Unit {0}
-unfolding pairsFrom timesMet tableRefusal nextState
+unfolding pairsFrom timesMet tableRefusal faultyPair nextState
 tabling = tt
+
+-- where runs are cut off
+cutting : Unit {0}
+unfolding seek anyFrom firstBarred isCalled noReturn isBlocked blockedBy blockFrom blockAnswer
+cutting = tt
 
 -- ---- what the functions give back for the rows
 
@@ -160,6 +168,18 @@ t1 : Analyzed T1 (freshBack T1)
 unfolding editing analyzing tabling
 t1 = record { accepted = refl; marks = refl; violating = (refl, refl); iterations = refl }
 
+t2 : (a : Back) → Gives faulty-pair (lentPairAsked T2) a → PairAnswered T2 a
+unfolding editing tabling
+t2 a g = subst (PairAnswered T2) (sym g) (record { refused = refl; pair = refl })
+
+t3 : (a : Back) → Gives faulty-pair (lentPairAsked T3) a → PairAnswered T3 a
+unfolding editing tabling
+t3 a g = subst (PairAnswered T3) (sym g) (record { refused = refl; pair = refl })
+
+t4 : (a : Back) → Gives faulty-pair (lentPairAsked T4) a → PairAnswered T4 a
+unfolding editing tabling
+t4 a g = subst (PairAnswered T4) (sym g) (record { refused = refl; pair = refl })
+
 e1 : (k : ℕ) → Repaired E1 (changedBack E1 k)
 unfolding editing analyzing
 e1 k = record { refused = refl; marks = refl; second = refl; size = refl; output = refl }
@@ -211,6 +231,30 @@ h5 k = record { refused = refl; marks = refl; second = refl; size = refl; output
 h6 : (k : ℕ) → Repaired H6 (changedBack H6 k)
 unfolding editing analyzing
 h6 k = record { refused = refl; marks = refl; second = refl; size = refl; output = refl }
+
+b1 : (a : Back) → Gives next-blocked (lentCutAsked B1) a → CutAnswered B1 a
+unfolding editing analyzing cutting
+b1 a g = subst (CutAnswered B1) (sym g) (record { accepted = refl; found = refl; edge = refl })
+
+b2 : (a : Back) → Gives next-blocked (lentCutAsked B2) a → CutAnswered B2 a
+unfolding editing analyzing cutting
+b2 a g = subst (CutAnswered B2) (sym g) (record { accepted = refl; found = refl; edge = refl })
+
+b3 : (a : Back) → Gives next-blocked (lentCutAsked B3) a → CutAnswered B3 a
+unfolding editing analyzing cutting
+b3 a g = subst (CutAnswered B3) (sym g) (record { accepted = refl; found = refl; edge = refl })
+
+b4 : (a : Back) → Gives next-blocked (lentCutAsked B4) a → CutAnswered B4 a
+unfolding editing analyzing cutting
+b4 a g = subst (CutAnswered B4) (sym g) (record { accepted = refl; found = refl; edge = refl })
+
+b5 : (a : Back) → Gives next-blocked (lentCutAsked B5) a → CutAnswered B5 a
+unfolding editing analyzing cutting
+b5 a g = subst (CutAnswered B5) (sym g) (record { accepted = refl; found = refl; edge = refl })
+
+b6 : (a : Back) → Gives next-blocked (lentCutAsked B6) a → CutAnswered B6 a
+unfolding editing analyzing cutting
+b6 a g = subst (CutAnswered B6) (sym g) (record { accepted = refl; found = refl; edge = refl })
 
 l1 : Tried L1 (limitedBack L1)
 unfolding editing analyzing
@@ -272,11 +316,12 @@ every-row c =
     at (by-analysis P1 p1) (at (by-analysis P2 p2) (at (by-analysis P3 p3) (at (by-analysis P4 p4)
     (at (by-repairs P5 p5 p5-routines) (at (by-repairs P6 p6 p6-routines) (at (by-analysis P7 p7)
     (at (by-repairs P8 p8 p8-routines) (at (by-repairs P9 p9 (λ a x. tt)) (at (by-repairs P10 p10 (λ a x. tt))
-    (at (by-repairs R1 r1 r1-routines) (at (by-repairs R2 r2 r2-routines) (at (by-analysis T1 t1)
+    (at (by-repairs R1 r1 r1-routines) (at (by-repairs R2 r2 r2-routines) (at (by-analysis T1 t1) (at t2 (at t3 (at t4
     (at (by-repairs E1 e1 e1-routines) (at (by-repairs E2 e2 (λ a x. tt)) (at (by-repairs E3 e3 (λ a x. tt)) (at (by-repairs E4 e4 (λ a x. tt)) (at (by-repairs E5 e5 e5-routines)
     (at (by-analysis H1 h1) (at (by-analysis H2 h2) (at (by-analysis H3 h3) (at (by-analysis H4 h4)
     (at (by-repairs H5 h5 (λ a x. tt)) (at (by-repairs H6 h6 (λ a x. tt))
+    (at b1 (at b2 (at b3 (at b4 (at b5 (at b6
     (at (by-limit L1 l1) (at (by-limit L2 l2) (at (by-limit L3 l3) (at (by-limit L4 l4)
     (at (by-repairs S1 s1 (λ a x. tt)) (at (by-repairs S2 s2 (λ a x. tt)) (at (by-repairs S3 s3 (λ a x. tt)) (at (by-analysis S4 s4)
     (at s5 (at s6 (at s7 (at (by-repairs S8 s8 (λ a x. tt))
-    (λ m. absurd (List·Memᴰ·not-nil m)))))))))))))))))))))))))))))))))))))
+    (λ m. absurd (List·Memᴰ·not-nil m))))))))))))))))))))))))))))))))))))))))))))))

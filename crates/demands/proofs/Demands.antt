@@ -38,14 +38,15 @@ use Rattle.report.specs.Report.{tooLong, benchText}
 use Rattle.transcript.specs.Transcript.{TurnGives, begun, Turns}
 use Rattle.transcript.specs.declared.Turn.{Turn}
 use Rattle.transcript.proofs.TurnsHold.{turns-print}
-use Rattle.desk.specs.Entries.{Entry, read, sizes, write, analyze, next-violation, prune, repair-forward, exchange-sizes, Lent, Back, programIn, Gives}
+use Rattle.desk.specs.Entries.{Entry, read, sizes, faulty-pair, write, analyze, next-violation, next-blocked, prune, repair-forward, exchange-sizes, Lent, Back, programIn, Gives}
 use Rattle.demands.specs.Refusals.{marksLength}
 use Rattle.demands.specs.Lists.{Repair, Call, entry, wrote, Gave}
 use Rattle.demands.specs.Inputs.{SameInputs}
-use Rattle.demands.specs.Demands.{Demand1, Acceptance, Before, comparedBy, lineKey, KeysOfFrames, withWritten, WrittenFile, ChangedFile, Tabulated, SizesTold, Needed, Numbering, Demand2, Safe, Next, Procedure, noLimit, withLimit, givenUp, Heeds, OnActions, movesBefore, OneLook, Demand3, keepingOf}
+use Rattle.demands.specs.Demands.{Demand1, PairTold, Acceptance, Before, comparedBy, lineKey, KeysOfFrames, withWritten, WrittenFile, ChangedFile, Tabulated, SizesTold, Needed, Numbering, Demand2, Safe, Next, NextBlocked, Procedure, noLimit, withLimit, givenUp, Heeds, OnActions, movesBefore, OneLook, Demand3, keepingOf}
 use Rattle.demands.specs.Cases.{Case, Holds, table}
 use Rattle.demands.proofs.RefusalsReturned.{gives-demanded}
 use Rattle.demands.proofs.OneAnswer.{given-once}
+use Rattle.demands.proofs.FaultyPairTold.{pair-told}
 use Rattle.demands.proofs.FilesAccepted.{file-acceptance, comes-back, written-accepted, tabulated}
 use Rattle.demands.proofs.FramesCompared.{compared-left-to-right, frame-keys}
 use Rattle.demands.proofs.ChangesAccepted.{changed-files}
@@ -54,6 +55,7 @@ use Rattle.demands.proofs.ConfigurationsNumbered.{numbered}
 use Rattle.demands.proofs.RoomTold.{sizes-right, room-exact, room-enough, room-after}
 use Rattle.demands.proofs.OldMarksKept.{old-marks-kept}
 use Rattle.demands.proofs.AnalysisAnswers.{analyzed-exact, count-safe, next-given, procedure-ends}
+use Rattle.demands.proofs.BlockAnswers.{block-given}
 use Rattle.demands.proofs.LimitAnswers.{gives-up-when, leaves, larger, enough-never, most-never, never, zero-limit}
 use Rattle.demands.proofs.EventsHeeded.{call-heeded, return-heeded, as-before}
 use Rattle.demands.proofs.LookAnswers.{look-answers}
@@ -71,6 +73,10 @@ demand-1 = gives-demanded
 -- what a function promises fixes its answer: every number and every lent byte afterwards
 pub one-answer : (e : Entry) (b : Lent) (a c : Back) → Gives e b a → Gives e b c → a ≡ c
 one-answer = given-once
+
+-- the pair that is told of a file whose table is refused (19, 20) is its first faulty one, by state and then by action
+pub faulty-pair-told : (b : Lent) (a : Back) → Gives faulty-pair b a → PairTold b a
+faulty-pair-told = pair-told
 
 -- which files are accepted, with rows or without, and as which program
 pub accepted-files : (b : Lent) (a : Back) → Gives read b a → Acceptance b a
@@ -164,6 +170,12 @@ pub next-one : (b : Lent) (a : Back) → Gives next-violation b a → a .refusal
     → Next (sizesOf (programIn b)) (programIn b) (b .from) (a .values .found)
 next-one = next-given
 
+-- the list of configurations at which runs are cut off gives the least one not below a number, with the first of its edges that the automaton does not allow, or
+-- with the return that it does not allow; or says that there is none
+pub next-cut-off : (b : Lent) (a : Back) → Gives next-blocked b a → a .refusal ≡ 0
+    → NextBlocked (sizesOf (programIn b)) (programIn b) (b .from) (a .values .found) (a .values .edge)
+next-cut-off = block-given
+
 -- the procedure ends, and no configuration is taken more than 1 + R Q Q times
 pub procedure : (b : Lent) (a : Back) → Gives analyze b a → a .refusal ≡ 0 → Procedure (programIn b) a
 procedure = procedure-ends
@@ -236,7 +248,7 @@ pub pass-depends : {Z Z′ : Sizes} {members : List ℕ} {p p′ : Program} {old
     → Marked Z after f n r q ↔ Marked Z′ after′ f n r q
 pass-depends = depends
 
--- ---- the cases P1 to P10, R1 and R2 for edit lines, T1 for a rule as a table, E1 to E5 for exchanges, H1 to H6 for calls and returns that the rule hears, L1
--- to L4 for a limit, and S1 to S8 for sizes, rows of one table
+-- ---- the cases P1 to P10, R1 and R2 for edit lines, T1 to T4 for a rule as a table, E1 to E5 for exchanges, H1 to H6 for calls and returns that the rule hears,
+-- B1 to B6 for where runs are cut off, L1 to L4 for a limit, and S1 to S8 for sizes, rows of one table
 pub cases : (c : Case) → List·Memᴰ c table → Holds c
 cases = every-row

@@ -49,7 +49,7 @@ pair-told zero rest = refl
 pair-told (suc zero) rest = refl
 pair-told (suc (suc n)) rest = rw (ne-eqb (suc (suc n)) 0 (λ z. omega arith), lt-ltb 1 (suc (suc n)) (omega arith))
 
-table-told : (rs : List TableRow) (ps : List Pair) → firstMet (tableRows rs ps) ≡ tableRefusal rs ps
+pub table-told : (rs : List TableRow) (ps : List Pair) → firstMet (tableRows rs ps) ≡ tableRefusal rs ps
 unfolding firstMet tableRefusal
 table-told rs [] = refl
 table-told rs (p ∷ ps) = rw (table-told rs ps) (pair-told (timesMet p rs) (tableRefusal rs ps))

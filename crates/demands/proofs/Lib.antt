@@ -1,4 +1,5 @@
 pub mod FileRefusalsTold
+pub mod FaultyPairTold
 pub mod ChangeRefusalsTold
 pub mod RefusalsReturned
 pub mod OneAnswer
@@ -6,6 +7,7 @@ pub mod FilesAccepted
 pub mod FramesCompared
 pub mod ConfigurationsNumbered
 pub mod AnalysisAnswers
+pub mod BlockAnswers
 pub mod LimitAnswers
 pub mod BenchTooLong
 pub mod EventsHeeded

@@ -15,7 +15,7 @@ use Rattle.program.specs.Checks.{firstMet, bufferRows, checked}
 use Rattle.program.specs.Writing.{written}
 use Rattle.program.specs.declared.Verdict.the-variants as verdict
 use Rattle.program.specs.declared.Length.the-variants.{NotAsked, Of}
-use Rattle.program.proofs.Theorems.{accepted-well-formed}
+use Rattle.program.proofs.Theorems.{accepted-well-formed, accepted-as}
 use Rattle.reach.specs.Marks.{freshMarks}
 use Rattle.reach.proofs.ProgramInSizes.{usable}
 use Rattle.reach.proofs.ShapeKept.{marks-length}
@@ -53,7 +53,7 @@ agreed file h =
     let w = accepted-well-formed file h in
     let e = book-well-formed (readFile file .program) w in
     record {
-      file = (λ i. record { verdict = h i; program = readFile file .program }) ∙ ap accepted (sym e);
+      file = accepted-as file h ∙ ap accepted (sym e);
       marks = ap freshMarks (sym e);
       well-formed = subst WellFormed (sym e) w;
     }

@@ -23,7 +23,7 @@ use Rattle.exchange.specs.Changes.{ChangeRead, Form, EditLine, ExchangeText}
 use Rattle.exchange.specs.Changes as change
 use Rattle.exchange_text.specs.Wanted.{wantedChange}
 use Rattle.repair.specs.Repairs.{InsideOutNumber}
-use Rattle.desk.specs.Entries.{Entry, read as reads, sizes, write, analyze, next-violation, prune, repair-forward, repair-inside-out, exchange-sizes, exchange-forward, exchange-inside-out, Lent, Back, pruneBack, repairBack, programIn, repairedIn, InsideOutGives, Gives}
+use Rattle.desk.specs.Entries.{Entry, read as reads, sizes, faulty-pair, write, analyze, next-violation, next-blocked, prune, repair-forward, repair-inside-out, exchange-sizes, exchange-forward, exchange-inside-out, Lent, Back, pruneBack, repairBack, programIn, repairedIn, InsideOutGives, Gives}
 
 -- ---- a set of routines has one number
 
@@ -87,9 +87,11 @@ inside-out-once k b a c g h =
 pub given-once : (e : Entry) (b : Lent) (a c : Back) → Gives e b a → Gives e b c → a ≡ c
 given-once reads b a c g h = g ∙ sym h
 given-once sizes b a c g h = g ∙ sym h
+given-once faulty-pair b a c g h = g ∙ sym h
 given-once write b a c g h = g ∙ sym h
 given-once analyze b a c g h = g ∙ sym h
 given-once next-violation b a c g h = g ∙ sym h
+given-once next-blocked b a c g h = g ∙ sym h
 given-once prune b a c g h =
     let v = checkedMarks (b .file) (b .marks) (b .work) in
     g .0 ∙ ap (λ (l : List ℕ). pruneBack b v l (workAfter (b .file) (b .marks) (b .work))) (marks-once b v refl (g .1) (h .1))

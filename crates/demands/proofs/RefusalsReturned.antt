@@ -24,7 +24,9 @@ use Rattle.writer.specs.Answers.{answerBy, outputBy, checkedOutput, writeAnswer
 use Rattle.reach.specs.Configurations.{none-set}
 use Rattle.reach.specs.Worklist.{analysis}
 use Rattle.reach.specs.Marks.{freshMarks, firstFrom, violations}
-use Rattle.analysis.specs.Answers.{checkedMarks, limitRow, limited, followedBy, analyzeBy, analyzeAnswer, onSuccess, marksAfter, workAfter, same, owned, foreignRow, foundOf, foundBy, nextAnswer}
+use Rattle.analysis.specs.Answers.{checkedMarks, limitRow, limited, followedBy, analyzeBy, analyzeAnswer, onSuccess, marksAfter, workAfter, same, owned, foreignRow, foundOf, foundBy, nextAnswer, checkedOwn, nextFound}
+use Rattle.blocked.specs.Blocks.{Block, nextBlock}
+use Rattle.block_list.specs.Answers.{blockOf, blockBy, blockAnswer, blockFound, blockEdge}
 use Rattle.prune.specs.Pruning.{Pruned}
 use Rattle.exchange.specs.Changes.{Change, ChangeRead, Form, EditLine, ExchangeText}
 use Rattle.exchange.specs.Changes as change
@@ -36,7 +38,7 @@ use Rattle.exchange_text.proofs.Theorems.{change-number}
 use Rattle.repair.specs.Repairs.{After, untouched, zeroed, foreign, repairedTo, checkedRepair, ownedBy, measuredBy, wantedBy, repairedBy, repaired}
 use Rattle.rewrite.specs.Room.{roomOf, roomBy, roomWanted, roomAnswer}
 use Rattle.rewrite.specs.declared.RoomAnswer.the-variants as room
-use Rattle.desk.specs.Entries.{Entry, read as reads, sizes, write, analyze, next-violation, prune, repair-forward, repair-inside-out, exchange-sizes, exchange-forward, exchange-inside-out, Lent, Back, hasWork, Values, noValues, readBack, sizesBack, roomBack, writeBack, analyzeBack, nextBack, pruneBack, repairBack, programIn, repairedIn, RepairGives, InsideOutGives, Gives}
+use Rattle.desk.specs.Entries.{Entry, read as reads, sizes, faulty-pair, write, analyze, next-violation, next-blocked, prune, repair-forward, repair-inside-out, exchange-sizes, exchange-forward, exchange-inside-out, Lent, Back, hasWork, tellsPair, Values, noValues, readBack, sizesBack, pairBack, roomBack, writeBack, analyzeBack, finding, blocking, nextBack, blockBack, pruneBack, repairBack, programIn, repairedIn, RepairGives, InsideOutGives, Gives}
 use Rattle.demands.specs.Demands.{Demand1}
 use Rattle.demands.specs.Refusals.{marksLength, changeRows, laterRows, repairRows, marksRows, rows, FaultyFile, Returned, of-the-file, of-the-rest}
 use Rattle.demands.proofs.FileRefusalsTold.{SaysFile, file-told, faulty-number, faulty-once}
@@ -54,9 +56,9 @@ returned-once (of-the-rest f) (of-the-rest g) = (refl, refl)
 
 -- ---- refusals before 17 and 22
 
--- a call that is refused before these, and leaves everything
-abbrev refused : ℕ → ℕ → Lent → Back
-refused n line b = record { refusal = n; line = line; values = noValues; marks = b .marks; output = b .output; work = b .work; second = b .second }
+-- a call that is refused before these, tells these numbers, and leaves everything
+abbrev refused : ℕ → ℕ → Values → Lent → Back
+refused n line v b = record { refusal = n; line = line; values = v; marks = b .marks; output = b .output; work = b .work; second = b .second }
 
 -- the number is the table's, and none of 0, 17 and 22
 pub record Early (e : Entry) (b : Lent) (n line : ℕ) : Type 0 where
@@ -65,12 +67,12 @@ pub record Early (e : Entry) (b : Lent) (n line : ℕ) : Type 0 where
   pub before-17 : n ≢ 17
   pub before-22 : n ≢ 22
 
-early : {e : Entry} {b : Lent} {n line : ℕ} → Early e b n line → Demand1 e b (refused n line b)
-early {e} {b} {n} {line} x =
+early-telling : {e : Entry} {b : Lent} {n line : ℕ} {v : Values} → (tellsPair e ≡ false → v ≡ noValues) → Early e b n line → Demand1 e b (refused n line v b)
+early-telling {e} {b} {n} {line} silent x =
     record {
       returned = x .returned;
       no-other = λ m at r. returned-once r (x .returned);
-      no-result = λ h. refl;
+      no-result = λ t h. silent t;
       marks = λ h. refl;
       output = λ h. refl;
       second = λ h. refl;
@@ -82,6 +84,9 @@ early {e} {b} {n} {line} x =
     cleared (inl h) = absurd (x .some-number h)
     cleared (inr (inl h)) = absurd (x .before-17 h)
     cleared (inr (inr h)) = absurd (x .before-22 h)
+
+early : {e : Entry} {b : Lent} {n line : ℕ} → Early e b n line → Demand1 e b (refused n line noValues b)
+early x = early-telling (λ t. refl) x
 
 -- a length's number, 9 to 11, is such
 length-early : {e : Entry} {b : Lent} {n : ℕ} → 9 ≤ n → n ≤ 11 → Returned e b n 0 → Early e b n 0
@@ -102,7 +107,7 @@ done h r =
     record {
       returned = r;
       no-other = λ m at s. returned-once s r;
-      no-result = λ i. absurd (i refl);
+      no-result = λ t i. absurd (i refl);
       marks = λ i. refl;
       output = λ i. absurd (i refl);
       second = λ i. refl;
@@ -125,7 +130,7 @@ late {e} {b} {n} {v} {marks} {output} {second} r x =
     record {
       returned = r;
       no-other = λ m at s. returned-once s r;
-      no-result = λ h. spared x h .no-values;
+      no-result = λ t h. spared x h .no-values;
       marks = λ h. spared x h .same-marks;
       output = λ h. spared x h .same-output;
       second = λ h. spared x h .same-second;
@@ -181,7 +186,7 @@ checked-judged e b marks output work final h = go (checked (b .file) marks outpu
 not-equal : {n m : ℕ} → eqb n m ≡ false → n ≢ m
 not-equal {n} {m} e = eqb-false n m e
 
--- ---- read, sizes and write
+-- ---- read, sizes, faulty_pair and write
 
 read-good : (b : Lent) → Demand1 reads b (readBack b (readFile (b .file) .verdict))
 unfolding firstMet
@@ -199,6 +204,14 @@ sizes-good b = go (readFile (b .file) .verdict) (file-judged sizes b)
     go Accepted r = done refl r
     go (Refused n line) x = early x
 
+pair-good : (b : Lent) → Demand1 faulty-pair b (pairBack b (readFile (b .file) .verdict) (readFile (b .file) .pair))
+unfolding firstMet
+pair-good b = go (readFile (b .file) .verdict) (file-judged faulty-pair b)
+  where
+    go : (v : Verdict) → Judged faulty-pair b [] v → Demand1 faulty-pair b (pairBack b v (readFile (b .file) .pair))
+    go Accepted r = done refl r
+    go (Refused n line) x = early-telling (λ t. absurd (both-ways (sym t))) x
+
 write-good : (b : Lent) → Demand1 write b (writeBack b (writeAnswer (b .file) (b .output)) (outputAfter (b .file) (b .output)))
 unfolding writeAnswer outputAfter firstMet
 write-good b = go (checkedOutput (b .file) (b .output)) (checked-judged write b NotAsked (Of (length (b .output))) NotAsked [] refl)
@@ -207,7 +220,7 @@ write-good b = go (checkedOutput (b .file) (b .output)) (checked-judged write b 
     go Accepted r = done refl r
     go (Refused n line) x = early x
 
--- ---- analyze, prune and next_violation
+-- ---- analyze, prune, next_violation and next_blocked
 
 marks-judged : (e : Entry) (b : Lent) (final : List Row) → rows e b ≡ marksRows b ++ final
     → Judged e b final (checkedMarks (b .file) (b .marks) (b .work))
@@ -250,24 +263,56 @@ prune-good b marks = rw (work-zeroed (b .file) (b .marks) (b .work)) (go (checke
     go Accepted r k = late r (inl refl)
     go (Refused n line) x k = subst (λ m. Demand1 prune b (pruneBack b (Refused n line) m (b .work))) (sym k) (early x)
 
-next-good : (b : Lent) → Demand1 next-violation b (nextBack b (nextAnswer (b .file) (b .marks) (b .work) (b .from)) (workAfter (b .file) (b .marks) (b .work)))
-unfolding nextAnswer firstMet
-next-good b =
+-- what a search in the program's own marks gives back: these numbers where nothing is refused
+abbrev sought : Lent → Verdict → Values → List ℕ → Back
+sought b Accepted v work = record { refusal = 0; line = 0; values = v; marks = b .marks; output = b .output; work = work; second = b .second }
+sought b (Refused n line) v work = record { refusal = n; line = line; values = noValues; marks = b .marks; output = b .output; work = work; second = b .second }
+
+sought-good : (e : Entry) (b : Lent) (found : Values) → rows e b ≡ marksRows b ++ foreignRow (programIn b) (b .marks) ∷ []
+    → Demand1 e b (sought b (checkedOwn (b .file) (b .marks) (b .work)) found (workAfter (b .file) (b .marks) (b .work)))
+unfolding firstMet
+sought-good e b found h =
     rw (work-zeroed (b .file) (b .marks) (b .work))
-    (go (checkedMarks (b .file) (b .marks) (b .work)) (marks-judged next-violation b (foreignRow (programIn b) (b .marks) ∷ []) refl))
+    (go (checkedMarks (b .file) (b .marks) (b .work)) (marks-judged e b (foreignRow (programIn b) (b .marks) ∷ []) h))
   where
-    found : (o : Option ℕ) → Returned next-violation b 0 0 → Demand1 next-violation b (nextBack b (foundOf o) (zeroed (b .work)))
-    found none r = late r (inl refl)
-    found (some i) r = late r (inl refl)
+    own : (t : Bool) → Returned e b (cond (not t) 17 0) 0 → Demand1 e b (sought b (verdictOf (cond (not t) 17 0)) found (zeroed (b .work)))
+    own true r = late r (inl refl)
+    own false r = late r (inr (spares (inl refl)))
 
-    own : (t : Bool) (o : Option ℕ) → Returned next-violation b (cond (not t) 17 0) 0 → Demand1 next-violation b (nextBack b (foundBy (verdictOf (cond (not t) 17 0)) o) (zeroed (b .work)))
-    own true o r = found o r
-    own false o r = late r (inr (spares (inl refl)))
-
-    go : (v : Verdict) → Judged next-violation b (foreignRow (programIn b) (b .marks) ∷ []) v
-        → Demand1 next-violation b (nextBack b (foundBy (followedBy v (owned (programIn b) (b .marks))) (firstFrom (b .from) (violations (programIn b)))) (onSuccess v (zeroed (b .work)) (b .work)))
-    go Accepted r = own (same (b .marks) (freshMarks (programIn b))) (firstFrom (b .from) (violations (programIn b))) r
+    go : (v : Verdict) → Judged e b (foreignRow (programIn b) (b .marks) ∷ []) v
+        → Demand1 e b (sought b (followedBy v (owned (programIn b) (b .marks))) found (onSuccess v (zeroed (b .work)) (b .work)))
+    go Accepted r = own (same (b .marks) (freshMarks (programIn b))) r
     go (Refused n line) x = early x
+
+next-good : (b : Lent) → Demand1 next-violation b (nextBack b (nextAnswer (b .file) (b .marks) (b .work) (b .from)) (workAfter (b .file) (b .marks) (b .work)))
+unfolding nextAnswer
+next-good b =
+    subst (Demand1 next-violation b) (told (checkedOwn (b .file) (b .marks) (b .work)) o)
+    (sought-good next-violation b (finding (nextFound (foundOf o))) refl)
+  where
+    o : Option ℕ
+    o = firstFrom (b .from) (violations (programIn b))
+
+    told : (v : Verdict) (o : Option ℕ) → sought b v (finding (nextFound (foundOf o))) (workAfter (b .file) (b .marks) (b .work))
+        ≡ nextBack b (foundBy v o) (workAfter (b .file) (b .marks) (b .work))
+    told Accepted none = refl
+    told Accepted (some i) = refl
+    told (Refused n line) o = refl
+
+block-good : (b : Lent) → Demand1 next-blocked b (blockBack b (blockAnswer (b .file) (b .marks) (b .work) (b .from)) (workAfter (b .file) (b .marks) (b .work)))
+unfolding blockAnswer
+block-good b =
+    subst (Demand1 next-blocked b) (told (checkedOwn (b .file) (b .marks) (b .work)) o)
+    (sought-good next-blocked b (blocking (blockFound (blockOf o)) (blockEdge (blockOf o))) refl)
+  where
+    o : Option Block
+    o = nextBlock (programIn b) (b .from)
+
+    told : (v : Verdict) (o : Option Block) → sought b v (blocking (blockFound (blockOf o)) (blockEdge (blockOf o))) (workAfter (b .file) (b .marks) (b .work))
+        ≡ blockBack b (blockBy v o) (workAfter (b .file) (b .marks) (b .work))
+    told Accepted none = refl
+    told Accepted (some i) = refl
+    told (Refused n line) o = refl
 
 -- ---- exchange_sizes
 
@@ -363,9 +408,11 @@ module _ (k : Form) (e : Entry) (b : Lent) (h : rows e b ≡ repairRows k b) whe
 pub gives-demanded : (e : Entry) (b : Lent) (a : Back) → Gives e b a → Demand1 e b a
 gives-demanded reads b a g = subst (Demand1 reads b) (sym g) (read-good b)
 gives-demanded sizes b a g = subst (Demand1 sizes b) (sym g) (sizes-good b)
+gives-demanded faulty-pair b a g = subst (Demand1 faulty-pair b) (sym g) (pair-good b)
 gives-demanded write b a g = subst (Demand1 write b) (sym g) (write-good b)
 gives-demanded analyze b a g = subst (Demand1 analyze b) (sym g) (analyze-good b)
 gives-demanded next-violation b a g = subst (Demand1 next-violation b) (sym g) (next-good b)
+gives-demanded next-blocked b a g = subst (Demand1 next-blocked b) (sym g) (block-good b)
 gives-demanded prune b a g = subst (Demand1 prune b) (sym (g .0)) (prune-good b (a .marks) (g .1))
 gives-demanded repair-forward b a g = forward-good EditLine repair-forward b refl a g
 gives-demanded repair-inside-out b a g = inside-out-good EditLine repair-inside-out b refl a g

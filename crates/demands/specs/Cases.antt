@@ -1,6 +1,7 @@
--- The paper's cases P1 to P10, R1 and R2 for repairs by edit lines, T1 for a rule as a table, E1 to E5 for exchanges of
--- a routine, H1 to H6 for calls and returns that the rule hears, L1 to L4 for a limit, and S1 to S8 for the sizes that a
--- program chooses, each from the bytes of its file, and of its edit line or text where it has one: one table.
+-- The paper's cases P1 to P10, R1 and R2 for repairs by edit lines, T1 to T4 for a rule as a table, E1 to E5 for
+-- exchanges of a routine, H1 to H6 for calls and returns that the rule hears, B1 to B6 for where runs are cut off, L1 to
+-- L4 for a limit, and S1 to S8 for the sizes that a program chooses, each from the bytes of its file, and of its edit
+-- line or text where it has one: one table.
 use mathlib.Core.Path.{_≡_}
 use mathlib.Core.Option.{Option, none, some}
 use mathlib.Core.List.{List, [], _∷_, _++_}
@@ -9,10 +10,12 @@ use Prim.Native.String.{String}
 use lib.ListN.{length, drop, set, replicate}
 use Rattle.program.specs.Sample.{bytes, header, edges, transitions, F}
 use Rattle.program.specs.Sizes.{outputSize}
+use Rattle.rows.specs.Rows.{Pair}
 use Rattle.reach.specs.Marks.{violations}
 use Rattle.exchange.specs.Changes.{Form, EditLine, ExchangeText}
 use Rattle.exchange.specs.Lengths.{longer}
-use Rattle.desk.specs.Entries.{Entry, sizes, analyze, exchange-sizes, Lent, Room, Back, programIn, Gives}
+use Rattle.desk.specs.Entries.{Entry, sizes, faulty-pair, analyze, next-blocked, exchange-sizes, Lent, Room, Back, programIn}
+use Rattle.desk.specs.Entries.{Gives}
 use Rattle.demands.specs.Demands.{noLimit}
 use Rattle.demands.specs.Lists.{entry}
 use Rattle.demands.specs.Lists as repair
@@ -68,11 +71,30 @@ pub record Asked : Type 0 where
   pub line : ℕ
   pub room : Room
 
+-- a file, by its lines, whose faulty pair is asked for; and what is expected: the refusal's number, 0 for none, and the
+-- pair told
+pub record PairAsked : Type 0 where
+  pub file : List String
+  pub refused : ℕ
+  pub pair : Pair
+
+-- a file, by its lines, so many bytes of marks, the configurations of its own marks, and a number from which on it is
+-- asked where runs are cut off; and what is expected: the configuration, and the place of the edge that cuts them off
+pub record CutAsked : Type 0 where
+  pub file : List String
+  pub size : ℕ
+  pub own : List ℕ
+  pub from : ℕ
+  pub found : ℕ
+  pub edge : ℕ
+
 pub data Case : Type 0 where
   fresh : Fresh → Case
   changed : Changed → Case
   limited : Limited → Case
   asked : Asked → Case
+  pair-asked : PairAsked → Case
+  cut-asked : CutAsked → Case
 
 -- ---- what it means
 
@@ -96,9 +118,9 @@ Said P none = Unit {0}
 Said P (some x) = P x
 
 -- what is lent: a file by its lines, marks, an edit line or a text, an output of zeros, a working buffer of so many
--- zeros, a second buffer of so many bytes, a limit
-abbrev pub lentWith : List String → List ℕ → List ℕ → ℕ → ℕ → ℕ → Lent
-lentWith file marks text work second limit = record {
+-- zeros, a second buffer of so many bytes, a limit, and where to begin in a list
+abbrev pub lentFrom : List String → List ℕ → List ℕ → ℕ → ℕ → ℕ → ℕ → Lent
+lentFrom file marks text work second limit from = record {
   file = bytes file;
   marks = marks;
   text = text;
@@ -106,8 +128,12 @@ lentWith file marks text work second limit = record {
   work = replicate work 0;
   second = anything second;
   limit = limit;
-  from = 0;
+  from = from;
 }
+
+-- where there is no list
+abbrev pub lentWith : List String → List ℕ → List ℕ → ℕ → ℕ → ℕ → Lent
+lentWith file marks text work second limit = lentFrom file marks text work second limit 0
 
 abbrev pub lentFresh : Fresh → Lent
 lentFresh c = lentWith (c .file) (marksAt (c .size) []) [] (c .size) 0 noLimit
@@ -164,6 +190,21 @@ pub record Told (c : Asked) (a : Back) : Type 0 where
   pub line : a .line ≡ c .line
   pub room : a .values .room ≡ c .room
 
+abbrev pub lentPairAsked : PairAsked → Lent
+lentPairAsked c = lentWith (c .file) [] [] 0 0 0
+
+pub record PairAnswered (c : PairAsked) (a : Back) : Type 0 where
+  pub refused : a .refusal ≡ c .refused
+  pub pair : a .values .pair ≡ c .pair
+
+abbrev pub lentCutAsked : CutAsked → Lent
+lentCutAsked c = lentFrom (c .file) (marksAt (c .size) (c .own)) [] (c .size) 0 0 (c .from)
+
+pub record CutAnswered (c : CutAsked) (a : Back) : Type 0 where
+  pub accepted : a .refusal ≡ 0
+  pub found : a .values .found ≡ c .found
+  pub edge : a .values .edge ≡ c .edge
+
 abbrev pub asking : Option (List String) → Entry
 asking none = sizes
 asking (some ls) = exchange-sizes
@@ -173,6 +214,8 @@ Holds (fresh c) = (a : Back) → Gives analyze (lentFresh c) a → Analyzed c a
 Holds (changed c) = RepairedBoth c
 Holds (limited c) = (a : Back) → Gives analyze (lentLimited c) a → Tried c a
 Holds (asked c) = (a : Back) → Gives (asking (c .text)) (lentAsked c) a → Told c a
+Holds (pair-asked c) = (a : Back) → Gives faulty-pair (lentPairAsked c) a → PairAnswered c a
+Holds (cut-asked c) = (a : Back) → Gives next-blocked (lentCutAsked c) a → CutAnswered c a
 
 -- ---- the rows
 
@@ -359,6 +402,37 @@ T1 =
       iterations = some 7;
     }
 
+-- T2: no row meets state 1 and action 2: 19, and this pair is told
+abbrev pub T2 : PairAsked
+T2 =
+    record {
+      file =
+          "50010303" ∷ "520004" ∷ "5300000002" ∷ "5300020203" ∷ "5300030101" ∷ "55010000000402" ∷ "55030000000101"
+          ∷ "55030000000200" ∷ "55040000000702" ∷ "4900" ∷ "4602" ∷ "45000B" ∷ [];
+      refused = 19;
+      pair = record { state = 1; action = 2 };
+    }
+
+-- T3: two rows meet state 1 and action 2: 20, and this pair is told
+abbrev pub T3 : PairAsked
+T3 =
+    record {
+      file =
+          "50010303" ∷ "520004" ∷ "5300000002" ∷ "5300020203" ∷ "5300030101" ∷ "55020000000401" ∷ "55030000000101"
+          ∷ "55030000000200" ∷ "55030000000402" ∷ "55040000000702" ∷ "4900" ∷ "4602" ∷ "45000C" ∷ [];
+      refused = 20;
+      pair = record { state = 1; action = 2 };
+    }
+
+-- T4: no row meets state 0 and action 3, and two meet state 1 and action 0: the smaller state decides, not the smaller
+-- action
+abbrev pub T4 : PairAsked
+T4 = record {
+  file = "50010204" ∷ "520002" ∷ "55010000000700" ∷ "55020000000101" ∷ "55020000000F00" ∷ "450005" ∷ [];
+  refused = 19;
+  pair = record { state = 0; action = 3 };
+}
+
 -- ---- exchanges of a routine of F
 
 -- E1: routine 1 exchanged for itself gives the same file and, in the second buffer, the same marks; reanalyzed are 0
@@ -530,6 +604,83 @@ H6 = record {
   reanalyzed = none;
 }
 
+-- ---- where runs are cut off: 4294967295 is no configuration, or in the place of an edge a return
+
+-- B1: the action of the only edge has no transition: runs are cut off at main's entry, by edge 0
+abbrev pub B1 : CutAsked
+B1 = record {
+  file = "50010201" ∷ "520002" ∷ "5300000001" ∷ "4900" ∷ "4601" ∷ "450005" ∷ [];
+  size = 8;
+  own = 0 ∷ [];
+  from = 0;
+  found = 0;
+  edge = 0;
+}
+
+-- B2: and nowhere from number 1 on
+abbrev pub B2 : CutAsked
+B2 = record {
+  file = "50010201" ∷ "520002" ∷ "5300000001" ∷ "4900" ∷ "4601" ∷ "450005" ∷ [];
+  size = 8;
+  own = 0 ∷ [];
+  from = 1;
+  found = 4294967295;
+  edge = 0;
+}
+
+-- B3: a call of routine 2 is heard, and has no transition from state 1, in which routine 1 begins anew: runs are cut off
+-- there, at its entry with root 1, by edge 4, the first of that node
+abbrev pub B3 : CutAsked
+B3 = record {
+  file =
+      "50030304" ∷ "520005" ∷ "520105" ∷ "520202" ∷ "5300000102" ∷ "5300024203" ∷ "5300034104" ∷ "5300040001"
+      ∷ "5301004202" ∷ "5301020003" ∷ "5301020301" ∷ "5301030204" ∷ "5301044101" ∷ "5302000301" ∷ "54000001"
+      ∷ "54000100" ∷ "54000202" ∷ "54000300" ∷ "54004200" ∷ "54010001" ∷ "54010100" ∷ "54010201" ∷ "54010301"
+      ∷ "4901" ∷ "4602" ∷ "450019" ∷ [];
+  size = 135;
+  own = 4 ∷ 13 ∷ 21 ∷ 30 ∷ 39 ∷ 45 ∷ 49 ∷ 54 ∷ 63 ∷ 73 ∷ 82 ∷ 90 ∷ 99 ∷ [];
+  from = 0;
+  found = 49;
+  edge = 4;
+}
+
+-- B4: the return from routine 1 is heard, and has no transition from state 1: runs are cut off at its exit
+abbrev pub B4 : CutAsked
+B4 = record {
+  file =
+      "50020201" ∷ "520003" ∷ "520102" ∷ "5300004101" ∷ "5301000001" ∷ "54000001" ∷ "54006100" ∷ "4900" ∷ "450008"
+      ∷ [];
+  size = 24;
+  own = 0 ∷ 12 ∷ 17 ∷ [];
+  from = 0;
+  found = 17;
+  edge = 4294967295;
+}
+
+-- B5: the return from main is heard, and has no transition from state 0: nothing called main, so that no run is cut off
+abbrev pub B5 : CutAsked
+B5 = record {
+  file = "50010201" ∷ "520002" ∷ "5300000001" ∷ "54000000" ∷ "54016000" ∷ "4900" ∷ "450006" ∷ [];
+  size = 8;
+  own = 0 ∷ 4 ∷ [];
+  from = 0;
+  found = 4294967295;
+  edge = 0;
+}
+
+-- B6: the same where main calls itself: runs are cut off at its exit
+abbrev pub B6 : CutAsked
+B6 = record {
+  file =
+      "50010202" ∷ "520003" ∷ "5300000001" ∷ "5300004002" ∷ "5300020101" ∷ "54000000" ∷ "54000100" ∷ "54016000"
+      ∷ "4900" ∷ "450009" ∷ [];
+  size = 12;
+  own = 0 ∷ 4 ∷ [];
+  from = 0;
+  found = 4;
+  edge = 4294967295;
+}
+
 -- ---- a limit
 
 -- L1: F takes 6 iterations, and a limit of 6 is enough
@@ -672,7 +823,9 @@ S8 = record {
 abbrev pub table : List Case
 table = fresh P1 ∷ fresh P2 ∷ fresh P3 ∷ fresh P4 ∷ changed P5 ∷ changed P6 ∷ fresh P7 ∷ changed P8
     ∷ changed P9 ∷ changed P10 ∷ changed R1 ∷ changed R2 ∷ fresh T1
+    ∷ pair-asked T2 ∷ pair-asked T3 ∷ pair-asked T4
     ∷ changed E1 ∷ changed E2 ∷ changed E3 ∷ changed E4 ∷ changed E5
     ∷ fresh H1 ∷ fresh H2 ∷ fresh H3 ∷ fresh H4 ∷ changed H5 ∷ changed H6
+    ∷ cut-asked B1 ∷ cut-asked B2 ∷ cut-asked B3 ∷ cut-asked B4 ∷ cut-asked B5 ∷ cut-asked B6
     ∷ limited L1 ∷ limited L2 ∷ limited L3 ∷ limited L4
     ∷ changed S1 ∷ changed S2 ∷ changed S3 ∷ fresh S4 ∷ asked S5 ∷ asked S6 ∷ asked S7 ∷ changed S8 ∷ []

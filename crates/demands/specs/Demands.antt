@@ -15,7 +15,7 @@ use Rattle.automaton.specs.Automaton.{Transition, Automaton, labelOf, listed, m
 use Rattle.automaton.specs.NextStates.{EventOf}
 use Rattle.automaton.specs.declared.Event.{Event}
 use Rattle.automaton.specs.declared.Event.the-variants as event
-use Rattle.rows.specs.Rows.{TableRow, meets, timesMet}
+use Rattle.rows.specs.Rows.{TableRow, Pair, noPair, meets, timesMet}
 use Rattle.text.specs.Lines.{lineOf}
 use Rattle.text.specs.declared.Line.{Line}
 use Rattle.program.specs.Program.{Edge, Program}
@@ -32,11 +32,13 @@ use Rattle.reach.specs.Marks.{violations}
 use Rattle.base.specs.Bits.{bit}
 use Rattle.base.specs.Flags.{countSet}
 use Rattle.reach.specs.Violations.{Violation, Ascends}
+use Rattle.reach.specs.Blocked.{Blocked}
 use Rattle.exchange.specs.Changes.{Change, Read, Form}
 use Rattle.exchange.specs.Changing.{changedProgram}
 use Rattle.exchange_text.specs.Wanted.{wantedChange}
-use Rattle.desk.specs.Entries.{Entry, Lent, Room, Back, hasWork, noValues, programIn}
-use Rattle.demands.specs.Refusals.{Returned}
+use Rattle.desk.specs.Entries.{Entry, read, Lent, Room, Back, hasWork, tellsPair, noValues, pairing}
+use Rattle.desk.specs.Entries.{programIn, Gives}
+use Rattle.demands.specs.Refusals.{FaultyPairOf, Returned}
 use Rattle.repair.specs.Repairs.{zeroed}
 use Rattle.demands.specs.Lists.{Call, wrote, seenOf, bookPlayed, BookRoutines, BookLeaves}
 
@@ -49,8 +51,8 @@ pub record Demand1 (e : Entry) (b : Lent) (a : Back) : Type 0 where
   pub returned : Returned e b (a .refusal) (a .line)
   -- and in no other
   pub no-other : (n line : ℕ) → Returned e b n line → (n ≡ a .refusal) × (line ≡ a .line)
-  -- a refusal has no result: every other number is 0
-  pub no-result : a .refusal ≢ 0 → a .values ≡ noValues
+  -- a refusal has no result: every other number is 0, but for the one function that tells the pair of a table
+  pub no-result : tellsPair e ≡ false → a .refusal ≢ 0 → a .values ≡ noValues
   -- a refusal leaves the marks, the output and the second buffer unchanged
   pub marks : a .refusal ≢ 0 → a .marks ≡ b .marks
   pub output : a .refusal ≢ 0 → a .output ≡ b .output
@@ -60,6 +62,19 @@ pub record Demand1 (e : Entry) (b : Lent) (a : Back) : Type 0 where
   -- and all zero, over its own length, after 17, 22 or success
   pub work-cleared : hasWork e ≡ true → (a .refusal ≡ 0) ⊎ ((a .refusal ≡ 17) ⊎ (a .refusal ≡ 22))
       → a .work ≡ zeroed (b .work)
+
+-- what is told of a file whose table is refused, and of any other
+pub record PairTold (b : Lent) (a : Back) : Type 0 where
+  -- the number and its line are those of a reading
+  pub as-read : (c : Back) → Gives read b c → (a .refusal ≡ c .refusal) × (a .line ≡ c .line)
+  -- where the number is 19 or 20, the pair is the first faulty one
+  pub first : (a .refusal ≡ 19) ⊎ (a .refusal ≡ 20) → FaultyPairOf (b .file) (a .refusal) (a .values .pair)
+  -- and a file that has a faulty pair has this one and this number
+  pub no-other : (n : ℕ) (x : Pair) → FaultyPairOf (b .file) n x → (n ≡ a .refusal) × (x ≡ a .values .pair)
+  -- else no pair is told
+  pub no-pair : a .refusal ≢ 19 → a .refusal ≢ 20 → a .values .pair ≡ noPair
+  -- and never another number
+  pub only-pair : a .values ≡ pairing (a .values .pair)
 
 -- a program and rows (paper: frames 55): its transitions are those of their table
 pub record Tabulated (p : Program) (rs : List TableRow) : Type 0 where
@@ -207,6 +222,13 @@ Safe p = (f n r q : ℕ) (below : List Activation) → Run p f n r below q → i
 pub data Next (z : Sizes) (p : Program) (low : ℕ) : ℕ → Type 0 where
   least : {v : ℕ} → Violation z p v → low ≤ v → ((w : ℕ) → Violation z p w → low ≤ w → v ≤ w) → Next z p low v
   nothing : ((w : ℕ) → Violation z p w → w < low) → Next z p low 4294967295
+
+-- where runs are cut off, from a number on: the least configuration that is not below it, with what cuts runs off there;
+-- or 4294967295 and 0 where there is none
+pub data NextBlocked (z : Sizes) (p : Program) (low : ℕ) : ℕ → ℕ → Type 0 where
+  least : {v k : ℕ} → Blocked z p v k → low ≤ v → ((w j : ℕ) → Blocked z p w j → low ≤ w → v ≤ w)
+      → NextBlocked z p low v k
+  nothing : ((w j : ℕ) → Blocked z p w j → w < low) → NextBlocked z p low 4294967295 0
 
 -- the full analysis ends with nothing pending, its iterations are the takings of the procedure, and no configuration is
 -- taken more often than 1 + R Q Q times, for R routines and Q states

@@ -1,9 +1,9 @@
 -- The table of refusals (paper: "Refusals by place"): for each row its case, for each function its rows in their order.
 -- The rows of the lengths (`bufferRows`), of the text of an exchange (`exchangeRows`) and the lengths that depend on it
 -- (`lengthRows`), of the marks (`foreignRow`) and of the limit (`limitRow`) stand where the answers are defined.
-use Prim.Native.Nat.{ℕ, _+_}
+use Prim.Native.Nat.{ℕ, _+_, _<_, _≤_}
 use mathlib.Core.Path.{_≡_}
-use mathlib.Core.Logic.{_≢_}
+use mathlib.Core.Logic.{_≢_, _⊎_}
 use mathlib.Core.Bool.{Bool, true, false, _&&_, not}
 use mathlib.Core.List.{List, [], _∷_, _++_}
 use lib.Dec.{ltb, leb, eqb}
@@ -26,9 +26,9 @@ use Rattle.edit.specs.declared.Edit.the-variants.{Add, Drop, Replace}
 use Rattle.exchange_text.specs.ExchangeText.{textLines, exchangeIn, exchangeRows}
 use Rattle.exchange.specs.Lengths.{sizesAfter, lengthsOf, lengthRows, workFirst}
 use Rattle.exchange.specs.Changes.{Form, EditLine, ExchangeText}
-use Rattle.desk.specs.Entries.{Entry, read, sizes, write, analyze, next-violation, prune, repair-forward}
-use Rattle.desk.specs.Entries.{repair-inside-out, exchange-sizes, exchange-forward, exchange-inside-out}
-use Rattle.desk.specs.Entries.{Lent, programIn}
+use Rattle.desk.specs.Entries.{Entry, read, sizes, faulty-pair, write, analyze, next-violation, next-blocked, prune}
+use Rattle.desk.specs.Entries.{repair-forward, repair-inside-out, exchange-sizes, exchange-forward}
+use Rattle.desk.specs.Entries.{exchange-inside-out, Lent, programIn}
 
 -- ---- a file
 
@@ -96,6 +96,32 @@ pub data Faulty : Progress → List (List ℕ) → ℕ → ℕ → Type 0 where
 abbrev pub FaultyFile : List ℕ → ℕ → ℕ → Type 0
 FaultyFile file n line = Faulty start (lines file) n line
 
+-- ---- the pair that the table of a file with rows is refused for
+
+-- of two pairs this is the earlier: its state is the smaller, or the states are the same and its action is the smaller
+abbrev pub EarlierPair : Pair → Pair → Type 0
+EarlierPair x y = (x .state < y .state) ⊎ ((x .state ≡ y .state) × (x .action < y .action))
+
+-- of the pairs of so many states and actions this is the first faulty one by some rows, and this is its number
+pub record FirstFaulty (rs : List TableRow) (states actions n : ℕ) (x : Pair) : Type 0 where
+  pub state : x .state < states
+  pub action : x .action < actions
+  -- no row meets it (19), or two or more do (20)
+  pub faulty : ((n ≡ 19) × (timesMet x rs ≡ 0)) ⊎ ((n ≡ 20) × (2 ≤ timesMet x rs))
+  -- exactly one row meets each earlier pair
+  pub earlier : (y : Pair) → y .state < states → y .action < actions → EarlierPair y x → timesMet y rs ≡ 1
+
+-- the number and the first faulty pair of a file, after some frames: every line is good, and the file has rows
+pub data FaultyPair : Progress → List (List ℕ) → ℕ → Pair → Type 0 where
+  of-the-table : {s : Progress} {n : ℕ} {x : Pair} → s .ended ≡ true → s .rows ≢ []
+      → FirstFaulty (s .rows) (s .program .automaton .states) (s .program .automaton .actions) n x
+      → FaultyPair s [] n x
+  after-a-line : {s : Progress} {l : List ℕ} {ls : List (List ℕ)} {n : ℕ} {x : Pair} → s .ended ≡ false
+      → lineNumber s l ≡ 0 → FaultyPair (after s (lineFrom (numbersOf l))) ls n x → FaultyPair s (l ∷ ls) n x
+
+abbrev pub FaultyPairOf : List ℕ → ℕ → Pair → Type 0
+FaultyPairOf file n x = FaultyPair start (lines file) n x
+
 -- ---- an edit line, for a program
 
 abbrev pub adds : Edit → Bool
@@ -153,10 +179,12 @@ marksRows b = bufferRows (marksLength b) (Of (length (b .marks))) NotAsked (Of (
 abbrev pub rows : Entry → Lent → List Row
 rows read b = []
 rows sizes b = []
+rows faulty-pair b = []
 rows write b = bufferRows (marksLength b) NotAsked (Of (length (b .output))) NotAsked
 rows analyze b = marksRows b ++ limitRow (programIn b) (b .limit) ∷ []
 rows prune b = marksRows b
 rows next-violation b = marksRows b ++ foreignRow (programIn b) (b .marks) ∷ []
+rows next-blocked b = marksRows b ++ foreignRow (programIn b) (b .marks) ∷ []
 rows repair-forward b = repairRows EditLine b
 rows repair-inside-out b = repairRows EditLine b
 rows exchange-sizes b = changeRows ExchangeText (programIn b) (b .text)

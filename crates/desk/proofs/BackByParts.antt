@@ -5,7 +5,7 @@ use Prim.Native.Nat.{ℕ}
 use Rattle.writer.specs.Answers.{refusal as writeRefusal, refusalLine as writeLine, writtenLength}
 use Rattle.writer.specs.declared.WriteAnswer.{WriteAnswer}
 use Rattle.repair.specs.Repairs.{After}
-use Rattle.desk.specs.Entries.{Values, Back, counts, sizing, repairing, repairBack}
+use Rattle.desk.specs.Entries.{Values, Back, counts, sizing, pairing, repairing, repairBack}
 
 pub same-back : {r r′ l l′ : ℕ} {v v′ : Values} {m m′ o o′ w w′ n n′ : List ℕ} → r ≡ r′ → l ≡ l′ → v ≡ v′ → m ≡ m′ → o ≡ o′ → w ≡ w′ → n ≡ n′
     → _≡_ {A = Back} (record { refusal = r; line = l; values = v; marks = m; output = o; work = w; second = n })
@@ -17,6 +17,9 @@ same-counts e f g = rw (e, f, g) refl
 
 pub same-sizing : {r r′ n n′ s s′ m m′ w w′ : ℕ} → r ≡ r′ → n ≡ n′ → s ≡ s′ → m ≡ m′ → w ≡ w′ → sizing r n s m w ≡ sizing r′ n′ s′ m′ w′
 same-sizing e f g h i = rw (e, f, g, h, i) refl
+
+pub same-pairing : {q q′ a a′ : ℕ} → q ≡ q′ → a ≡ a′ → pairing (record { state = q; action = a }) ≡ pairing (record { state = q′; action = a′ })
+same-pairing e f = rw (e, f) refl
 
 pub same-size : {n n′ : ℕ} (routines : ℕ) → n ≡ n′ → repairing n routines ≡ repairing n′ routines
 same-size routines e = rw e refl

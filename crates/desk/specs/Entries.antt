@@ -17,6 +17,8 @@ use Rattle.analysis.specs.Answers.{nextLine, nextFound}
 use Rattle.writer.specs.declared.WriteAnswer.{WriteAnswer}
 use Rattle.analysis.specs.declared.AnalyzeAnswer.{AnalyzeAnswer}
 use Rattle.analysis.specs.declared.NextAnswer.{NextAnswer}
+use Rattle.block_list.specs.Answers.{blockAnswer, blockRefusal, blockLine, blockFound, blockEdge}
+use Rattle.block_list.specs.declared.BlockAnswer.{BlockAnswer}
 use Rattle.prune.specs.Pruning.{Pruned}
 use Rattle.exchange_text.specs.Wanted.{wantedChange}
 use Rattle.exchange.specs.Changes.{Form, EditLine, ExchangeText}
@@ -24,14 +26,16 @@ use Rattle.repair.specs.Repairs.{After, repaired, InsideOutNumber}
 use Rattle.rewrite.specs.Room.{roomAnswer, roomRefusal, roomLine, roomNodes, roomMarks, roomWork}
 use Rattle.rewrite.specs.declared.RoomAnswer.{RoomAnswer}
 use Rattle.answers.specs.Told.{told}
-use Rattle.rows.specs.Rows.{Pair}
+use Rattle.rows.specs.Rows.{Pair, noPair}
 
 pub data Entry : Type 0 where
   read : Entry
   sizes : Entry
+  faulty-pair : Entry
   write : Entry
   analyze : Entry
   next-violation : Entry
+  next-blocked : Entry
   prune : Entry
   repair-forward : Entry
   repair-inside-out : Entry
@@ -41,7 +45,7 @@ pub data Entry : Type 0 where
 
 -- what is lent: of these a function reads those that its head names. `text` is an edit line or the text of an exchange,
 -- `second` the buffer for the marks after an exchange, `limit` how many iterations a full analysis may make, and `from`
--- where to begin in the list of violations
+-- where to begin in a list of configurations
 pub record Lent : Type 0 where
   pub file : List ℕ
   pub marks : List ℕ
@@ -61,7 +65,8 @@ pub record Room : Type 0 where
   pub marks : ℕ
   pub work : ℕ
 
--- the numbers of an answer that only some functions have; 0 where the function has none of them, and on a refusal
+-- the numbers of an answer that only some functions have; 0 where the function has none of them, and on a refusal, but
+-- for the pair that a table of rows is refused for
 pub record Values : Type 0 where
   -- how many bytes were written to the output
   pub written : ℕ
@@ -71,9 +76,9 @@ pub record Values : Type 0 where
   pub iterations : ℕ
   -- the number of a configuration that was sought; 4294967295 says that there is none
   pub found : ℕ
-  -- the place of an edge among the file's
+  -- the place of an edge among the file's; 4294967295 says that it is no edge but a return
   pub edge : ℕ
-  -- the pair of a state and an action that a table of rows is refused for
+  -- that pair of a state and an action
   pub pair : Pair
   -- the reanalyzed routines (paper: reopened), bit f for routine f
   pub reanalyzed : ℕ
@@ -94,9 +99,11 @@ pub record Back : Type 0 where
 abbrev pub hasWork : Entry → Bool
 hasWork read = false
 hasWork sizes = false
+hasWork faulty-pair = false
 hasWork write = false
 hasWork analyze = true
 hasWork next-violation = true
+hasWork next-blocked = true
 hasWork prune = true
 hasWork repair-forward = true
 hasWork repair-inside-out = true
@@ -104,13 +111,27 @@ hasWork exchange-sizes = false
 hasWork exchange-forward = true
 hasWork exchange-inside-out = true
 
+-- does it tell the pair that a table of rows is refused for (19, 20)? Every other refusal tells its number and its line
+-- alone
+abbrev pub tellsPair : Entry → Bool
+tellsPair read = false
+tellsPair sizes = false
+tellsPair faulty-pair = true
+tellsPair write = false
+tellsPair analyze = false
+tellsPair next-violation = false
+tellsPair next-blocked = false
+tellsPair prune = false
+tellsPair repair-forward = false
+tellsPair repair-inside-out = false
+tellsPair exchange-sizes = false
+tellsPair exchange-forward = false
+tellsPair exchange-inside-out = false
+
 -- ---- the numbers that a function has
 
 abbrev pub noRoom : Room
 noRoom = record { routines = 0; nodes = 0; states = 0; marks = 0; work = 0 }
-
-abbrev pub noPair : Pair
-noPair = record { state = 0; action = 0 }
 
 abbrev pub noValues : Values
 noValues = record {
@@ -138,18 +159,21 @@ counts c v i = record {
   room = noRoom;
 }
 
-abbrev pub finding : ℕ → Values
-finding i = record {
+abbrev pub blocking : ℕ → ℕ → Values
+blocking i k = record {
   written = 0;
   configurations = 0;
   violations = 0;
   iterations = 0;
   found = i;
-  edge = 0;
+  edge = k;
   pair = noPair;
   reanalyzed = 0;
   room = noRoom;
 }
+
+abbrev pub finding : ℕ → Values
+finding i = blocking i 0
 
 abbrev pub repairing : ℕ → ℕ → Values
 repairing size routines = record {
@@ -177,6 +201,19 @@ sizing routines nodes states marks work = record {
   room = record { routines = routines; nodes = nodes; states = states; marks = marks; work = work };
 }
 
+abbrev pub pairing : Pair → Values
+pairing x = record {
+  written = 0;
+  configurations = 0;
+  violations = 0;
+  iterations = 0;
+  found = 0;
+  edge = 0;
+  pair = x;
+  reanalyzed = 0;
+  room = noRoom;
+}
+
 abbrev pub writing : ℕ → Values
 writing size = repairing size 0
 
@@ -199,6 +236,18 @@ sizesBack b v z = record {
   refusal = refusal v;
   line = refusalLine v;
   values = sizing (told v (z .routines)) (told v (z .nodes)) (told v (z .states)) (told v (numbers z)) 0;
+  marks = b .marks;
+  output = b .output;
+  work = b .work;
+  second = b .second;
+}
+
+-- the pair that the table of a file with rows is refused for
+abbrev pub pairBack : Lent → Verdict → Pair → Back
+pairBack b v x = record {
+  refusal = refusal v;
+  line = refusalLine v;
+  values = pairing x;
   marks = b .marks;
   output = b .output;
   work = b .work;
@@ -245,6 +294,17 @@ nextBack b r work = record {
   refusal = nextRefusal r;
   line = nextLine r;
   values = finding (nextFound r);
+  marks = b .marks;
+  output = b .output;
+  work = work;
+  second = b .second;
+}
+
+abbrev pub blockBack : Lent → BlockAnswer → List ℕ → Back
+blockBack b r work = record {
+  refusal = blockRefusal r;
+  line = blockLine r;
+  values = blocking (blockFound r) (blockEdge r);
   marks = b .marks;
   output = b .output;
   work = work;
@@ -320,11 +380,14 @@ InsideOutGives k b a =
 abbrev pub Gives : Entry → Lent → Back → Type 0
 Gives read b a = a ≡ readBack b (readFile (b .file) .verdict)
 Gives sizes b a = a ≡ sizesBack b (readFile (b .file) .verdict) (sizesOf (programIn b))
+Gives faulty-pair b a = a ≡ pairBack b (readFile (b .file) .verdict) (readFile (b .file) .pair)
 Gives write b a = a ≡ writeBack b (writeAnswer (b .file) (b .output)) (outputAfter (b .file) (b .output))
 Gives analyze b a =
     a ≡ analyzeBack b (analyzeAnswer (b .file) (b .marks) (b .work) (b .limit))
     (marksAfter (b .file) (b .marks) (b .work) (b .limit)) (workAfter (b .file) (b .marks) (b .work))
 Gives next-violation b a = a ≡ nextBack b (nextAnswer (b .file) (b .marks) (b .work) (b .from))
+    (workAfter (b .file) (b .marks) (b .work))
+Gives next-blocked b a = a ≡ blockBack b (blockAnswer (b .file) (b .marks) (b .work) (b .from))
     (workAfter (b .file) (b .marks) (b .work))
 Gives prune b a =
     (a ≡ pruneBack b (checkedMarks (b .file) (b .marks) (b .work)) (a .marks)

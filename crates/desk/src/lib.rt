@@ -1,6 +1,8 @@
 // The functions for C: bytes are handed over, and numbers come back. Every number is set on every call.
 use answers::analyze_numbers;
+use answers::block_numbers;
 use answers::next_numbers;
+use answers::pair_numbers;
 use answers::repair_numbers;
 use answers::room_numbers;
 use answers::sizes_numbers;
@@ -8,9 +10,10 @@ use answers::verdict_numbers;
 use answers::write_numbers;
 use program::chosen::sizes_of;
 ghost use mathlib.Core.List.{[]};
-ghost use Rattle.desk.specs.Entries.{Gives, read, sizes, write, analyze, next-violation, prune, repair-forward};
+ghost use Rattle.desk.specs.Entries.{Gives, read, sizes, faulty-pair, write, analyze, next-violation, next-blocked, prune};
+ghost use Rattle.desk.specs.Entries.{repair-forward};
 ghost use Rattle.desk.specs.Entries.{repair-inside-out, exchange-sizes, exchange-forward, exchange-inside-out};
-ghost use Rattle.desk.specs.Entries.{noValues, writing, counts, finding, sizing, lentRepair, backRepair};
+ghost use Rattle.desk.specs.Entries.{noValues, writing, counts, finding, blocking, sizing, pairing, lentRepair, backRepair};
 
 // Is this file accepted? The line of its refusal is set.
 #[no_mangle]
@@ -83,6 +86,46 @@ pub extern "C" fn palthrenni_sizes(
     *nodes = told.nodes;
     *states = told.states;
     *marks_size = told.marks;
+    numbers.refusal
+}
+
+// By which pair is the table of a file with rows refused? The line of a refusal is set, and where that is 19 or 20 the
+// state and the action of the first faulty pair, else 0 and 0.
+#[no_mangle]
+pub extern "C" fn palthrenni_faulty_pair(
+    file: &[u8],
+    line: &mut u32,
+    state: &mut u32,
+    action: &mut u32,
+) -> u32
+    ensures { λ r. ⌜ Gives faulty-pair (record {
+      file = now (file .entry);
+      marks = [];
+      text = [];
+      output = [];
+      work = [];
+      second = [];
+      limit = 0;
+      from = 0;
+    })
+        (record {
+          refusal = r;
+          line = now (line .exit);
+          values = pairing (record { state = now (state .exit); action = now (action .exit) });
+          marks = [];
+          output = [];
+          work = [];
+          second = [];
+        }) ⌝ }
+{
+    let r = reader::read(file);
+    let v = r.verdict;
+    let pair = r.pair;
+    let numbers = verdict_numbers(v);
+    let told = pair_numbers(pair);
+    *line = numbers.line;
+    *state = told.state;
+    *action = told.action;
     numbers.refusal
 }
 
@@ -198,6 +241,46 @@ pub extern "C" fn palthrenni_next_violation(
     let numbers = next_numbers(a);
     *line = numbers.line;
     *found = numbers.found;
+    numbers.refusal
+}
+
+// The first configuration not below the number at which runs are cut off. The line of a refusal, the number found and
+// the place of the edge that is not allowed are set.
+#[no_mangle]
+pub extern "C" fn palthrenni_next_blocked(
+    file: &[u8],
+    marks: &[u8],
+    work: &mut [u8],
+    from: u32,
+    line: &mut u32,
+    found: &mut u32,
+    edge: &mut u32,
+) -> u32
+    ensures { λ r. ⌜ Gives next-blocked (record {
+      file = now (file .entry);
+      marks = now (marks .entry);
+      text = [];
+      output = [];
+      work = now (work .entry);
+      second = [];
+      limit = 0;
+      from = from;
+    })
+        (record {
+          refusal = r;
+          line = now (line .exit);
+          values = blocking (now (found .exit)) (now (edge .exit));
+          marks = now (marks .entry);
+          output = [];
+          work = now (work .exit);
+          second = [];
+        }) ⌝ }
+{
+    let a = block_list::next_blocked(file, marks, work, from as usize);
+    let numbers = block_numbers(a);
+    *line = numbers.line;
+    *found = numbers.found;
+    *edge = numbers.edge;
     numbers.refusal
 }
 
