@@ -15,8 +15,9 @@
  * routine, or the return from one. The automaton (paper: the rule) goes from
  * state to state with the events, by transitions (paper: rule lines). A run
  * begins at main's entry in an initial state (paper: start state) and should
- * never arrive in a rejecting one (paper: forbidden). docs/GLOSSARY.md has all
- * terms; "paper" is the scope paper.
+ * never arrive in a rejecting one (paper: forbidden); where it does is a
+ * violation (paper: finding). docs/GLOSSARY.md has all terms; "paper" is the
+ * scope paper.
  *
  * The file. A program file is lines of hexadecimal. Two digits 0-9 A-F make a
  * number, and a byte 0A ends the line. A line is a frame, and its first number
@@ -188,7 +189,8 @@
  *                  digits A to F there
  *
  * Every file that was accepted before still is, and is written as the same
- * bytes; its configurations, violations and iterations are as many as before.
+ * bytes; its configurations, violations and iterations (paper: takings) are as
+ * many as before.
  */
 #ifndef PALTHRENNI_H
 #define PALTHRENNI_H
@@ -283,9 +285,9 @@ extern "C" {
  *                    palthrenni_exchange_sizes gives for it
  *     own        17  the marks are not the program's own: some byte is not the
  *                    one that palthrenni_analyze would leave there
- *     analyze    22  palthrenni_analyze gave up: its count of iterations
- *                    (paper: takings) is above the limit. That is no fault of
- *                    the file, and says nothing of its violations
+ *     analyze    22  palthrenni_analyze gave up: its count of iterations is
+ *                    above the limit. That is no fault of the file, and says
+ *                    nothing of its violations
  *     none       18  the input of the program `bench` has more than 16384
  *                    bytes. No function returns it, and none has such a bound
  *
@@ -481,9 +483,9 @@ uint32_t palthrenni_write(const uint8_t *file, size_t file_len,
 
 /*
  * Reads a program file and marks every configuration that can occur in a run
- * of its program: the full analysis (paper: working afresh). A violation
- * (paper: finding) is one of them whose state is rejecting; so no run arrives
- * in a rejecting state if and only if there are no violations.
+ * of its program: the full analysis (paper: working afresh). A violation is one
+ * of them whose state is rejecting; so no run arrives in a rejecting state if
+ * and only if there are no violations.
  *
  * The limit (paper: the ceiling on takings). In each iteration the analysis
  * takes one configuration, always the lowest that is pending (paper: waiting);
@@ -661,9 +663,9 @@ uint32_t palthrenni_prune(const uint8_t *file, size_t file_len,
  * program, and writes that program, its transitions one by one even where the
  * file has rows. An edit is one line of hexadecimal,
  *
- *     2B f n a m      adds an edge of routine f from node n to m by label a
- *     2D f n a m      drops that edge
- *     3D f n a m b    gives that edge the label b
+ *     2B f n l m      adds an edge of routine f from node n to m by label l
+ *     2D f n l m      drops that edge
+ *     3D f n l m b    gives that edge the label b
  *
  * two digits a number and a byte 0A at the end. (The kinds are the ASCII codes
  * of +, - and =.)
@@ -768,7 +770,7 @@ uint32_t palthrenni_exchange_sizes(const uint8_t *file, size_t file_len,
  * byte 0A at the end of each line,
  *
  *     52 f p          first, and once: routine f has p nodes, 2 to 64
- *     53 f n a m      an edge of routine f from node n to m by label a
+ *     53 f n l m      an edge of routine f from node n to m by label l
  *
  * with a frame 53 for each edge that the routine is to have, ascending,
  * compared left to right. With no frame 53 the routine has no edge afterwards.
