@@ -1,4 +1,4 @@
-// The summaries on a sheet of marks are those of its marked exits.
+// The summaries on marks are those of the marked exits.
 use marking::KNOWN_WORDS;
 use program::sizes::Sizes;
 use reach::configuration::exit_at;

@@ -37,7 +37,7 @@ pub record Ranks (p : Program) (rank : ℕ → ℕ) : Type 0 where
   pub lower : (f g : ℕ) → f < maxRoutines → g < maxRoutines → CallEdge p f g → ¬ (Together p f g) → rank g < rank f
   pub decides : (f g : ℕ) → f < maxRoutines → g < maxRoutines → Dec (Together p f g)
 
--- the summaries on the sheet before
+-- the summaries on the marks before
 pub record Before (Z : Sizes) (p : Program) (before : List ℕ) : Type 0 where
   pub flagged : (f r q : ℕ) → f < Z .routines → r < Z .states → q < Z .states
       → (getD before (summary Z f r q) 0 ≢ 0) ↔ Reachable p f 1 r q

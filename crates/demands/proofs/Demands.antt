@@ -42,7 +42,7 @@ use Rattle.desk.specs.Entries.{Entry, read, sizes, faulty-pair, write, analyze,
 use Rattle.demands.specs.Refusals.{marksLength}
 use Rattle.demands.specs.Lists.{Repair, Call, entry, wrote, Gave}
 use Rattle.demands.specs.Inputs.{SameInputs}
-use Rattle.demands.specs.Demands.{Demand1, PairTold, Acceptance, Before, comparedBy, lineKey, KeysOfFrames, withWritten, WrittenFile, ChangedFile, Tabulated, SizesTold, Needed, Numbering, Demand2, Safe, Next, NextBlocked, Procedure, noLimit, withLimit, givenUp, Heeds, OnActions, movesBefore, OneLook, Demand3, keepingOf}
+use Rattle.demands.specs.Demands.{Demand1, PairTold, Acceptance, Before, comparedBy, lineKey, KeysOfFrames, withWritten, WrittenFile, ChangedFile, Tabulated, SizesTold, Needed, Numbering, Demand2, Safe, Next, NextBlocked, Procedure, noLimit, withLimit, givenUp, Heeds, OnActions, movesBefore, OneLook, Demand3, pruningOf}
 use Rattle.demands.specs.Cases.{Case, Holds, table}
 use Rattle.demands.proofs.RefusalsReturned.{gives-demanded}
 use Rattle.demands.proofs.OneAnswer.{given-once}
@@ -210,18 +210,18 @@ pub limit-0 : (b : Lent) (a c : Back) → Gives analyze b a → Gives analyze (w
     → (a .refusal ≡ 22) ↔ ((c .refusal ≡ 0) × (programIn b .automaton .initial ≢ []))
 limit-0 = zero-limit
 
--- the moves by a call of f, and those by a return from it: without a rule line of that label the state stays, else only the listed moves happen
+-- the moves by a call of f, and those by a return from it: without a transition of that label the state stays, else only the listed moves happen
 pub calls-heard : (r : Automaton) (f : ℕ) → Heeds r (event.Call f)
 calls-heard = call-heeded
 
 pub returns-heard : (r : Automaton) (f : ℕ) → Heeds r (event.Return f)
 returns-heard = return-heeded
 
--- for a rule without a line for a call or a return the moves are what they were
+-- for an automaton without a transition for a call or a return the moves are what they were
 pub moves-as-before : (r : Automaton) → OnActions r → (q : ℕ) (e : Event) (s : ℕ) → moves r q e s ≡ movesBefore r q e s
 moves-as-before = as-before
 
--- one look at the rule: what `next_after` gives for every state and label, in the table that `next_states` makes of an accepted program
+-- one look at the automaton: what `next_after` gives for every state and label, in the table that `next_states` makes of an accepted program
 pub one-look : (p : Program) → WellFormed p → (sets : List ℕ) → Answers (p .automaton) (p .routines) sets → OneLook p (setAt sets)
 one-look = look-answers
 
@@ -231,24 +231,24 @@ one-look = look-answers
 pub demand-3 : (file : List ℕ) → readFile file .verdict ≡ Accepted → (cs : List Call) (gs : List Back) → Gave cs gs (started file) → Demand3 file cs gs
 demand-3 = list-demanded
 
--- the keeping, on any sheet: a 1 at each mark that has support back to a start through marked configurations, and 0 elsewhere
+-- pruning, of any marks: a 1 at each mark that has support back to a start through marked configurations, and 0 elsewhere
 pub prune-keeps : (b : Lent) (a : Back) → Gives prune b a → a .refusal ≡ 0
     → Shows (sizesOf (programIn b)) (Kept (sizesOf (programIn b)) (programIn b) (b .marks)) (a .marks)
 prune-keeps = pruned
 
--- what the keeping gives for the edited file and the old marks is what a forward drop leaves
+-- what pruning gives for the edited file and the old marks is what a forward drop leaves
 pub forward-drop : (b : Lent) (a k : Back) (s : Step) → Gives repair-forward b a → a .refusal ≡ 0 → wantedEdit (programIn b) (b .text) ≡ Read (Drop s)
-    → Gives prune (keepingOf b a) k → (k .refusal ≡ 0) × (k .marks ≡ a .marks)
+    → Gives prune (pruningOf b a) k → (k .refusal ≡ 0) × (k .marks ≡ a .marks)
 forward-drop = drop-kept
 
--- two passes over a component that are given its steps, its old roots, the rule and the summaries of the routines it calls alike leave its configurations
--- alike, whatever else the programs and the sheets hold, and whatever their sizes
+-- two passes over a component that are given its edges, its old roots, the automaton and the summaries of the routines it calls alike leave its configurations
+-- alike, whatever else the programs and the marks hold, and whatever their sizes
 pub pass-depends : {Z Z′ : Sizes} {members : List ℕ} {p p′ : Program} {old old′ marks marks′ after after′ : List ℕ} → Passed Z p members old marks after
     → Passed Z′ p′ members old′ marks′ after′ → SameInputs Z Z′ members p p′ old old′ marks marks′ → (f n r q : ℕ) → Member members f
     → Marked Z after f n r q ↔ Marked Z′ after′ f n r q
 pass-depends = depends
 
--- ---- the cases P1 to P10, R1 and R2 for edit lines, T1 to T4 for a rule as a table, E1 to E5 for exchanges, H1 to H6 for calls and returns that the rule hears,
+-- ---- the cases P1 to P10, R1 and R2 for edit lines, T1 to T4 for tables, E1 to E5 for exchanges, H1 to H6 for calls and returns that are heard,
 -- B1 to B6 for where runs are cut off, L1 to L4 for a limit, and S1 to S8 for sizes, rows of one table
 pub cases : (c : Case) → List·Memᴰ c table → Holds c
 cases = every-row

@@ -36,7 +36,7 @@ module _ (c : Change) (p : Program) (applies : ChangeApplies c p) (k : KeepsRout
         initials = λ {q} m. subst (λ (a : Automaton). List·Memᴰ q (a .initial)) (sym (changed-automaton c p)) m;
         moves = λ q l s m. subst (λ (a : Automaton). moves a q l s ≡ true) (sym (changed-automaton c p)) m;
         steps = λ ne h. changed-other c p ne h;
-        summaries = λ {r} {q} d. occurs-iff .0 (k .pairs r q .0 (occurs-iff .1 d));
+        summaries = λ {r} {q} d. occurs-iff .0 (k .summaries r q .0 (occurs-iff .1 d));
         calls = λ {g} {s} ne x. reaching (k .calls g s ne .0 (occurring x));
       }
 
@@ -46,7 +46,7 @@ module _ (c : Change) (p : Program) (applies : ChangeApplies c p) (k : KeepsRout
         initials = λ {q} m. subst (λ (a : Automaton). List·Memᴰ q (a .initial)) (changed-automaton c p) m;
         moves = λ q l s m. subst (λ (a : Automaton). moves a q l s ≡ true) (changed-automaton c p) m;
         steps = λ ne h. other-changed c p applies ne h;
-        summaries = λ {r} {q} d. occurs-iff .0 (k .pairs r q .1 (occurs-iff .1 d));
+        summaries = λ {r} {q} d. occurs-iff .0 (k .summaries r q .1 (occurs-iff .1 d));
         calls = λ {g} {s} ne x. reaching (k .calls g s ne .1 (occurring x));
       }
 

@@ -23,7 +23,7 @@ use Rattle.callgraph.proofs.RoutineSets.{member-true, true-member}
 
 -- ---- the same the other way round
 
--- each step of the group in p, and each move of its rule, is one in p′
+-- each step of the component in p, and each move of its automaton, is one in p′
 alike : (members : List ℕ) (p p′ : Program) → edgesOf (memberOf members) (p .edges) ≡ edgesOf (memberOf members) (p′ .edges) → p .automaton ≡ p′ .automaton
     → Within (onlyOf (memberOf members) p) (onlyOf (memberOf members) p′)
 alike members p p′ steps rule =
@@ -37,26 +37,26 @@ flipped : {Z Z′ : Sizes} {members : List ℕ} {p p′ : Program} {old old′ m
     → SameInputs Z′ Z members p′ p old′ old marks′ marks
 flipped {Z} {Z′} {members} {p} {p′} i =
     record {
-      steps = sym (i .steps);
-      rule = sym (i .rule);
+      edges = sym (i .edges);
+      automaton = sym (i .automaton);
       roots = λ f r m. let same = i .roots f r m in (same .1, same .0);
-      pairs = λ f g r q m c k.
+      summaries = λ f g r q m c k.
           let there = step-only (memberOf members) p′ (member-true members f m) (c .edge) in
-          let here = only-step (memberOf members) p (alike members p′ p (sym (i .steps)) (sym (i .rule)) .steps there) in
-          let same = i .pairs f g r q m (record { source = c .source; target = c .target; edge = here }) k in
+          let here = only-step (memberOf members) p (alike members p′ p (sym (i .edges)) (sym (i .automaton)) .steps there) in
+          let same = i .summaries f g r q m (record { source = c .source; target = c .target; edge = here }) k in
           (same .1, same .0);
     }
 
--- ---- what one pass derives of the group, the other derives
+-- ---- what one pass derives of the component, the other derives
 
 module _ {Z Z′ : Sizes} {members : List ℕ} {p p′ : Program} {old old′ marks marks′ : List ℕ} (i : SameInputs Z Z′ members p p′ old old′ marks marks′) where
   same : Within (onlyOf (memberOf members) p) (onlyOf (memberOf members) p′)
-  same = alike members p p′ (i .steps) (i .rule)
+  same = alike members p p′ (i .edges) (i .automaton)
 
   caller : {f n m : ℕ} {e : Event} → HasStep (onlyOf (memberOf members) p) f n e m → Member members f
   caller {f} h = true-member members f (only-routine (memberOf members) p h)
 
-  -- no step leads to an exit outside the group: what the pass has of it, it was given
+  -- no step leads to an exit outside the component: what the pass has of it, it was given
   pair-given : {g n r q : ℕ} → ¬ (Member members g) → n ≡ 1 → PassOf Z p members old marks g n r q → ExitOf Z marks g r q
   pair-given k e (seeded (entry m y) u) = absurd (k m)
   pair-given k e (seeded (summary z y) u) = y
@@ -73,7 +73,7 @@ module _ {Z Z′ : Sizes} {members : List ℕ} {p p′ : Program} {old old′ ma
       let calls : CallEdge p f g = record { source = n; target = t; edge = only-step (memberOf members) p e } in
       by-return {x = x} (derives m d) (same .steps e) (same .moves _ _ _ v)
       (elim (ℕ-discrete (getD members g 0) 0) [
-        | yes z ↦ let k : ¬ (Member members g) = λ h. h z in seeded (summary k (i .pairs f g s x m calls k .0 (pair-given k refl d′))) tt
+        | yes z ↦ let k : ¬ (Member members g) = λ h. h z in seeded (summary k (i .summaries f g s x m calls k .0 (pair-given k refl d′))) tt
         | no k ↦ derives k d′
       ])
       (same .moves _ _ _ v′) tt

@@ -37,7 +37,7 @@ use Rattle.forward.proofs.EditedSteps.{drop-within, drop-initial}
 use Rattle.forward.proofs.ChangedMarks.{edited-sizes}
 use Rattle.repair.specs.Repairs.{repairedTo}
 use Rattle.desk.specs.Entries.{prune, repair-forward, Lent, Back, programIn, Gives}
-use Rattle.demands.specs.Demands.{keepingOf}
+use Rattle.demands.specs.Demands.{pruningOf}
 use Rattle.demands.specs.Lists.{wrote}
 use Rattle.demands.proofs.ChangesAccepted.{Mended, mended, mended-well-formed, mended-wrote}
 
@@ -55,7 +55,7 @@ pruned b a g z =
 -- ---- a forward drop is the keeping on the old marks
 
 module _ (b : Lent) (a k : Back) (s : Step) (g : Gives repair-forward b a) (z : a .refusal ≡ 0) (w : wantedEdit (programIn b) (b .text) ≡ read.Read (Drop s))
-    (h : Gives prune (keepingOf b a) k) where
+    (h : Gives prune (pruningOf b a) k) where
   m : Mended EditLine b a 0
   m = mended EditLine b a 0 z g
 

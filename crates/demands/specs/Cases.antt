@@ -1,5 +1,5 @@
--- The paper's cases P1 to P10, R1 and R2 for repairs by edit lines, T1 to T4 for a rule as a table, E1 to E5 for
--- exchanges of a routine, H1 to H6 for calls and returns that the rule hears, B1 to B6 for where runs are cut off, L1 to
+-- The paper's cases P1 to P10, R1 and R2 for repairs by edit lines, T1 to T4 for tables, E1 to E5 for
+-- exchanges of a routine, H1 to H6 for calls and returns that are heard, B1 to B6 for where runs are cut off, L1 to
 -- L4 for a limit, and S1 to S8 for the sizes that a program chooses, each from the bytes of its file, and of its edit
 -- line or text where it has one: one table.
 use mathlib.Core.Path.{_≡_}
@@ -219,7 +219,7 @@ Holds (cut-asked c) = (a : Back) → Gives next-blocked (lentCutAsked c) a → C
 
 -- ---- the rows
 
--- F with these steps, and with these lines after its transitions
+-- F with these edges, and with these lines after its transitions
 abbrev with : List String → List String → List String
 with steps rest = header ++ steps ++ transitions ++ rest
 
@@ -290,7 +290,7 @@ P6 =
       reanalyzed = some 1;
     }
 
--- P7: F with the single step 00 00 40 01, main calling itself: configuration 0 alone
+-- P7: F with the single edge 00 00 40 01, main calling itself: configuration 0 alone
 abbrev pub P7 : Fresh
 P7 = record {
   file = with ("5300004001" ∷ []) ("4900" ∷ "4602" ∷ "45000A" ∷ []);
@@ -333,7 +333,7 @@ P9 = record {
   reanalyzed = none;
 }
 
--- P10: the drop of an absent step is 14
+-- P10: the drop of an absent edge is 14
 abbrev pub P10 : Changed
 P10 = record {
   file = F;
@@ -351,7 +351,7 @@ P10 = record {
 
 -- ---- repairs by edit lines
 
--- R1: F with the single step 00 00 00 02, which becomes a call of routine 1: the drop reanalyzes 0, and by the add 1
+-- R1: F with the single edge 00 00 00 02, which becomes a call of routine 1: the drop reanalyzes 0, and by the add 1
 -- gains its entry
 abbrev pub R1 : Changed
 R1 =
@@ -387,9 +387,10 @@ R2 =
       reanalyzed = some 1;
     }
 
--- ---- a rule as a table
+-- ---- the automaton (paper: the rule) as a table
 
--- T1: F's rule in rows, which go on in state 2, and a step of main by action 1 to its exit: it violates there, in state 2
+-- T1: F's automaton in rows, which go on in state 2, and an edge of main by action 1 to its exit: it violates there, in
+-- state 2
 abbrev pub T1 : Fresh
 T1 =
     record {
@@ -519,7 +520,7 @@ E5 = record {
   reanalyzed = some 3;
 }
 
--- ---- calls and returns that the rule hears
+-- ---- calls and returns that are heard
 
 -- F with these lines in the place of its transitions, and so many frames
 abbrev hearing : List String → String → List String
@@ -588,7 +589,7 @@ H5 =
       reanalyzed = none;
     }
 
--- H6: a return's label is no step's: 13
+-- H6: a return's label is no edge's: 13
 abbrev pub H6 : Changed
 H6 = record {
   file = F;

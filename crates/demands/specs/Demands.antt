@@ -43,7 +43,7 @@ use Rattle.repair.specs.Repairs.{zeroed}
 use Rattle.demands.specs.Lists.{Call, wrote, seenOf, bookPlayed, BookRoutines, BookLeaves}
 
 -- ---- demand 1: every file, edit line, text of an exchange and lent buffer gets a result or one numbered refusal; a
--- refusal changes nothing
+-- refusal changes nothing but that 17 and 22 clear the working buffer
 
 -- of a call of a function: what was lent to it, and what it gives back
 pub record Demand1 (e : Entry) (b : Lent) (a : Back) : Type 0 where
@@ -51,7 +51,7 @@ pub record Demand1 (e : Entry) (b : Lent) (a : Back) : Type 0 where
   pub returned : Returned e b (a .refusal) (a .line)
   -- and in no other
   pub no-other : (n line : ℕ) → Returned e b n line → (n ≡ a .refusal) × (line ≡ a .line)
-  -- a refusal has no result: every other number is 0, but for the one function that tells the pair of a table
+  -- a refusal has no result: every other number is 0, but for the one function that tells the state-action pair of a table
   pub no-result : tellsPair e ≡ false → a .refusal ≢ 0 → a .values ≡ noValues
   -- a refusal leaves the marks, the output and the second buffer unchanged
   pub marks : a .refusal ≢ 0 → a .marks ≡ b .marks
@@ -78,7 +78,7 @@ pub record PairTold (b : Lent) (a : Back) : Type 0 where
 
 -- a program and rows (paper: frames 55): its transitions are those of their table
 pub record Tabulated (p : Program) (rs : List TableRow) : Type 0 where
-  -- each pair of a state and an action of the program is met by exactly one row
+  -- each state-action pair of the program (paper: pair of a state and an action) is met by exactly one row
   pub met-once : (q a : ℕ) → q < p .automaton .states → a < p .automaton .actions
       → timesMet (record { state = q; action = a }) rs ≡ 1
   -- from q to s on a there is a transition (paper: a rule line) exactly when the row that meets q and a says s
@@ -191,8 +191,8 @@ pub record Numbering (z : Sizes) : Type 0 where
   pub order : {f n r q g m s t : ℕ} → InRange z f n r q → InRange z g m s t → Earlier f n r q g m s t
       → number z f n r q < number z g m s t
 
--- ---- demand 2: the sheet marks a standing exactly when some run, each return going back to its own call, arrives
--- there
+-- ---- demand 2: a configuration is marked exactly when some run, each return going back to its own call, arrives there
+-- (paper: the sheet marks a standing)
 
 -- of a program, its sizes, and what a full analysis of its file gives back
 pub record Demand2 (z : Sizes) (p : Program) (a : Back) : Type 0 where
@@ -230,8 +230,8 @@ pub data NextBlocked (z : Sizes) (p : Program) (low : ℕ) : ℕ → ℕ → Typ
       → NextBlocked z p low v k
   nothing : ((w j : ℕ) → Blocked z p w j → w < low) → NextBlocked z p low 4294967295 0
 
--- the full analysis ends with nothing pending, its iterations are the takings of the procedure, and no configuration is
--- taken more often than 1 + R Q Q times, for R routines and Q states
+-- the full analysis ends with nothing pending (paper: waiting), its iterations (paper: takings) are the procedure's, and
+-- no configuration is taken more often than 1 + R Q Q times, for R routines and Q states
 pub record Procedure (p : Program) (a : Back) : Type 0 where
   pub ends : analysis p .pending ≡ none-set (sizesOf p)
   pub iterations : a .values .iterations ≡ length (takenIn p)
@@ -268,7 +268,7 @@ givenUp b = record {
   second = b .second;
 }
 
--- ---- the moves of a run, where the rule hears calls and returns
+-- ---- the moves of a run, where the automaton (paper: the rule) hears calls and returns
 
 -- of the moves by a call or a return
 pub record Heeds (r : Automaton) (e : Event) : Type 0 where
@@ -280,21 +280,22 @@ pub record Heeds (r : Automaton) (e : Event) : Type 0 where
       → (q s : ℕ) → (moves r q e s ≡ true)
       ↔ List·Memᴰ (record { before = q; label = labelOf e; after = s }) (r .transitions)
 
--- every transition is on an action, as in every file from before the rule heard calls and returns
+-- every transition is on an action, as in every file from before calls and returns were heard
 abbrev pub OnActions : Automaton → Type 0
 OnActions r = (t : Transition) → List·Memᴰ t (r .transitions) → t .label < firstCall
 
--- the moves by a rule that sees actions and not calls or returns
+-- the moves by an automaton that sees actions and not calls or returns
 abbrev pub movesBefore : Automaton → ℕ → Event → ℕ → Bool
 movesBefore r q (event.Action a) s = listed q a s (r .transitions)
 movesBefore r q (event.Call f) s = ltb q (r .states) && eqb q s
 movesBefore r q (event.Return f) s = ltb q (r .states) && eqb q s
 
--- ---- one look at the rule: a state and a label (an action, a call or a return) give all next states at once, as bits
+-- ---- one look at the automaton: a state and a label (an action, a call or a return) give all next states at once, as
+-- bits
 
 -- of a program, and what the look gives for a state and a label
 pub record OneLook (p : Program) (look : ℕ → ℕ → ℕ) : Type 0 where
-  -- for a state and an event of the program bit s is set exactly when the rule can then be in state s
+  -- for a state and an event of the program bit s is set exactly when the automaton can then be in state s
   pub bits : (q : ℕ) (e : Event) → q < p .automaton .states → EventOf (p .automaton) (p .routines) e
       → (s : ℕ) → (bit s (look q (labelOf e)) ≡ true) ↔ (moves (p .automaton) q e s ≡ true)
   -- a state outside the program's range gives no bit
@@ -304,9 +305,9 @@ pub record OneLook (p : Program) (look : ℕ → ℕ → ℕ) : Type 0 where
       → bit s (look q l) ≡ false
 
 -- ---- demand 3: for every list of forward and inside-out repair calls, by edit lines and by exchanges of routines,
--- refused ones among them, the sheet is byte for byte the one worked afresh from the program as a plain reference model
--- has it, and the refusals are the model's; and a change that keeps a routine's pairs and calls leaves the other
--- routines alone
+-- refused ones among them, the marks are byte for byte those of a full analysis (paper: worked afresh) of the program as
+-- a plain reference model (paper: the plain book) has it, and the refusals are the model's; and a change that keeps a
+-- routine's summaries (paper: pairs) and calls leaves the other routines alone
 
 -- of a file that the list begins with, the calls, and what they gave back
 pub record Demand3 (file : List ℕ) (cs : List Call) (gs : List Back) : Type 0 where
@@ -317,14 +318,14 @@ pub record Demand3 (file : List ℕ) (cs : List Call) (gs : List Back) : Type 0 
   -- the routines that an inside-out call says it has reanalyzed are those that the rules give for this change of the
   -- program that the model had before the call
   pub reanalyzed : BookRoutines cs gs (readFile file .program)
-  -- where an accepted change leaves the changed routine with the same pairs, calling each other routine in the same
-  -- states, no configuration of any other routine differs
+  -- where an accepted change leaves the changed routine with the same summaries, calling each other routine in the
+  -- same states, no configuration of any other routine differs
   pub others : BookLeaves cs (readFile file .program)
 
--- the keeping's call that does what a forward drop did: for the file that the drop wrote, on the marks that were lent
--- to it
-abbrev pub keepingOf : Lent → Back → Lent
-keepingOf b a = record {
+-- the call of pruning (paper: the keeping) that does what a forward drop did: for the file that the drop wrote, on the
+-- marks that were lent to it
+abbrev pub pruningOf : Lent → Back → Lent
+pruningOf b a = record {
   file = wrote a;
   marks = b .marks;
   text = [];

@@ -143,13 +143,13 @@ BookRoutines (c ∷ cs) (a ∷ gs) b = RoutinesBy (c .repair) (bookRefuses b c) 
 abbrev pub acceptedChange : ℕ → ChangeRead → ChangeRead
 acceptedChange n w = cond (eqb n 0) w (Refused n)
 
--- routine f has the same pairs in both programs, and calls each other routine in the same states: those after the
+-- routine f has the same summaries in both programs, and calls each other routine in the same states: those after the
 -- calls' moves, which it gives the other as roots
 pub record KeepsRoutine (f : ℕ) (p p′ : Program) : Type 0 where
-  pub pairs : (r q : ℕ) → Occurs p f 1 r q ↔ Occurs p′ f 1 r q
+  pub summaries : (r q : ℕ) → Occurs p f 1 r q ↔ Occurs p′ f 1 r q
   pub calls : (g s : ℕ) → g ≢ f → Calls p (Occurs p) f g s ↔ Calls p′ (Occurs p′) f g s
 
--- where this change leaves the changed routine with the same pairs, calling each other routine in the same states, no
+-- where this change leaves the changed routine with the same summaries, calling each other routine in the same states, no
 -- configuration of another routine differs
 abbrev pub LeavesOthers : ChangeRead → Program → Program → Type 0
 LeavesOthers (Read c) p p′ =

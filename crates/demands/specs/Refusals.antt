@@ -45,9 +45,9 @@ lineRows s l =
     -- transitions (paper: rule lines) and rows in one file
     ∷ row 4 (not (ordered (s .last) (s .frames) (s .program .routines) (length (s .program .nodes))
     (length (s .program .automaton .transitions)) (kind l) l))
-    -- a number outside its range, or a step from the exit
+    -- a number outside its range, or an edge (paper: a step) from the exit
     ∷ row 5 (not (ranged (s .program) (kind l) l))
-    -- the 257th step, the 513th rule line, the 257th row
+    -- the 257th edge, the 513th transition, the 257th row
     ∷ row 6 (full (length (s .program .edges)) (length (s .program .automaton .transitions)) (length (s .rows))
     (kind l))
     -- the end count is wrong
@@ -60,7 +60,7 @@ lineNumber s l = firstMet (lineRows s (lineFrom (numbersOf l)))
 -- the rows (of this table of refusals) for a state and an action, by the rows of a file
 abbrev pub pairRows : List TableRow → Pair → List Row
 pairRows rs p =
-    -- a pair met by no row
+    -- a state-action pair met by no row
     row 19 (eqb (timesMet p rs) 0)
     -- a pair met twice
     ∷ row 20 (ltb 1 (timesMet p rs))
@@ -140,11 +140,11 @@ editRows p l =
     row 12 (badLine l)
     -- as 5
     ∷ row 13 (outOfRange p l)
-    -- drop or replace: the step is not there
+    -- drop or replace: the edge is not there
     ∷ row 14 (not (adds (editIn l)) && not (hasEdge (oldEdge (editIn l)) (p .edges)))
-    -- add or replace: the wanted step is there
+    -- add or replace: the wanted edge is there
     ∷ row 15 (not (drops (editIn l)) && hasEdge (newEdge (editIn l)) (p .edges))
-    -- add: 256 steps already
+    -- add: 256 edges already
     ∷ row 16 (adds (editIn l) && leb 256 (length (p .edges)))
     ∷ []
 

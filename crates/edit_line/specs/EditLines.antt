@@ -1,5 +1,5 @@
--- An edit line: exactly one line of hexadecimal. 2B f n a m adds, 2D f n a m drops, 3D f n a m b gives the step the
--- label b.
+-- An edit line: exactly one line of hexadecimal. 2B f n l m adds an edge (paper: a step), 2D f n l m drops it, and
+-- 3D f n l m b gives it the label b.
 use Prim.Native.Nat.{ℕ}
 use mathlib.Core.Bool.{Bool, cond, _&&_, _||_, not}
 use mathlib.Core.List.{List, []}

@@ -51,8 +51,8 @@ pub fn add_step(
     added
 }
 
-// The keeping by the program without what is dropped, on whatever marks are lent: a forward drop is this, and no fresh
-// working.
+// Pruning (paper: the keeping) by the program without what is dropped, of whatever marks are lent: a forward drop is
+// this, and no fresh analysis.
 fn prune_marks(z: Sizes, p: DecodedProgram, marks: &mut [u8], work: &mut [u8])
     requires { ⌜ WellFormed (programOf p) × Sized z (programOf p) ⌝ }
     requires { ⌜ (length (now marks) ≡ numbers z) × (length (now work) ≡ numbers z) ⌝ }
@@ -101,7 +101,7 @@ pub fn repair_edit(
     }
 }
 
-// The keeping by the program without the edges of routine f, on whatever marks are lent.
+// Pruning by the program without the edges of routine f, of whatever marks are lent.
 pub fn drop_routine(z: Sizes, p: DecodedProgram, f: u8, marks: &mut [u8], work: &mut [u8])
     requires { ⌜ WellFormed (programOf p) × (z ≡ sizesOf (programOf p)) ⌝ }
     requires { ⌜ (length (now marks) ≡ numbers z) × (length (now work) ≡ numbers z) ⌝ }

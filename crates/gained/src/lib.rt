@@ -1,4 +1,4 @@
-// The routines that have gained a configuration, by two sheets of marks: those that have a mark in the new one that is
+// The routines that have gained a configuration, by two lists of marks: those that have a mark in the new one that is
 // not in the old.
 use callgraph::routines::Routines;
 use program::sizes::MAX_ROUTINES;
@@ -10,7 +10,7 @@ ghost use Rattle.program.specs.Chosen.{numbers, Admitted};
 ghost use Rattle.reach.specs.Configurations.{Usable};
 ghost use Rattle.gained.specs.Parts.{FlagsOf, MarkedMore};
 
-// The routines that have a mark more. The callers have sheets of marks: hence the `requires`.
+// The routines that have a mark more. The callers have measured both marks: hence the `requires`.
 pub fn gained(z: Sizes, old: &[u8], new: &[u8]) -> Routines
     requires { ⌜ Usable z × Admitted z × (length (now old) ≡ numbers z) × (length (now new) ≡ numbers z) ⌝ }
     ensures { λ r. ⌜ FlagsOf (MarkedMore z (now (old .entry)) (now (new .entry))) (r .flags) ⌝ }

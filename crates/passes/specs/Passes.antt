@@ -28,7 +28,7 @@ pub data PassSeeds (C : ℕ → Type 0) (R : ℕ → ℕ → Type 0) (K : ℕ �
   entry : {f r : ℕ} → C f → R f r → PassSeeds C R K f 0 r r
   summary : {g r q : ℕ} → ¬ (C g) → K g r q → PassSeeds C R K g 1 r q
 
--- the summaries on a sheet
+-- the summaries on marks
 abbrev pub ExitOf : Sizes → List ℕ → ℕ → ℕ → ℕ → Type 0
 ExitOf Z marks g r q = Marked Z marks g 1 r q
 

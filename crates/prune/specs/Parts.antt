@@ -1,4 +1,4 @@
--- What the private functions of the keeping promise of each other; nothing here has to be believed.
+-- What the private functions of pruning (paper: the keeping) promise of each other; nothing here has to be believed.
 use Prim.Native.Nat.{ℕ, _≤_, _<_}
 use mathlib.Core.Path.{_≡_}
 use mathlib.Core.Bool.{Bool, true, false, cond}

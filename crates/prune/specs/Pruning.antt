@@ -1,5 +1,5 @@
--- To prune (paper: the keeping): of the marks of any sheet those stay that have support back to a start through
--- configurations that are marked there.
+-- To prune (paper: the keeping): of any marks those stay that have support back to main's entry in an initial state,
+-- through configurations that are marked.
 use Prim.Native.Nat.{ℕ}
 use mathlib.Core.Path.{_≡_}
 use mathlib.Core.List.{List}
@@ -12,7 +12,7 @@ use Rattle.reach.specs.Configurations.{Set}
 use Rattle.reach.specs.Reachable.{Derivable, Initial}
 use Rattle.reach.specs.Marks.{Marked, Shows}
 
--- what has support back to a start, every configuration on the way being marked
+-- what has support back to main's entry in an initial state, every configuration on the way being marked
 abbrev pub Kept : Sizes → Program → List ℕ → Set
 Kept z p marks = Derivable p (Initial p) (Marked z marks)
 

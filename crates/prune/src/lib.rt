@@ -1,4 +1,4 @@
-// The keeping: of the marks of a sheet those stay that have support back to a start through marked configurations. The
+// Pruning (paper: the keeping): of marks those stay that have support back to a start through marked configurations. The
 // marks and what is kept of them have a byte for each configuration: hence each `requires` about their lengths.
 use automaton::flags::initial_flags;
 use automaton::next::next_states;
@@ -242,7 +242,7 @@ pub fn prune_program(z: Sizes, p: DecodedProgram, marks: &mut [u8], work: &mut [
     clear(work);
 }
 
-// The keeping of a file's program on any sheet. A refusal leaves both buffers alone; on success the working buffer is
+// Pruning by a file's program, of any marks. A refusal leaves both buffers alone; on success the working buffer is
 // all zero.
 pub fn prune(file: &[u8], marks: &mut [u8], work: &mut [u8]) -> Verdict
     ensures { λ r. ⌜ (r ≡ checkedMarks (now (file .entry)) (now (marks .entry)) (now (work .entry)))

@@ -15,7 +15,7 @@ use Rattle.reach.specs.Marks.{Marked}
 use Rattle.reach.specs.Worklist.{summary}
 use Rattle.callgraph.specs.Components.{CallEdge, Member}
 
--- the summaries of g on the sheet are others than before
+-- the summaries of g on the marks are others than before
 pub record Differs (Z : Sizes) (before marks : List ℕ) (g : ℕ) : Type 0 where
   pub root : ℕ
   pub state : ℕ

@@ -46,7 +46,7 @@ fn root_differs(z: Sizes, before: &[u64], marks: &[u8], g: u8, r: u8) -> bool
     false
 }
 
-// Whether the summaries of routine g on the sheet are others than before.
+// Whether the summaries of routine g on the marks are others than before.
 fn summaries_differ(z: Sizes, before: &[u64], marks: &[u8], g: u8) -> bool
     requires { ⌜ Usable z × (g < z .routines) ⌝ }
     ensures { λ y. ⌜ Says y (Differs z (flagsOf (now (before .entry))) (now (marks .entry)) g) ⌝ }

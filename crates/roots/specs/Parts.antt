@@ -61,7 +61,7 @@ rootsOfMain list count l = inTurn (λ i. λ l. set l (rootPlace 0 (getD list i 0
 abbrev pub keptByte : Sizes → List ℕ → List ℕ → ℕ → ℕ
 keptByte z live marks i = cond (isSet marks i && isSet live (rootPlace (routineOf z i) (rootOf z i))) 1 0
 
--- ---- the roots on a sheet
+-- ---- the roots on marks
 
 -- the byte of an entry with this root; outside the sizes there is none
 abbrev pub entryByte : Sizes → List ℕ → ℕ → ℕ → ℕ

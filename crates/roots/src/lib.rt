@@ -1,4 +1,4 @@
-// The roots that are on a sheet of marks, the roots that occur, and the cut to these.
+// The roots that are on marks, the roots that occur, and the cut to these.
 pub mod cut;
 mod live;
 
