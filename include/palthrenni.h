@@ -87,13 +87,14 @@
  * numbers s the first is for states 15 to 8 and the second for states 7 to 0;
  * the four numbers a have a bit for each action, the first of them actions 31
  * to 24 and the last actions 7 to 0; q is the next state. A row meets a
- * state-action pair if it has the bit of its state and the bit of its action.
- * In an accepted file with rows every state-action pair, of a state and an
- * action of the program, is met by exactly one row, and the program has exactly
- * one transition for it, to that row's next state. Rows are for actions only: a
- * file with rows has no transition for a call or a return, and hears none.
- * What is written always has the transitions one by one. examples/README.md
- * has tables with their rows.
+ * state-action pair if it has the bit of its state and the bit of its action;
+ * one without a state bit, or without an action bit, meets none, and may stand
+ * there. In an accepted file with rows every state-action pair, of a state and
+ * an action of the program, is met by exactly one row, and the program has
+ * exactly one transition for it, to that row's next state. Rows are for actions
+ * only: a file with rows has no transition for a call or a return, and hears
+ * none. What is written always has the transitions one by one.
+ * examples/README.md has tables with their rows.
  *
  * Sizes. A program has sizes of its own:
  *
@@ -239,7 +240,9 @@ extern "C" {
  *     all         4  the first frame is not 50, there is a second 50, the kinds
  *                    are not in the order of the table of kinds, the numbers
  *                    within a kind do not ascend, there are both transitions
- *                    and rows, or a routine frame is left out or repeated
+ *                    and rows, or a routine frame is left out or repeated;
+ *                    one more after all of them, for a routine that is not
+ *                    there, is 5
  *     all         5  a number, or a bit of a row, is outside its range, or an
  *                    edge leaves the exit. A label's range is that of "Labels",
  *                    above: so the label of a return is refused in an edge, and
@@ -493,10 +496,11 @@ uint32_t palthrenni_write(const uint8_t *file, size_t file_len,
  * at most. The limit says how many iterations it may make in all. It makes none
  * beyond that, so that a call returns within a time that the limit bounds,
  * beside the time for reading the file and for clearing and copying the
- * buffers. It gives up (22) if and only if it makes more iterations where there
- * is no limit. So a larger limit may turn giving up into an answer, and never
- * changes an answer already had: where n iterations are made without a limit,
- * each limit from n on gives that answer, and each one below n gives up.
+ * buffers; how long an iteration takes is not promised. It gives up (22) if and
+ * only if it makes more iterations where there is no limit. So a larger limit
+ * may turn giving up into an answer, and never changes an answer already had:
+ * where n iterations are made without a limit, each limit from n on gives that
+ * answer, and each one below n gives up.
  *
  *     0                      gives up on every program with an initial state;
  *                            one without is answered, with 0 iterations
@@ -562,8 +566,8 @@ uint32_t palthrenni_analyze(const uint8_t *file, size_t file_len,
  * frame 46 in the file.
  *
  *   file, file_len    the file's bytes, of any length
- *   marks, marks_len  the marks as palthrenni_analyze left them for this
- *                     file; they are lent for reading only
+ *   marks, marks_len  the marks as palthrenni_analyze, a repair or an exchange
+ *                     left them for this file; they are lent for reading only
  *   work, work_len    room to work in: as many bytes as the marks, which may
  *                     hold anything before
  *   from              where to begin; any number
@@ -715,14 +719,15 @@ uint32_t palthrenni_repair_forward(const uint8_t *file, size_t file_len,
  *   reanalyzed          set to a bit for each routine, bit f for routine f, or
  *                       to 0 if the call was refused
  *
- * On a drop the reanalyzed routines are those of each component (paper:
- * group) that holds the edited routine, or calls a routine outside it whose
- * summaries (paper: pairs) have changed. A component is routines that call
- * each other in circles in the edited program, or one routine alone; a summary
- * is a root of a routine and a state in which its exit is reached from it,
- * before the return moves the automaton. On an add they are the routines that
- * gained a configuration, on a replace those of the drop and of the add
- * together.
+ * On a drop the reanalyzed routines are those of each component (paper: group)
+ * that holds the edited routine, or calls a routine outside it whose summaries
+ * (paper: pairs), for the roots that it had before, have changed: what it would
+ * do from these roots counts, also where nothing calls it any more. A component
+ * is routines that call each other in circles in the edited program, or one
+ * routine alone; a summary is a root of a routine and a state in which its exit
+ * is reached from it, before the return moves the automaton. On an add they are
+ * the routines that gained a configuration, on a replace those of the drop and
+ * of the add together.
  */
 uint32_t palthrenni_repair_inside_out(const uint8_t *file, size_t file_len,
                                       uint8_t *marks, size_t marks_len,
