@@ -64,7 +64,9 @@ static int analyze(void)
     return 0;
 }
 
-/* Makes an edit, which repairs the marks, and goes on with the new file. */
+/* Makes an edit, which repairs the marks, and goes on with the new file. Once
+ * only: for a second edit, file and output would be the same buffer, which is
+ * not noticed. A chain swaps two buffers (palthrenni_repair_forward). */
 static int repair(const char *edit)
 {
     uint8_t text[64]; /* longer than any edit: one that is cut is refused too */

@@ -141,9 +141,9 @@
  *
  * Answers. Each function returns the number of the refusal it met, or
  * PALTHRENNI_OK. Every pointer to a number has to be valid, and every number
- * is set on every call, to 0 where there is nothing to say. The number that is
- * returned says whether the file was accepted, and the line does not: 19, 20
- * and 23 are refusals of the file, with line 0.
+ * is set on every call, on a refusal to 0 but where a function says otherwise.
+ * The number that is returned says whether the file was accepted, and the line
+ * does not: 19, 20 and 23 are refusals of the file, with line 0.
  *
  * Threads. Nothing is kept between calls and no memory is allocated: two
  * threads may call at once, each with buffers and numbers of its own.
@@ -275,7 +275,8 @@ extern "C" {
  *                    a 52, the edges of its routine are judged by its count of
  *                    nodes, and those of every other routine by the program's
  *     edit       14  the edge that is to be dropped or replaced is not there
- *     edit       15  the edge that would be made is there already
+ *     edit       15  the edge that would be made is there already; so a label
+ *                    that is replaced by itself is 15
  *     text       21  the first frame of the text is not 52, a later one is, or
  *                    an edge is of another routine or is not above the edge
  *                    before it, compared left to right: it may be the same
@@ -324,7 +325,9 @@ extern "C" {
 #define PALTHRENNI_GAVE_UP 22
 
 /* The most bytes that are ever written, and so the least length of an output.
- * No accepted file is longer; one with rows has at most 7456 bytes. */
+ * No accepted file is longer; one with rows has at most 7456 bytes. Of a longer
+ * file one byte more than these is enough to see it refused, though the number
+ * and the line may be others than those of the whole. */
 #define PALTHRENNI_OUTPUT_SIZE 7712
 /* The length of the longest marks that an accepted program has, and so of the
  * longest working buffer. */
@@ -592,8 +595,10 @@ uint32_t palthrenni_next_violation(const uint8_t *file, size_t file_len,
  * but the automaton has no transition for that. What comes after is not looked
  * at, so a program may have no violation because a transition was forgotten.
  * That a run is cut off is no fault by itself: an automaton may leave out on
- * purpose what cannot happen. There are two ways, and a configuration is never
- * cut off in both, since no edge leaves an exit:
+ * purpose what cannot happen, or what follows a rejecting state; a violation in
+ * a state without transitions is then listed here too, if an edge leads on.
+ * There are two ways, and a configuration is never cut off in both, since no
+ * edge leaves an exit:
  *
  *     at an edge     some edge leads from its node, and its event is not
  *                    allowed in its state: an action for which the state has no
