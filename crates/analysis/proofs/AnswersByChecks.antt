@@ -10,7 +10,7 @@ use borrow.Author.Tests.{eqb-true, eq-eqb}
 use Rattle.program.specs.Chosen.{sizesOf, numbers}
 use Rattle.program.specs.Program.{Program}
 use Rattle.program.specs.WellFormed.{WellFormed}
-use Rattle.program.specs.Checks.{row, firstMet, verdictOf}
+use Rattle.program.specs.Checks.{row, firstMet, verdictOf, followedBy}
 use Rattle.program.specs.Decoded.{programOf}
 use Rattle.program.specs.declared.Verdict.{Verdict}
 use Rattle.program.specs.declared.Verdict.the-variants.{Accepted, Refused}
@@ -20,7 +20,7 @@ use Rattle.checks.specs.Checked.{Checked}
 use Rattle.program.specs.declared.Reading.{Reading}
 use Rattle.reach.specs.Configurations.{none-set}
 use Rattle.reach.specs.Marks.{freshMarks, violations, violationsFrom, firstFrom, within}
-use Rattle.analysis.specs.Answers.{limited, followedBy, analyzeBy, analyzeAnswer, onSuccess, marksAfter, workAfter, same, owned, foundOf, foundBy, nextAnswer}
+use Rattle.analysis.specs.Answers.{limited, analyzeBy, analyzeAnswer, onSuccess, marksAfter, workAfter, same, owned, foundOf, foundBy, nextAnswer}
 
 -- what those ask who are called where nothing is refused
 pub ready : {file : List ℕ} {m w : ℕ} {r : Reading} → Checked file (Of m) NotAsked (Of w) r → r .verdict ≡ Accepted

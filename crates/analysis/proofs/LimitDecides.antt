@@ -10,12 +10,12 @@ use borrow.Author.Tests.{lt-ltb, le-ltb, ltb-true, ltb-false, leb-true, leb-fals
 use Rattle.program.specs.Chosen.{sizesOf, numbers}
 use Rattle.program.specs.Program.{Program}
 use Rattle.program.specs.WellFormed.{WellFormed}
-use Rattle.program.specs.Checks.{row, firstMet, verdictOf}
+use Rattle.program.specs.Checks.{row, firstMet, verdictOf, followedBy}
 use Rattle.program.specs.declared.Verdict.{Verdict}
 use Rattle.program.specs.declared.Verdict.the-variants.{Accepted, Refused}
 use Rattle.reach.specs.Sizes.{enoughIterations}
 use Rattle.reach.specs.Worklist.{Worklist, analysis}
-use Rattle.reach.specs.Marks.{freshMarks}
+use Rattle.reach.specs.Marks.{freshAt, freshMarks}
 use Rattle.reach.proofs.ProgramInSizes.{usable, ranged, sized}
 use Rattle.reach.specs.Ranged.{Sized}
 use Rattle.program.specs.declared.sizes.Sizes.{Sizes}
@@ -23,7 +23,7 @@ use Rattle.reach.proofs.ShapeKept.{marks-length}
 use Rattle.reach.proofs.TakingsBounded.{iterations-bound}
 use Rattle.worklist.specs.Parts.{analysisWithin, Analyzed}
 use Rattle.worklist.proofs.AnalysisLimited.{limit-enough}
-use Rattle.analysis.specs.Answers.{limited, followedBy}
+use Rattle.analysis.specs.Answers.{limited}
 
 module _ (p : Program) (limit : ℕ) where
   pub enough-accepted : analysis p .iterations ≤ limit → limited p limit ≡ Accepted
@@ -83,7 +83,11 @@ module _ (p : Program) (wf : WellFormed p) (limit : ℕ) {m : List ℕ} {n : ℕ
 pub own-sized : {Z : Sizes} (p : Program) → Z ≡ sizesOf p → WellFormed p → Sized Z p
 own-sized p e wf = subst (λ (y : Sizes). Sized y p) (sym e) (sized p wf)
 
--- without a limit the marks are the program's own
+-- without a limit the marks are the fresh ones, in whatever sizes the program is within
+pub sized-marks : {Z : Sizes} {limit : ℕ} (p : Program) → Sized Z p → limit ≡ enoughIterations Z → {m : List ℕ} {n : ℕ} {t : Bool} → Analyzed Z p limit m n t → m ≡ freshAt Z p
+sized-marks {Z} {limit} p s l a =
+    a .marks ∙ ap (λ (w : Worklist). w .marks) (limit-enough Z (s .usable) p (s .ranged) limit (omega (arith, iterations-bound Z (s .usable) p)))
+
+-- and in its own sizes the program's own
 pub own-marks : {Z : Sizes} {limit : ℕ} (p : Program) → WellFormed p → Z ≡ sizesOf p → limit ≡ enoughIterations Z → {m : List ℕ} {n : ℕ} {t : Bool} → Analyzed Z p limit m n t → m ≡ freshMarks p
-own-marks p wf e l a =
-    enough-whole p wf e (omega (arith, iterations-bound (sizesOf p) (usable p wf) p, l ∙ ap enoughIterations e)) a .0
+own-marks p wf e l a = sized-marks p (own-sized p e wf) l a ∙ ap (λ (z : Sizes). freshAt z p) e

@@ -9,7 +9,7 @@ use lib.ListN.{length}
 use Rattle.program.specs.Program.{Program}
 use Rattle.program.specs.Chosen.{sizesOf}
 use Rattle.program.specs.Reading.{readFile}
-use Rattle.program.specs.Checks.{Row, row, firstMet, verdictOf, checked}
+use Rattle.program.specs.Checks.{Row, row, firstMet, verdictOf, followedBy, checked}
 use Rattle.program.specs.declared.Verdict.{Verdict}
 use Rattle.program.specs.declared.Verdict.the-variants as verdict
 use Rattle.program.specs.declared.Length.the-variants.{NotAsked, Of}
@@ -47,11 +47,6 @@ limitRow p limit = row 22 (ltb limit (analysis p .iterations))
 
 abbrev pub limited : Program → ℕ → Verdict
 limited p limit = verdictOf (firstMet (limitRow p limit ∷ []))
-
--- a check that is made only where the one before refuses nothing
-abbrev pub followedBy : Verdict → Verdict → Verdict
-followedBy verdict.Accepted v = v
-followedBy (verdict.Refused n line) v = verdict.Refused n line
 
 abbrev pub checkedLimit : List ℕ → List ℕ → List ℕ → ℕ → Verdict
 checkedLimit file marks work limit = followedBy (checkedMarks file marks work) (limited (readFile file .program) limit)

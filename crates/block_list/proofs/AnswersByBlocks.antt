@@ -16,7 +16,8 @@ use Rattle.program.specs.declared.Length.the-variants.{NotAsked, Of}
 use Rattle.program.specs.declared.Reading.{Reading}
 use Rattle.checks.specs.Checked.{Checked}
 use Rattle.reach.specs.Configurations.{none-set}
-use Rattle.analysis.specs.Answers.{followedBy, onSuccess, workAfter, owned}
+use Rattle.program.specs.Checks.{followedBy}
+use Rattle.analysis.specs.Answers.{onSuccess, workAfter, owned}
 use Rattle.analysis.proofs.AnswersByChecks.{accepted-own}
 use Rattle.blocked.specs.Blocks.{Block, blockIn, blockFrom, nextBlock}
 use Rattle.block_list.specs.declared.BlockAnswer.the-variants as block

@@ -8,11 +8,11 @@ use program::sizes::length_of;
 use reader::read;
 ghost use mathlib.Core.Path.{_≡_};
 ghost use mathlib.Core.List.{[], _∷_};
-ghost use Rattle.program.specs.Checks.{row, firstMet, otherThan, under, checkedBy};
+ghost use Rattle.program.specs.Checks.{row, firstMet, verdictOf, followedBy, otherThan, under, checkedBy};
 ghost use Rattle.checks.specs.Checked.{Checked};
 
 // Whether there is such a buffer and it has another length than this.
-fn other_than(size: usize, length: Length) -> bool
+pub fn other_than(size: usize, length: Length) -> bool
     ensures { λ r. ⌜ r ≡ otherThan size length ⌝ }
 {
     match length {
@@ -47,15 +47,10 @@ fn refusal_of(marks: bool, output: bool, work: bool) -> u8
     0
 }
 
-// The file's verdict, or where it is accepted that of the lengths.
-fn check(v: Verdict, size: usize, marks: Length, output: Length, work: Length) -> Verdict
-    ensures { λ r. ⌜ r ≡ checkedBy v size marks output work ⌝ }
+// A verdict, or where nothing is refused by it that of a number, which has no line: 0 refuses nothing.
+pub fn followed_by(v: Verdict, refusal: u8) -> Verdict
+    ensures { λ r. ⌜ r ≡ followedBy v (verdictOf refusal) ⌝ }
 {
-    let refusal = refusal_of(
-        other_than(size, marks),
-        under(OUTPUT_SIZE, output),
-        other_than(size, work),
-    );
     match v {
         Verdict::Refused(n, line) => Verdict::Refused(n, line),
         Verdict::Accepted => {
@@ -65,6 +60,18 @@ fn check(v: Verdict, size: usize, marks: Length, output: Length, work: Length) -
             Verdict::Refused(refusal, 0)
         }
     }
+}
+
+// The file's verdict, or where it is accepted that of the lengths.
+fn check(v: Verdict, size: usize, marks: Length, output: Length, work: Length) -> Verdict
+    ensures { λ r. ⌜ r ≡ checkedBy v size marks output work ⌝ }
+{
+    let refusal = refusal_of(
+        other_than(size, marks),
+        under(OUTPUT_SIZE, output),
+        other_than(size, work),
+    );
+    followed_by(v, refusal)
 }
 
 // Reads a file and measures the buffers that a call is lent: the first refusal of these, or none, and the program.

@@ -20,7 +20,7 @@ use Rattle.program.proofs.Theorems.{accepted-well-formed, few-lines}
 
 -- ---- one length
 
-has-length : (size : ℕ) (l : Length) → otherThan size l ≡ false → HasLength size l
+pub has-length : (size : ℕ) (l : Length) → otherThan size l ≡ false → HasLength size l
 has-length size NotAsked e = tt
 has-length size (Of n) e = go (eqb n size) refl e
   where

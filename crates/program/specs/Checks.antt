@@ -32,6 +32,11 @@ firstMet (r ∷ rs) = cond (r .met) (r .number) (firstMet rs)
 abbrev pub verdictOf : ℕ → Verdict
 verdictOf n = cond (eqb n 0) Accepted (Refused n 0)
 
+-- a check that is made only where the one before refuses nothing
+abbrev pub followedBy : Verdict → Verdict → Verdict
+followedBy Accepted v = v
+followedBy (Refused n line) v = Refused n line
+
 -- ---- the rows of lengths: a buffer that a call does not have meets none
 
 -- there is such a buffer, and it has another length than this
@@ -59,8 +64,7 @@ bufferRows size marks output work =
 
 -- a refused file is refused as it is; else the first row decides that the lengths meet
 abbrev pub checkedBy : Verdict → ℕ → Length → Length → Length → Verdict
-checkedBy Accepted size marks output work = verdictOf (firstMet (bufferRows size marks output work))
-checkedBy (Refused n line) size marks output work = Refused n line
+checkedBy v size marks output work = followedBy v (verdictOf (firstMet (bufferRows size marks output work)))
 
 unfoldable pub checked : List ℕ → Length → Length → Length → Verdict
 checked file marks output work =

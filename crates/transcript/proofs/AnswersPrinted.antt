@@ -15,7 +15,7 @@ use Rattle.reach.proofs.TakingsBounded.{iterations-bound}
 use Rattle.program.specs.Program.{Program}
 use Rattle.program.specs.WellFormed.{WellFormed}
 use Rattle.program.specs.Reading.{Outcome, readFile}
-use Rattle.program.specs.Checks.{firstMet, checkedBy, checked}
+use Rattle.program.specs.Checks.{firstMet, checkedBy, checked, followedBy}
 use Rattle.program.specs.Writing.{written}
 use Rattle.program.specs.declared.Verdict.{Verdict}
 use Rattle.program.specs.declared.Verdict.the-variants as verdict
@@ -27,7 +27,7 @@ use Rattle.writer.specs.declared.WriteAnswer.the-variants.{Written, Refused}
 use Rattle.reach.specs.Sizes.{summaries, enoughIterations}
 use Rattle.reach.specs.Marks.{freshMarks}
 use Rattle.reach.proofs.ShapeKept.{marks-length}
-use Rattle.analysis.specs.Answers.{limited, followedBy, checkedLimit, analyzeBy, analyzeAnswer, marksAfter}
+use Rattle.analysis.specs.Answers.{limited, checkedLimit, analyzeBy, analyzeAnswer, marksAfter}
 use Rattle.analysis.proofs.AnswersByChecks.{by-marks}
 use Rattle.analysis.proofs.LimitDecides.{enough-accepted}
 use Rattle.analysis.specs.declared.AnalyzeAnswer.the-variants as analyzed
