@@ -19,9 +19,9 @@ use Rattle.program.specs.Writing.{text}
 use Rattle.program.specs.declared.Verdict.{Verdict}
 use Rattle.program.specs.declared.Verdict.the-variants as verdict
 use Rattle.program.specs.declared.Length.the-variants.{NotAsked, Of}
-use Rattle.reach.specs.Configurations.{routineOf, nodeOf, rootOf, stateOf}
 use Rattle.reach.specs.Marks.{freshMarks, violationsFrom}
 use Rattle.base.specs.Flags.{countSet}
+use Rattle.listing.specs.Listing.{frameAt, lineSize}
 use Rattle.edit.specs.Editing.{editedProgram}
 use Rattle.edit_line.specs.EditLines.{wantedEdit}
 use Rattle.edit.specs.declared.EditRead.{EditRead}
@@ -31,7 +31,7 @@ use Rattle.edit.specs.declared.EditRead.the-variants.{Read, Refused}
 
 -- a violation (paper: a finding)
 abbrev pub violationFrame : Sizes → ℕ → List ℕ
-violationFrame Z i = 0x58 ∷ routineOf Z i ∷ nodeOf Z i ∷ rootOf Z i ∷ stateOf Z i ∷ []
+violationFrame Z = frameAt 0x58 Z
 
 -- the counts of configurations (paper: standings) and of violations, four digits each
 abbrev pub countFrame : ℕ → ℕ → List ℕ
@@ -83,11 +83,7 @@ benchText input = cond (ltb inputSize (length input)) tooLong (inputText input (
 
 -- ---- the text of a block, as it is asked for: for a file and marks, into an output
 
--- no line is longer: five numbers, two digits each, and 0A
-abbrev pub lineSize : ℕ
-lineSize = 11
-
--- no block is longer: a line for each configuration, and the counts
+-- no block is longer: a line for each configuration, and the counts, each of lineSize bytes
 abbrev pub blockSize : ℕ
 blockSize = lineSize * marksMost + lineSize
 

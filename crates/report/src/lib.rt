@@ -2,6 +2,7 @@
 mod put;
 
 use checks::checked_program;
+use listing::LINE_SIZE;
 use program::Length;
 use program::Verdict;
 use program::chosen::sizes_of;
@@ -16,10 +17,7 @@ ghost use lib.ListN.{length};
 ghost use Rattle.text.specs.Lines.{lineOf};
 ghost use Rattle.report.specs.Report.{blockText, editRefusal, fileRefusal, Printed};
 
-// No line is longer: five numbers, two digits each, and 0A. No block is longer: a line for each configuration, and the
-// counts.
-pub const LINE_SIZE: usize = 11;
-
+// No block is longer: a line for each configuration, and the counts. A refusal's line is no longer than one of these.
 pub const BLOCK_SIZE: usize = LINE_SIZE * MARKS_MOST + LINE_SIZE;
 
 // The block of a file's program and of marks: each violation, ascending, and then the counts.

@@ -12,7 +12,7 @@ use text::Line;
 use text::put_line;
 ghost use mathlib.Core.Path.{_≡_};
 ghost use mathlib.Core.List.{_++_, map};
-ghost use Prim.Native.Nat.{_≤_};
+ghost use Prim.Native.Nat.{_<_, _≤_};
 ghost use lib.ListN.{length, take, drop};
 ghost use Rattle.text.specs.Lines.{lineOf};
 ghost use Rattle.automaton.specs.Decoded.{transitionOf, automatonOf};
@@ -32,9 +32,9 @@ fn header_line(routines: u8, states: u8, actions: u8) -> Line
     Line { count: 4, numbers }
 }
 
-// The end frame. No program has more frames than two digits count: hence the `requires`.
-fn end_line(frames: usize) -> Line
-    requires { ⌜ frames ≤ maxFrames ⌝ }
+// The end frame. Two numbers, four digits, hold so many: hence the `requires`.
+pub fn end_line(frames: usize) -> Line
+    requires { ⌜ frames < 65536 ⌝ }
     ensures { λ r. ⌜ r ≡ lineOf (endFrame frames) ⌝ }
 {
     let numbers = [
