@@ -1,0 +1,4 @@
+pub mod Saved
+pub mod Rules
+pub mod Answers
+pub mod Parts
