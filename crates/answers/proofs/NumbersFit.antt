@@ -19,7 +19,8 @@ use Rattle.program.specs.Program.{Program}
 use Rattle.program.specs.WellFormed.{WellFormed}
 use Rattle.program.specs.Writing.{written}
 use Rattle.program.specs.Reading.{readFile}
-use Rattle.program.specs.Checks.{firstMet, checked}
+use Rattle.base.proofs.Bools.{chosen}
+use Rattle.program.specs.Checks.{firstMet, verdictOf, checked, followedBy}
 use Rattle.program.specs.declared.Verdict.{Verdict}
 use Rattle.program.specs.declared.Verdict.the-variants.{Accepted, Refused}
 use Rattle.program.specs.declared.Length.{Length}
@@ -33,7 +34,7 @@ use Rattle.reach.proofs.TakingsBounded.{iterations-bound}
 use Rattle.reach.proofs.MarksShown.{fresh-shows, few-marks}
 use Rattle.reach.specs.Violations.{Violation, First, nowhere, at}
 use Rattle.reach.proofs.ViolationsExact.{few-violations, next-violation}
-use Rattle.analysis.specs.Answers.{limited, followedBy, analyzeBy, analyzeAnswer, owned, foundOf, foundBy, nextAnswer}
+use Rattle.analysis.specs.Answers.{limited, analyzeBy, analyzeAnswer, owned, foundOf, foundBy, nextAnswer}
 use Rattle.analysis.proofs.AnswersByChecks.{by-marks}
 use Rattle.analysis.proofs.LimitDecides.{by-limit}
 use Rattle.base.specs.Searches.{seek}
@@ -50,6 +51,8 @@ use Rattle.exchange.specs.Lengths.{sizesAfter, measuredRows, workFirst}
 use Rattle.repair.specs.Repairs.{After, repairedTo, ownedBy, changedBy, measured, measuredBy, wantedBy, repairedBy, repaired}
 use Rattle.rewrite.specs.Room.{roomOf, roomWanted, roomBy, roomAnswer}
 use Rattle.rewrite.specs.declared.RoomAnswer.the-variants as room
+use Rattle.saved.specs.Answers.{Way, moved, givenMarks, earlyRows, lateRows, earlyChecked, moveChecked, writtenBy, moveAnswer}
+use Rattle.saved.proofs.FramesWritten.{moved-limited}
 use Rattle.answers.specs.Parts.{VerdictFits, WriteFits, AnalyzeFits, NextFits, BlockFits, RoomFits}
 
 pub read-fits : (file : List ℕ) → VerdictFits (readFile file .verdict)
@@ -81,6 +84,24 @@ unfolding writeAnswer
 write-fits file output =
     let p = readFile file .program in
     by-checks file NotAsked (Of (length output)) NotAsked (λ v. WriteFits (answerBy v p)) (written-fits p) (λ n line h. (h, omega arith))
+
+-- ---- the moves of saved marks
+
+followed-fits : (v : Verdict) (n : ℕ) → VerdictFits v → VerdictFits (followedBy v (verdictOf n))
+followed-fits Accepted n h = chosen VerdictFits (eqb n 0) (omega arith) (omega arith)
+followed-fits (Refused m line) n h = h
+
+written-by-fits : (v : Verdict) (t : List ℕ) → VerdictFits v → length t < 2 ^ 32 → WriteFits (writtenBy v t)
+written-by-fits Accepted t h k = (omega arith, k)
+written-by-fits (Refused n line) t h k = (h, omega arith)
+
+pub move-fits : (way : Way) (file given output work : List ℕ) → WriteFits (moveAnswer way file given output work)
+unfolding moveAnswer
+move-fits way file given output work =
+    let p = readFile file .program in
+    written-by-fits (moveChecked way file given output work) (moved way p)
+    (followed-fits (earlyChecked way file given work) (firstMet (lateRows way p given (length output)))
+    (followed-fits (readFile file .verdict) (firstMet (earlyRows p (givenMarks way given) (length work))) (read-fits file))) (omega (arith, moved-limited way p))
 
 -- ---- the analysis and the list of violations
 

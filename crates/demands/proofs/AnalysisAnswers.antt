@@ -29,7 +29,8 @@ use Rattle.reach.proofs.TakingsBounded.{iterations-taken, most-times}
 use Rattle.reach.proofs.AnalysisExact.{pending-clear}
 use Rattle.reach.proofs.MarksShown.{every-byte, fresh-shows, occurs-in-range}
 use Rattle.reach.proofs.ViolationsExact.{listed-iff, next-violation, violations-ascend}
-use Rattle.analysis.specs.Answers.{checkedMarks, limited, followedBy, analyzeBy, analyzeAnswer, analyzeRefusal, configurationCount, violationCount, iterationCount, onSuccess, marksAfter, owned, foundOf, foundBy, nextAnswer, nextRefusal, nextFound}
+use Rattle.program.specs.Checks.{followedBy}
+use Rattle.analysis.specs.Answers.{checkedMarks, limited, analyzeBy, analyzeAnswer, analyzeRefusal, configurationCount, violationCount, iterationCount, onSuccess, marksAfter, owned, foundOf, foundBy, nextAnswer, nextRefusal, nextFound}
 use Rattle.analysis.specs.declared.NextAnswer.{NextAnswer}
 use Rattle.analysis.proofs.AnswersByChecks.{by-marks}
 use Rattle.analysis.proofs.LimitDecides.{by-limit}

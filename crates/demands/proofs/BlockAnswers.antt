@@ -16,7 +16,8 @@ use Rattle.program.specs.declared.Verdict.the-variants.{Accepted, Refused}
 use Rattle.reach.specs.Marks.{freshMarks}
 use Rattle.reach.proofs.ProgramInSizes.{usable, ranged}
 use Rattle.reach.proofs.MarksShown.{fresh-shows}
-use Rattle.analysis.specs.Answers.{checkedMarks, followedBy, owned}
+use Rattle.program.specs.Checks.{followedBy}
+use Rattle.analysis.specs.Answers.{checkedMarks, owned}
 use Rattle.analysis.proofs.AnswersByChecks.{by-marks}
 use Rattle.blocked.specs.Blocks.{Block, isBlocked, blockedBy, blockFrom, nextBlock}
 use Rattle.blocked.proofs.RunsCutOff.{block-found, block-nowhere}

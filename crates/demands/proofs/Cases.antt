@@ -2,7 +2,7 @@
 use mathlib.Core.Path.{_≡_, refl, sym, subst}
 use Prim.Native.Nat.{ℕ}
 use lib.Dec.{eqb}
-use mathlib.Core.List.{List, _∷_, List·Memᴰ, List·Memᴰ·head, List·Memᴰ·tail, List·Memᴰ·not-nil}
+use mathlib.Core.List.{List, [], _∷_, List·Memᴰ, List·Memᴰ·head, List·Memᴰ·tail, List·Memᴰ·not-nil}
 use Rattle.text.specs.Hex.{hex}
 use Rattle.text.specs.Lines.{lines, numbersOf}
 use Rattle.automaton.specs.Automaton.{listed, heard, moves}
@@ -28,10 +28,13 @@ use Rattle.rewrite.specs.Room.{roomWanted, roomAnswer}
 use Rattle.base.specs.Searches.{seek, anyFrom}
 use Rattle.blocked.specs.Blocks.{firstBarred, isCalled, noReturn, isBlocked, blockedBy, blockFrom}
 use Rattle.block_list.specs.Answers.{blockAnswer}
-use Rattle.desk.specs.Entries.{sizes, faulty-pair, next-blocked, analyze, exchange-sizes, Lent, Back, analyzeBack, repairBack, programIn, repairedIn, Gives}
+use Rattle.base.specs.Flags.{countSet}
+use Rattle.saved.specs.Saved.{setFrom, textOf}
+use Rattle.saved.specs.Answers.{Way, over, back, moveAnswer, moveOutput, moveWork}
+use Rattle.desk.specs.Entries.{sizes, faulty-pair, next-blocked, analyze, exchange-sizes, Lent, Back, analyzeBack, moveBack, repairBack, programIn, repairedIn, Gives}
 use Rattle.demands.specs.Lists.{entry}
 use Rattle.demands.specs.Lists as repair
-use Rattle.demands.specs.Cases.{Fresh, Changed, Limited, Case, Said, lentFresh, Analyzed, lentChange, Repaired, RepairedBoth, lentLimited, Tried, lentAsked, Told, lentPairAsked, PairAnswered, lentCutAsked, CutAnswered, Holds, P1, P2, P3, P4, P5, P6, P7, P8, P9, P10, R1, R2, T1, T2, T3, T4, E1, E2, E3, E4, E5, H1, H2, H3, H4, H5, H6, B1, B2, B3, B4, B5, B6, L1, L2, L3, L4, S1, S2, S3, S4, S5, S6, S7, S8, table}
+use Rattle.demands.specs.Cases.{Fresh, Changed, Limited, Case, Said, lentFresh, Analyzed, Saved, lentSaved, oldMarksOf, MovedTo, SavedBoth, lentChange, Repaired, RepairedBoth, lentLimited, Tried, lentAsked, Told, lentPairAsked, PairAnswered, lentCutAsked, CutAnswered, Holds, P1, P2, P3, P4, P5, P6, P7, P8, P9, P10, R1, R2, T1, T2, T3, T4, E1, E2, E3, E4, E5, H1, H2, H3, H4, H5, H6, B1, B2, B3, B4, B5, B6, L1, L2, L3, L4, S1, S2, S3, S4, S5, S6, S7, S8, M1, M2, table}
 use Rattle.demands.proofs.EntriesGive.{forward-gives, inside-out-gives}
 use Rattle.demands.proofs.OneAnswer.{one-number}
 use Rattle.demands.proofs.CasesReanalyzed.{p5-reanalyzed, p6-reanalyzed, p8-reanalyzed, r1-reanalyzed, r2-reanalyzed, e1-reanalyzed, e5-reanalyzed}
@@ -55,7 +58,26 @@ cutting : Unit {0}
 unfolding seek anyFrom firstBarred isCalled noReturn isBlocked blockedBy blockFrom blockAnswer
 cutting = tt
 
+-- saved marks
+saving : Unit {0}
+unfolding setFrom textOf moveAnswer moveOutput moveWork countSet
+saving = tt
+
 -- ---- what the functions give back for the rows
+
+abbrev movedBack : Way → List ℕ → Lent → Back
+movedBack way given b =
+    moveBack b (moveAnswer way (b .file) given (b .output) (b .work)) (moveOutput way (b .file) given (b .output) (b .work)) (moveWork way (b .file) given (b .work))
+
+abbrev overBack : Saved → Back
+overBack c = movedBack over (oldMarksOf c) (lentSaved c (oldMarksOf c) [] (bytes (c .frames)))
+
+abbrev backBack : Saved → Back
+backBack c = movedBack back (bytes (c .frames)) (lentSaved c [] (bytes (c .frames)) (oldMarksOf c))
+
+by-moves : (c : Saved) → MovedTo (bytes (c .frames)) (overBack c) → MovedTo (oldMarksOf c) (backBack c) → SavedBoth c
+by-moves c h k =
+    record { over = λ a g. subst (MovedTo (bytes (c .frames))) (sym g) h; back = λ a g. subst (MovedTo (oldMarksOf c)) (sym g) k }
 
 abbrev analyzedBack : Lent → Back
 analyzedBack b =
@@ -304,6 +326,22 @@ s8 : (k : ℕ) → Repaired S8 (changedBack S8 k)
 unfolding editing analyzing
 s8 k = record { refused = refl; marks = refl; second = refl; size = refl; output = refl }
 
+m1-over : MovedTo (bytes (M1 .frames)) (overBack M1)
+unfolding editing analyzing saving
+m1-over = record { accepted = refl; size = refl; output = refl }
+
+m1-back : MovedTo (oldMarksOf M1) (backBack M1)
+unfolding editing analyzing saving
+m1-back = record { accepted = refl; size = refl; output = refl }
+
+m2-over : MovedTo (bytes (M2 .frames)) (overBack M2)
+unfolding editing analyzing saving
+m2-over = record { accepted = refl; size = refl; output = refl }
+
+m2-back : MovedTo (oldMarksOf M2) (backBack M2)
+unfolding editing analyzing saving
+m2-back = record { accepted = refl; size = refl; output = refl }
+
 -- ---- every row of the table holds
 
 -- the first of some rows, or a later one
@@ -323,5 +361,5 @@ every-row c =
     (at b1 (at b2 (at b3 (at b4 (at b5 (at b6
     (at (by-limit L1 l1) (at (by-limit L2 l2) (at (by-limit L3 l3) (at (by-limit L4 l4)
     (at (by-repairs S1 s1 (λ a x. tt)) (at (by-repairs S2 s2 (λ a x. tt)) (at (by-repairs S3 s3 (λ a x. tt)) (at (by-analysis S4 s4)
-    (at s5 (at s6 (at s7 (at (by-repairs S8 s8 (λ a x. tt))
-    (λ m. absurd (List·Memᴰ·not-nil m))))))))))))))))))))))))))))))))))))))))))))))
+    (at s5 (at s6 (at s7 (at (by-repairs S8 s8 (λ a x. tt)) (at (by-moves M1 m1-over m1-back) (at (by-moves M2 m2-over m2-back)
+    (λ m. absurd (List·Memᴰ·not-nil m))))))))))))))))))))))))))))))))))))))))))))))))

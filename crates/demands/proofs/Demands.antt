@@ -1,9 +1,11 @@
 -- What is proved of the whole, for people: the three demands and the cases. Each proof cites.
 use mathlib.Core.Path.{_≡_}
 use mathlib.Core.Logic.{_↔_, _≢_, _⊎_}
+use mathlib.Core.Bool.{true, false}
 use mathlib.Core.List.{List, [], _∷_, flatten, List·Memᴰ}
-use Prim.Native.Nat.{ℕ, _≤_, _<_}
+use Prim.Native.Nat.{ℕ, _+_, _*_, _≤_, _<_}
 use lib.ListN.{length, take}
+use Rattle.base.specs.Flags.{countSet}
 use Rattle.automaton.specs.Automaton.{Automaton, moves}
 use Rattle.automaton.specs.NextStates.{setAt, Answers}
 use Rattle.automaton.specs.declared.Event.{Event}
@@ -26,6 +28,10 @@ use Rattle.reach.proofs.ProgramInSizes.{usable}
 use Rattle.reach.specs.Takings.{takenIn}
 use Rattle.reach.specs.Marks.{Marked, Shows, freshMarks}
 use Rattle.prune.specs.Pruning.{Kept}
+use Rattle.saved.specs.Saved.{tooLarge, oldMarks, savedText}
+use Rattle.saved.specs.Rules.{Saves}
+use Rattle.saved.proofs.FramesByRules.{by-rules}
+use Rattle.saved.proofs.FramesWritten.{old-long, text-long}
 use Rattle.edit_line.specs.EditLines.{wantedEdit}
 use Rattle.edit.specs.declared.Step.{Step}
 use Rattle.edit.specs.declared.Edit.the-variants.{Drop}
@@ -38,11 +44,11 @@ use Rattle.report.specs.Report.{tooLong, benchText}
 use Rattle.transcript.specs.Transcript.{TurnGives, begun, Turns}
 use Rattle.transcript.specs.declared.Turn.{Turn}
 use Rattle.transcript.proofs.TurnsHold.{turns-print}
-use Rattle.desk.specs.Entries.{Entry, read, sizes, faulty-pair, write, analyze, next-violation, next-blocked, prune, repair-forward, exchange-sizes, Lent, Back, programIn, Gives}
+use Rattle.desk.specs.Entries.{Entry, read, sizes, faulty-pair, write, analyze, next-violation, next-blocked, prune, marks-to-frames, frames-to-marks, repair-forward, exchange-sizes, Lent, Back, programIn, Gives}
 use Rattle.demands.specs.Refusals.{marksLength}
 use Rattle.demands.specs.Lists.{Repair, Call, entry, wrote, Gave}
 use Rattle.demands.specs.Inputs.{SameInputs}
-use Rattle.demands.specs.Demands.{Demand1, PairTold, Acceptance, Before, comparedBy, lineKey, KeysOfFrames, withWritten, WrittenFile, ChangedFile, Tabulated, SizesTold, Needed, Numbering, Demand2, Safe, Next, NextBlocked, Procedure, noLimit, withLimit, givenUp, Heeds, OnActions, movesBefore, OneLook, Demand3, pruningOf}
+use Rattle.demands.specs.Demands.{Demand1, PairTold, Acceptance, Before, comparedBy, lineKey, KeysOfFrames, withWritten, WrittenFile, ChangedFile, Tabulated, SizesTold, Needed, Numbering, Demand2, Safe, Next, NextBlocked, Procedure, noLimit, withLimit, givenUp, Heeds, OnActions, movesBefore, OneLook, TooLarge, Reaches25, MovedOver, MovedBack, Demand3, pruningOf}
 use Rattle.demands.specs.Cases.{Case, Holds, table}
 use Rattle.demands.proofs.RefusalsReturned.{gives-demanded}
 use Rattle.demands.proofs.OneAnswer.{given-once}
@@ -59,6 +65,7 @@ use Rattle.demands.proofs.BlockAnswers.{block-given}
 use Rattle.demands.proofs.LimitAnswers.{gives-up-when, leaves, larger, enough-never, most-never, never, zero-limit}
 use Rattle.demands.proofs.EventsHeeded.{call-heeded, return-heeded, as-before}
 use Rattle.demands.proofs.LookAnswers.{look-answers}
+use Rattle.demands.proofs.SavedMoved.{large-exactly, over-moved, back-moved, over-and-back, back-and-over, text-once}
 use Rattle.demands.proofs.PruneKeeps.{pruned, drop-kept}
 use Rattle.demands.proofs.PassDepends.{depends}
 use Rattle.demands.proofs.ListsNeverDrift.{list-demanded}
@@ -224,6 +231,44 @@ moves-as-before = as-before
 -- one look at the automaton: what `next_after` gives for every state and label, in the table that `next_states` makes of an accepted program
 pub one-look : (p : Program) → WellFormed p → (sets : List ℕ) → Answers (p .automaton) (p .routines) sets → OneLook p (setAt sets)
 one-look = look-answers
+
+-- ---- saved marks (paper: saved sheets), of before a program chose its sizes, and the frames that they move to
+
+-- which programs are refused by 24
+pub too-large-to-save : (p : Program) → (tooLarge p ≡ true) ↔ TooLarge p
+too-large-to-save = large-exactly
+
+-- a text is a program's frames exactly when it meets the rules: lines, kinds, counts of numbers, ascending, the count at the end and nothing after it, and exactly
+-- the configurations that occur
+pub saved-by-rules : (p : Program) → WellFormed p → tooLarge p ≡ false → (s : List ℕ) → Saves p s ↔ (s ≡ savedText p)
+saved-by-rules = by-rules
+
+-- old marks have 16,384 bytes, and frames 11 for each configuration and 7
+pub saved-lengths : (p : Program) → (length (oldMarks p) ≡ 16384) × (length (savedText p) ≡ 11 * countSet (oldMarks p) + 7)
+saved-lengths p = (old-long p, text-long (oldMarks p))
+
+-- old marks are accepted exactly when they are the program's own, and moved to its frames
+pub moved-over : (b : Lent) (a : Back) → Gives marks-to-frames b a → Reaches25 a → MovedOver b a
+moved-over = over-moved
+
+-- frames are accepted exactly when they meet the rules, and moved to the program's old marks
+pub moved-back : (b : Lent) (a : Back) → Gives frames-to-marks b a → Reaches25 a → MovedBack b a
+moved-back = back-moved
+
+-- there and back: what old marks were moved to is accepted, where its buffers have their lengths, and moved back to the same bytes
+pub there-and-back : (b : Lent) (a : Back) → Gives marks-to-frames b a → a .refusal ≡ 0 → (c : Lent) (d : Back) → Gives frames-to-marks c d → c .file ≡ b .file
+    → c .text ≡ wrote a → length (c .work) ≡ marksLength c → 16384 ≤ length (c .output) → (d .refusal ≡ 0) × (wrote d ≡ b .marks)
+there-and-back = over-and-back
+
+-- and the other way round: frames, their old marks, and the same frames
+pub back-and-there : (b : Lent) (a : Back) → Gives frames-to-marks b a → a .refusal ≡ 0 → (c : Lent) (d : Back) → Gives marks-to-frames c d → c .file ≡ b .file
+    → c .marks ≡ wrote a → length (c .work) ≡ marksLength c → length (b .text) ≤ length (c .output) → (d .refusal ≡ 0) × (wrote d ≡ b .text)
+back-and-there = back-and-over
+
+-- of one program exactly one text is accepted
+pub one-text : (b c : Lent) (a d : Back) → Gives frames-to-marks b a → Gives frames-to-marks c d → programIn b ≡ programIn c → a .refusal ≡ 0 → d .refusal ≡ 0
+    → b .text ≡ c .text
+one-text = text-once
 
 -- ---- demand 3
 

@@ -17,6 +17,7 @@ pub mod EntriesGive
 pub mod ChangesAccepted
 pub mod OldMarksKept
 pub mod RoomTold
+pub mod SavedMoved
 pub mod PruneKeeps
 pub mod BookSorted
 pub mod LocalChange

@@ -22,7 +22,8 @@ use Rattle.reach.specs.Marks.{freshMarks}
 use Rattle.reach.proofs.TakingsBounded.{iterations-taken, iterations-bound}
 use Rattle.reach.proofs.ProgramInSizes.{usable, ranged}
 use Rattle.reach.proofs.EntriesTaken.{none-taken, none-begun}
-use Rattle.analysis.specs.Answers.{checkedMarks, limited, followedBy, analyzeBy, analyzeAnswer, onSuccess, marksAfter, workAfter}
+use Rattle.program.specs.Checks.{followedBy}
+use Rattle.analysis.specs.Answers.{checkedMarks, limited, analyzeBy, analyzeAnswer, onSuccess, marksAfter, workAfter}
 use Rattle.analysis.proofs.LimitDecides.{enough-accepted, by-limit}
 use Rattle.transcript.specs.Parts.{mostIterations}
 use Rattle.transcript.proofs.AnswersPrinted.{most-iterations}

@@ -23,7 +23,7 @@ use Rattle.exchange.specs.Changes.{ChangeRead, Form, EditLine, ExchangeText}
 use Rattle.exchange.specs.Changes as change
 use Rattle.exchange_text.specs.Wanted.{wantedChange}
 use Rattle.repair.specs.Repairs.{InsideOutNumber}
-use Rattle.desk.specs.Entries.{Entry, read as reads, sizes, faulty-pair, write, analyze, next-violation, next-blocked, prune, repair-forward, repair-inside-out, exchange-sizes, exchange-forward, exchange-inside-out, Lent, Back, pruneBack, repairBack, programIn, repairedIn, InsideOutGives, Gives}
+use Rattle.desk.specs.Entries.{Entry, read as reads, sizes, faulty-pair, write, analyze, next-violation, next-blocked, prune, marks-to-frames, frames-to-marks, repair-forward, repair-inside-out, exchange-sizes, exchange-forward, exchange-inside-out, Lent, Back, pruneBack, repairBack, programIn, repairedIn, InsideOutGives, Gives}
 
 -- ---- a set of routines has one number
 
@@ -96,6 +96,8 @@ given-once prune b a c g h =
     let v = checkedMarks (b .file) (b .marks) (b .work) in
     g .0 ∙ ap (λ (l : List ℕ). pruneBack b v l (workAfter (b .file) (b .marks) (b .work))) (marks-once b v refl (g .1) (h .1))
     ∙ sym (h .0)
+given-once marks-to-frames b a c g h = g ∙ sym h
+given-once frames-to-marks b a c g h = g ∙ sym h
 given-once repair-forward b a c g h = g ∙ sym h
 given-once repair-inside-out b a c g h = inside-out-once EditLine b a c g h
 given-once exchange-sizes b a c g h = g ∙ sym h

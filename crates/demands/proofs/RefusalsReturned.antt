@@ -1,19 +1,20 @@
 -- Demand 1, function by function: what is returned is of the table, and what a refusal leaves.
 use mathlib.Core.Path.{_≡_, refl, sym, ap, subst, _∙_}
 use mathlib.Core.Logic.{_≢_, _⊎_, inl, inr, ⊎-elim}
-use mathlib.Core.Bool.{Bool, true, false, cond, not}
+use mathlib.Core.Bool.{Bool, true, false, cond, _||_, not}
 use mathlib.Core.Option.{Option, some, none}
 use mathlib.Core.List.{List, [], _∷_, _++_}
-use Prim.Native.Nat.{ℕ, _≤_}
+use Prim.Native.Nat.{ℕ, _<_, _≤_}
 use native.Mathlib.Omega.{arith}
 use lib.Dec.{eqb, ltb}
 use lib.ListN.{length, replicate}
 use borrow.Author.Tests.{eqb-true, eqb-false, ne-eqb}
+use Rattle.base.proofs.Bools.{chosen}
 use Rattle.program.specs.Program.{Program}
 use Rattle.text.specs.declared.Line.{Line}
-use Rattle.program.specs.Chosen.{sizesOf}
+use Rattle.program.specs.Chosen.{sizesOf, numbers}
 use Rattle.program.specs.Reading.{readFile}
-use Rattle.program.specs.Checks.{Row, firstMet, verdictOf, bufferRows, checked}
+use Rattle.program.specs.Checks.{Row, firstMet, verdictOf, otherThan, bufferRows, checked, followedBy}
 use Rattle.program.specs.declared.Verdict.{Verdict}
 use Rattle.program.specs.declared.Verdict.the-variants.{Accepted, Refused}
 use Rattle.program.specs.declared.Length.{Length}
@@ -24,10 +25,12 @@ use Rattle.writer.specs.Answers.{answerBy, outputBy, checkedOutput, writeAnswer
 use Rattle.reach.specs.Configurations.{none-set}
 use Rattle.reach.specs.Worklist.{analysis}
 use Rattle.reach.specs.Marks.{freshMarks, firstFrom, violations}
-use Rattle.analysis.specs.Answers.{checkedMarks, limitRow, limited, followedBy, analyzeBy, analyzeAnswer, onSuccess, marksAfter, workAfter, same, owned, foreignRow, foundOf, foundBy, nextAnswer, checkedOwn, nextFound}
+use Rattle.analysis.specs.Answers.{checkedMarks, limitRow, limited, analyzeBy, analyzeAnswer, onSuccess, marksAfter, workAfter, same, owned, foreignRow, foundOf, foundBy, nextAnswer, checkedOwn, nextFound}
 use Rattle.blocked.specs.Blocks.{Block, nextBlock}
 use Rattle.block_list.specs.Answers.{blockOf, blockBy, blockAnswer, blockFound, blockEdge}
 use Rattle.prune.specs.Pruning.{Pruned}
+use Rattle.saved.specs.Saved.{oldSizes, tooLarge}
+use Rattle.saved.specs.Answers.{Way, over, back, own, moved, givenMarks, writtenBy, atStart, moveAnswer, moveOutput, moveWork}
 use Rattle.exchange.specs.Changes.{Change, ChangeRead, Form, EditLine, ExchangeText}
 use Rattle.exchange.specs.Changes as change
 use Rattle.exchange.specs.Changing.{changedProgram}
@@ -38,9 +41,9 @@ use Rattle.exchange_text.proofs.Theorems.{change-number}
 use Rattle.repair.specs.Repairs.{After, untouched, zeroed, foreign, repairedTo, checkedRepair, ownedBy, measuredBy, wantedBy, repairedBy, repaired}
 use Rattle.rewrite.specs.Room.{roomOf, roomBy, roomWanted, roomAnswer}
 use Rattle.rewrite.specs.declared.RoomAnswer.the-variants as room
-use Rattle.desk.specs.Entries.{Entry, read as reads, sizes, faulty-pair, write, analyze, next-violation, next-blocked, prune, repair-forward, repair-inside-out, exchange-sizes, exchange-forward, exchange-inside-out, Lent, Back, hasWork, tellsPair, Values, noValues, readBack, sizesBack, pairBack, roomBack, writeBack, analyzeBack, finding, blocking, nextBack, blockBack, pruneBack, repairBack, programIn, repairedIn, RepairGives, InsideOutGives, Gives}
+use Rattle.desk.specs.Entries.{Entry, read as reads, sizes, faulty-pair, write, analyze, next-violation, next-blocked, prune, marks-to-frames, frames-to-marks, repair-forward, repair-inside-out, exchange-sizes, exchange-forward, exchange-inside-out, Lent, Back, hasWork, tellsPair, Values, noValues, readBack, sizesBack, pairBack, roomBack, writeBack, analyzeBack, finding, blocking, nextBack, blockBack, pruneBack, moveBack, repairBack, programIn, repairedIn, RepairGives, InsideOutGives, Gives}
 use Rattle.demands.specs.Demands.{Demand1}
-use Rattle.demands.specs.Refusals.{marksLength, changeRows, laterRows, repairRows, marksRows, rows, FaultyFile, Returned, of-the-file, of-the-rest}
+use Rattle.demands.specs.Refusals.{marksLength, changeRows, laterRows, repairRows, marksRows, moveRows, rows, isMove, clears, FaultyFile, Returned, of-the-file, of-the-rest}
 use Rattle.demands.proofs.FileRefusalsTold.{SaysFile, file-told, faulty-number, faulty-once}
 use Rattle.demands.proofs.ChangeRefusalsTold.{numberThen, change-told, form-read, later-told, MeasuredAs, fitting, unfit, measured-told}
 
@@ -54,18 +57,25 @@ returned-once (of-the-file f) (of-the-rest g) = absurd (g _ _ f)
 returned-once (of-the-rest f) (of-the-file g) = absurd (f _ _ g)
 returned-once (of-the-rest f) (of-the-rest g) = (refl, refl)
 
--- ---- refusals before 17 and 22
+-- ---- refusals that leave the working buffer
 
 -- a call that is refused before these, tells these numbers, and leaves everything
 abbrev refused : ℕ → ℕ → Values → Lent → Back
 refused n line v b = record { refusal = n; line = line; values = v; marks = b .marks; output = b .output; work = b .work; second = b .second }
 
--- the number is the table's, and none of 0, 17 and 22
+-- the number is the table's, not 0, and none that clears the working buffer
 pub record Early (e : Entry) (b : Lent) (n line : ℕ) : Type 0 where
   pub returned : Returned e b n line
   pub some-number : n ≢ 0
-  pub before-17 : n ≢ 17
-  pub before-22 : n ≢ 22
+  pub no-clearing : clears e n ≡ false
+
+-- a number that is neither of two
+neither-of : (n a b : ℕ) → n ≢ a → n ≢ b → eqb n a || eqb n b ≡ false
+neither-of n a b h k = rw (ne-eqb n a h, ne-eqb n b k)
+
+-- of a function that does not move saved marks, these are neither 17 nor 22
+keeping : (e : Entry) {n : ℕ} → isMove e ≡ false → n ≢ 17 → n ≢ 22 → clears e n ≡ false
+keeping e {n} m a b = rw m (neither-of n 17 22 a b)
 
 early-telling : {e : Entry} {b : Lent} {n line : ℕ} {v : Values} → (tellsPair e ≡ false → v ≡ noValues) → Early e b n line → Demand1 e b (refused n line v b)
 early-telling {e} {b} {n} {line} silent x =
@@ -76,29 +86,29 @@ early-telling {e} {b} {n} {line} silent x =
       marks = λ h. refl;
       output = λ h. refl;
       second = λ h. refl;
-      work-kept = λ h i j. refl;
+      work-kept = λ h i. refl;
       work-cleared = λ w. cleared;
     }
   where
-    cleared : (n ≡ 0) ⊎ ((n ≡ 17) ⊎ (n ≡ 22)) → b .work ≡ zeroed (b .work)
+    cleared : (n ≡ 0) ⊎ (clears e n ≡ true) → b .work ≡ zeroed (b .work)
     cleared (inl h) = absurd (x .some-number h)
-    cleared (inr (inl h)) = absurd (x .before-17 h)
-    cleared (inr (inr h)) = absurd (x .before-22 h)
+    cleared (inr h) = absurd (both-ways (sym (x .no-clearing) ∙ h))
 
 early : {e : Entry} {b : Lent} {n line : ℕ} → Early e b n line → Demand1 e b (refused n line noValues b)
 early x = early-telling (λ t. refl) x
 
 -- a length's number, 9 to 11, is such
-length-early : {e : Entry} {b : Lent} {n : ℕ} → 9 ≤ n → n ≤ 11 → Returned e b n 0 → Early e b n 0
-length-early low high r = record { returned = r; some-number = λ z. absurd (omega arith); before-17 = λ z. absurd (omega arith); before-22 = λ z. absurd (omega arith) }
+length-early : {e : Entry} {b : Lent} {n : ℕ} → isMove e ≡ false → 9 ≤ n → n ≤ 11 → Returned e b n 0 → Early e b n 0
+length-early {e} {b} {n} m low high r =
+    record { returned = r; some-number = λ z. absurd (omega arith); no-clearing = keeping e {n = n} m (λ z. absurd (omega arith)) (λ z. absurd (omega arith)) }
 
 -- so is that of a line or text
-change-early : {e : Entry} {b : Lent} (k : Form) (p : Program) {n : ℕ} → wantedChange k p (b .text) ≡ change.Refused n → Returned e b n 0 → Early e b n 0
-change-early {b = b} k p {n} i r =
+change-early : {e : Entry} {b : Lent} → isMove e ≡ false → (k : Form) (p : Program) {n : ℕ} → wantedChange k p (b .text) ≡ change.Refused n → Returned e b n 0 → Early e b n 0
+change-early {e} {b} m k p {n} i r =
     let x = change-number k p (b .text) n i in
-    record { returned = r; some-number = λ y. absurd (omega (arith, x .0)); before-17 = x .2; before-22 = x .3 }
+    record { returned = r; some-number = λ y. absurd (omega (arith, x .0)); no-clearing = keeping e {n = n} m (x .2) (x .3) }
 
--- ---- no refusal before 17 and 22
+-- ---- no such refusal
 
 -- a call without a working buffer is done
 done : {e : Entry} {b : Lent} {v : Values} {output : List ℕ} → hasWork e ≡ false → Returned e b 0 0
@@ -111,20 +121,20 @@ done h r =
       marks = λ i. refl;
       output = λ i. absurd (i refl);
       second = λ i. refl;
-      work-kept = λ i j k. refl;
+      work-kept = λ i j. refl;
       work-cleared = λ w. absurd (both-ways (sym h ∙ w));
     }
 
--- a call with one: 17 or 22, or it is done
-record Spared (b : Lent) (n : ℕ) (v : Values) (marks output second : List ℕ) : Type 0 where
-  number : (n ≡ 17) ⊎ (n ≡ 22)
+-- a call with one: a refusal that clears it, or it is done
+record Spared (e : Entry) (b : Lent) (n : ℕ) (v : Values) (marks output second : List ℕ) : Type 0 where
+  clearing : clears e n ≡ true
   no-values : v ≡ noValues
   same-marks : marks ≡ b .marks
   same-output : output ≡ b .output
   same-second : second ≡ b .second
 
 late : {e : Entry} {b : Lent} {n : ℕ} {v : Values} {marks output second : List ℕ} → Returned e b n 0
-    → (n ≡ 0) ⊎ Spared b n v marks output second
+    → (n ≡ 0) ⊎ Spared e b n v marks output second
     → Demand1 e b (record { refusal = n; line = 0; values = v; marks = marks; output = output; work = zeroed (b .work); second = second })
 late {e} {b} {n} {v} {marks} {output} {second} r x =
     record {
@@ -134,17 +144,17 @@ late {e} {b} {n} {v} {marks} {output} {second} r x =
       marks = λ h. spared x h .same-marks;
       output = λ h. spared x h .same-output;
       second = λ h. spared x h .same-second;
-      work-kept = λ h i j. absurd (⊎-elim i j (spared x h .number));
+      work-kept = λ h i. absurd (both-ways (sym i ∙ spared x h .clearing));
       work-cleared = λ w h. refl;
     }
   where
-    spared : (n ≡ 0) ⊎ Spared b n v marks output second → n ≢ 0 → Spared b n v marks output second
+    spared : (n ≡ 0) ⊎ Spared e b n v marks output second → n ≢ 0 → Spared e b n v marks output second
     spared (inl z) h = absurd (h z)
     spared (inr y) h = y
 
--- 17 or 22 leaves the buffers but the working one
-spares : {b : Lent} {n : ℕ} → (n ≡ 17) ⊎ (n ≡ 22) → Spared b n noValues (b .marks) (b .output) (b .second)
-spares h = record { number = h; no-values = refl; same-marks = refl; same-output = refl; same-second = refl }
+-- such a refusal leaves the buffers but the working one
+spares : {e : Entry} {b : Lent} {n : ℕ} → clears e n ≡ true → Spared e b n noValues (b .marks) (b .output) (b .second)
+spares h = record { clearing = h; no-values = refl; same-marks = refl; same-output = refl; same-second = refl }
 
 -- ---- the checks, one after another
 
@@ -152,6 +162,13 @@ spares h = record { number = h; no-values = refl; same-marks = refl; same-output
 abbrev pub Judged : Entry → Lent → List Row → Verdict → Type 0
 Judged e b left Accepted = Returned e b (firstMet left) 0
 Judged e b left (Refused n line) = Early e b n line
+
+-- no number of a file clears the working buffer
+file-keeps : (e : Entry) {n line : ℕ} → (0 < n) × (n ≤ 23) × (line ≤ 819) × ((n ≤ 8) ⊎ (19 ≤ n)) × (n ≢ 21) × (n ≢ 22) → clears e n ≡ false
+file-keeps e {n} x =
+    let ten : n ≢ 10 = λ z. ⊎-elim (λ y. absurd (omega arith)) (λ y. absurd (omega arith)) (x .3) in
+    let seventeen : n ≢ 17 = λ z. ⊎-elim (λ y. absurd (omega arith)) (λ y. absurd (omega arith)) (x .3) in
+    chosen (λ (t : Bool). t ≡ false) (isMove e) (neither-of n 25 10 (λ z. absurd (omega (arith, x .1))) ten) (neither-of n 17 22 seventeen (x .5))
 
 pub file-judged : (e : Entry) (b : Lent) → Judged e b (rows e b) (readFile (b .file) .verdict)
 file-judged e b = go (readFile (b .file) .verdict) refl (file-told (b .file))
@@ -163,14 +180,13 @@ file-judged e b = go (readFile (b .file) .verdict) refl (file-told (b .file))
         record {
           returned = of-the-file t;
           some-number = faulty-number t;
-          before-17 = λ z. ⊎-elim (λ y. absurd (omega arith)) (λ y. absurd (omega arith)) (x .3);
-          before-22 = x .5;
+          no-clearing = file-keeps e x;
         }
 
 -- the file and the lengths, whatever was asked, and whatever comes after them
-pub checked-judged : (e : Entry) (b : Lent) (marks output work : Length) (final : List Row) → rows e b ≡ bufferRows (marksLength b) marks output work ++ final
+pub checked-judged : (e : Entry) → isMove e ≡ false → (b : Lent) (marks output work : Length) (final : List Row) → rows e b ≡ bufferRows (marksLength b) marks output work ++ final
     → Judged e b final (checked (b .file) marks output work)
-checked-judged e b marks output work final h = go (checked (b .file) marks output work) (checked-file (b .file) marks output work)
+checked-judged e m b marks output work final h = go (checked (b .file) marks output work) (checked-file (b .file) marks output work)
   where
     by : (v : Verdict) → readFile (b .file) .verdict ≡ v → Judged e b (rows e b) v
     by v a = subst (Judged e b (rows e b)) a (file-judged e b)
@@ -181,7 +197,7 @@ checked-judged e b marks output work final h = go (checked (b .file) marks outpu
     go : (v : Verdict) → CheckedAs (readFile (b .file) .verdict) (marksLength b) marks output work v → Judged e b final v
     go v (passed a s f) = left a (f final)
     go v (by-file a) = by v a
-    go v (by-length a low high f) = length-early low high (left a (f final))
+    go v (by-length a low high f) = length-early m low high (left a (f final))
 
 not-equal : {n m : ℕ} → eqb n m ≡ false → n ≢ m
 not-equal {n} {m} e = eqb-false n m e
@@ -214,7 +230,7 @@ pair-good b = go (readFile (b .file) .verdict) (file-judged faulty-pair b)
 
 write-good : (b : Lent) → Demand1 write b (writeBack b (writeAnswer (b .file) (b .output)) (outputAfter (b .file) (b .output)))
 unfolding writeAnswer outputAfter firstMet
-write-good b = go (checkedOutput (b .file) (b .output)) (checked-judged write b NotAsked (Of (length (b .output))) NotAsked [] refl)
+write-good b = go (checkedOutput (b .file) (b .output)) (checked-judged write refl b NotAsked (Of (length (b .output))) NotAsked [] refl)
   where
     go : (v : Verdict) → Judged write b [] v → Demand1 write b (writeBack b (answerBy v (programIn b)) (outputBy v (programIn b) (b .output)))
     go Accepted r = done refl r
@@ -222,9 +238,9 @@ write-good b = go (checkedOutput (b .file) (b .output)) (checked-judged write b 
 
 -- ---- analyze, prune, next_violation and next_blocked
 
-marks-judged : (e : Entry) (b : Lent) (final : List Row) → rows e b ≡ marksRows b ++ final
+marks-judged : (e : Entry) → isMove e ≡ false → (b : Lent) (final : List Row) → rows e b ≡ marksRows b ++ final
     → Judged e b final (checkedMarks (b .file) (b .marks) (b .work))
-marks-judged e b = checked-judged e b (Of (length (b .marks))) NotAsked (Of (length (b .work)))
+marks-judged e m b = checked-judged e m b (Of (length (b .marks))) NotAsked (Of (length (b .work)))
 
 -- a working buffer that passes has as many bytes as there are numbers
 pub work-zeroed : (file marks work : List ℕ) → workAfter file marks work ≡ onSuccess (checkedMarks file marks work) (zeroed work) work
@@ -238,14 +254,14 @@ work-zeroed file marks work = go (checkedMarks file marks work) refl
 analyze-good : (b : Lent)
     → Demand1 analyze b (analyzeBack b (analyzeAnswer (b .file) (b .marks) (b .work) (b .limit)) (marksAfter (b .file) (b .marks) (b .work) (b .limit)) (workAfter (b .file) (b .marks) (b .work)))
 unfolding analyzeAnswer marksAfter firstMet
-analyze-good b = rw (work-zeroed (b .file) (b .marks) (b .work)) (go (checkedMarks (b .file) (b .marks) (b .work)) (marks-judged analyze b (limitRow (programIn b) (b .limit) ∷ []) refl))
+analyze-good b = rw (work-zeroed (b .file) (b .marks) (b .work)) (go (checkedMarks (b .file) (b .marks) (b .work)) (marks-judged analyze refl b (limitRow (programIn b) (b .limit) ∷ []) refl))
   where
     p : Program
     p = programIn b
 
     within : (t : Bool) → Returned analyze b (cond t 22 0) 0
         → Demand1 analyze b (analyzeBack b (analyzeBy (verdictOf (cond t 22 0)) p) (onSuccess (verdictOf (cond t 22 0)) (freshMarks p) (b .marks)) (zeroed (b .work)))
-    within true r = late r (inr (spares (inr refl)))
+    within true r = late r (inr (spares refl))
     within false r = late r (inl refl)
 
     go : (v : Verdict) → Judged analyze b (limitRow p (b .limit) ∷ []) v
@@ -257,7 +273,7 @@ analyze-good b = rw (work-zeroed (b .file) (b .marks) (b .work)) (go (checkedMar
 prune-good : (b : Lent) (marks : List ℕ) → Pruned (checkedMarks (b .file) (b .marks) (b .work)) (programIn b) (b .marks) marks
     → Demand1 prune b (pruneBack b (checkedMarks (b .file) (b .marks) (b .work)) marks (workAfter (b .file) (b .marks) (b .work)))
 unfolding firstMet
-prune-good b marks = rw (work-zeroed (b .file) (b .marks) (b .work)) (go (checkedMarks (b .file) (b .marks) (b .work)) (marks-judged prune b [] refl))
+prune-good b marks = rw (work-zeroed (b .file) (b .marks) (b .work)) (go (checkedMarks (b .file) (b .marks) (b .work)) (marks-judged prune refl b [] refl))
   where
     go : (v : Verdict) → Judged prune b [] v → Pruned v (programIn b) (b .marks) marks → Demand1 prune b (pruneBack b v marks (onSuccess v (zeroed (b .work)) (b .work)))
     go Accepted r k = late r (inl refl)
@@ -268,16 +284,16 @@ abbrev sought : Lent → Verdict → Values → List ℕ → Back
 sought b Accepted v work = record { refusal = 0; line = 0; values = v; marks = b .marks; output = b .output; work = work; second = b .second }
 sought b (Refused n line) v work = record { refusal = n; line = line; values = noValues; marks = b .marks; output = b .output; work = work; second = b .second }
 
-sought-good : (e : Entry) (b : Lent) (found : Values) → rows e b ≡ marksRows b ++ foreignRow (programIn b) (b .marks) ∷ []
+sought-good : (e : Entry) → isMove e ≡ false → (b : Lent) (found : Values) → rows e b ≡ marksRows b ++ foreignRow (programIn b) (b .marks) ∷ []
     → Demand1 e b (sought b (checkedOwn (b .file) (b .marks) (b .work)) found (workAfter (b .file) (b .marks) (b .work)))
 unfolding firstMet
-sought-good e b found h =
+sought-good e m b found h =
     rw (work-zeroed (b .file) (b .marks) (b .work))
-    (go (checkedMarks (b .file) (b .marks) (b .work)) (marks-judged e b (foreignRow (programIn b) (b .marks) ∷ []) h))
+    (go (checkedMarks (b .file) (b .marks) (b .work)) (marks-judged e m b (foreignRow (programIn b) (b .marks) ∷ []) h))
   where
     own : (t : Bool) → Returned e b (cond (not t) 17 0) 0 → Demand1 e b (sought b (verdictOf (cond (not t) 17 0)) found (zeroed (b .work)))
     own true r = late r (inl refl)
-    own false r = late r (inr (spares (inl refl)))
+    own false r = late r (inr (spares (rw m)))
 
     go : (v : Verdict) → Judged e b (foreignRow (programIn b) (b .marks) ∷ []) v
         → Demand1 e b (sought b (followedBy v (owned (programIn b) (b .marks))) found (onSuccess v (zeroed (b .work)) (b .work)))
@@ -288,7 +304,7 @@ next-good : (b : Lent) → Demand1 next-violation b (nextBack b (nextAnswer (b .
 unfolding nextAnswer
 next-good b =
     subst (Demand1 next-violation b) (told (checkedOwn (b .file) (b .marks) (b .work)) o)
-    (sought-good next-violation b (finding (nextFound (foundOf o))) refl)
+    (sought-good next-violation refl b (finding (nextFound (foundOf o))) refl)
   where
     o : Option ℕ
     o = firstFrom (b .from) (violations (programIn b))
@@ -303,7 +319,7 @@ block-good : (b : Lent) → Demand1 next-blocked b (blockBack b (blockAnswer (b 
 unfolding blockAnswer
 block-good b =
     subst (Demand1 next-blocked b) (told (checkedOwn (b .file) (b .marks) (b .work)) o)
-    (sought-good next-blocked b (blocking (blockFound (blockOf o)) (blockEdge (blockOf o))) refl)
+    (sought-good next-blocked refl b (blocking (blockFound (blockOf o)) (blockEdge (blockOf o))) refl)
   where
     o : Option Block
     o = nextBlock (programIn b) (b .from)
@@ -313,6 +329,59 @@ block-good b =
     told Accepted none = refl
     told Accepted (some i) = refl
     told (Refused n line) o = refl
+
+-- ---- marks_to_frames and frames_to_marks
+
+not-untrue : (t : Bool) → false ≡ not t → t ≡ true
+not-untrue true e = refl
+not-untrue false e = e
+
+-- a working buffer that has its length is cleared to zeros
+cleared-work : (b : Lent) → false ≡ otherThan (marksLength b) (Of (length (b .work))) → none-set (sizesOf (programIn b)) ≡ zeroed (b .work)
+unfolding none-set
+cleared-work b l = ap (λ (n : ℕ). replicate n 0) (sym (eqb-true (length (b .work)) (marksLength b) (not-untrue (eqb (length (b .work)) (marksLength b)) l)))
+
+module _ (way : Way) (e : Entry) (m : isMove e ≡ true) (b : Lent) (given : List ℕ) (h : rows e b ≡ moveRows way given b) where
+  -- the verdict by which rows are met, before anything is touched and then
+  abbrev sooner : Bool → Bool → Bool → Verdict
+  sooner large marks work = verdictOf (cond large 24 (cond marks 9 (cond work 11 0)))
+
+  abbrev later : Bool → Bool → Verdict
+  later foreign short = verdictOf (cond foreign 25 (cond short 10 0))
+
+  -- what is given back by these, for a file that is accepted or refused
+  abbrev moveBy : Verdict → Verdict → Verdict → Back
+  moveBy v s t =
+      let w = followedBy (followedBy v s) t in
+      let new = moved way (programIn b) in
+      moveBack b (writtenBy w new) (onSuccess w (atStart new (b .output)) (b .output)) (onSuccess (followedBy v s) (none-set (sizesOf (programIn b))) (b .work))
+
+  -- a refusal before anything is touched
+  sooner-early : {n : ℕ} → Returned e b n 0 → n ≢ 0 → n ≢ 25 → n ≢ 10 → Early e b n 0
+  sooner-early {n} r z a c = record { returned = r; some-number = z; no-clearing = rw m (neither-of n 25 10 a c) }
+
+  moved-good : (large marks work foreign short : Bool) → work ≡ otherThan (marksLength b) (Of (length (b .work)))
+      → Returned e b (cond large 24 (cond marks 9 (cond work 11 (cond foreign 25 (cond short 10 0))))) 0
+      → Demand1 e b (moveBy Accepted (sooner large marks work) (later foreign short))
+  moved-good true marks work foreign short l r = early (sooner-early r (not-equal refl) (not-equal refl) (not-equal refl))
+  moved-good false true work foreign short l r = early (sooner-early r (not-equal refl) (not-equal refl) (not-equal refl))
+  moved-good false false true foreign short l r = early (sooner-early r (not-equal refl) (not-equal refl) (not-equal refl))
+  moved-good false false false true short l r = rw (cleared-work b l) (late r (inr (spares (rw m))))
+  moved-good false false false false true l r = rw (cleared-work b l) (late r (inr (spares (rw m))))
+  moved-good false false false false false l r = rw (cleared-work b l) (late r (inl refl))
+
+  move-good : Demand1 e b (moveBack b (moveAnswer way (b .file) given (b .output) (b .work)) (moveOutput way (b .file) given (b .output) (b .work)) (moveWork way (b .file) given (b .work)))
+  unfolding moveAnswer moveOutput moveWork firstMet
+  move-good = go (readFile (b .file) .verdict) (file-judged e b)
+    where
+      p : Program
+      p = programIn b
+
+      go : (v : Verdict) → Judged e b (rows e b) v → Demand1 e b (moveBy v (sooner (tooLarge p) (otherThan (numbers oldSizes) (givenMarks way given)) (otherThan (marksLength b) (Of (length (b .work))))) (later (not (same given (own way p))) (ltb (length (b .output)) (length (moved way p)))))
+      go Accepted r =
+          moved-good (tooLarge p) (otherThan (numbers oldSizes) (givenMarks way given)) (otherThan (marksLength b) (Of (length (b .work)))) (not (same given (own way p)))
+          (ltb (length (b .output)) (length (moved way p))) refl (subst (λ (l : List Row). Returned e b (firstMet l) 0) h r)
+      go (Refused n line) x = early x
 
 -- ---- exchange_sizes
 
@@ -329,7 +398,7 @@ room-good b = go (readFile (b .file) .verdict) (file-judged exchange-sizes b)
     wanted : (t : Bool) → eqb (firstMet (exchangeRows p ls)) 0 ≡ t → Returned exchange-sizes b (firstMet (exchangeRows p ls)) 0
         → Demand1 exchange-sizes b (roomBack b (cond t (roomOf (exchangeIn ls) p) (room.Refused (firstMet (exchangeRows p ls)) 0)))
     wanted true h r = done refl (subst (λ n. Returned exchange-sizes b n 0) (eqb-true _ 0 h) r)
-    wanted false h r = early (change-early ExchangeText p (ap (λ (t : Bool). cond t (change.Read (change.whole (exchangeIn ls))) (change.Refused (firstMet (exchangeRows p ls)))) h) r)
+    wanted false h r = early (change-early refl ExchangeText p (ap (λ (t : Bool). cond t (change.Read (change.whole (exchangeIn ls))) (change.Refused (firstMet (exchangeRows p ls)))) h) r)
 
     go : (v : Verdict) → Judged exchange-sizes b (exchangeRows p ls) v → Demand1 exchange-sizes b (roomBack b (roomBy v p (b .text)))
     go Accepted r = wanted (eqb (firstMet (exchangeRows p ls)) 0) refl r
@@ -337,7 +406,7 @@ room-good b = go (readFile (b .file) .verdict) (file-judged exchange-sizes b)
 
 -- ---- the repairs
 
-module _ (k : Form) (e : Entry) (b : Lent) (h : rows e b ≡ repairRows k b) where
+module _ (k : Form) (e : Entry) (m : isMove e ≡ false) (b : Lent) (h : rows e b ≡ repairRows k b) where
   -- what is left to check after the line or text, and after the first lengths
   abbrev last : List Row
   last = laterRows k (programIn b) (b .text) (length (b .second)) (length (b .work)) ++ foreignRow (programIn b) (b .marks) ∷ []
@@ -350,7 +419,7 @@ module _ (k : Form) (e : Entry) (b : Lent) (h : rows e b ≡ repairRows k b) whe
   unfolding repaired firstMet
   repair-good routines =
       go (checkedRepair k (b .file) (b .marks) (b .output) (b .work))
-      (checked-judged e b (Of (length (b .marks))) (Of (length (b .output))) (workFirst k (length (b .work))) left h)
+      (checked-judged e m b (Of (length (b .marks))) (Of (length (b .output))) (workFirst k (length (b .work))) left h)
     where
       p : Program
       p = programIn b
@@ -370,14 +439,14 @@ module _ (k : Form) (e : Entry) (b : Lent) (h : rows e b ≡ repairRows k b) whe
           → Good (ownedBy (verdictOf (cond (not t) 17 0)) c q (b .marks) (b .output) (b .work) (b .second))
       changed c q true r z = mended c q r z
       changed c q false r z =
-          subst (λ m. Demand1 e b (repairBack (foreign 17 0 (b .marks) (b .output) (b .work) (b .second)) m)) (sym (z (not-equal refl))) (late r (inr (spares (inl refl))))
+          subst (λ m. Demand1 e b (repairBack (foreign 17 0 (b .marks) (b .output) (b .work) (b .second)) m)) (sym (z (not-equal refl))) (late r (inr (spares (rw m))))
 
       measures : (c : Change) (rs : List Row) (v : Verdict) → MeasuredAs rs v → Returned e b (firstMet (rs ++ foreignRow p (b .marks) ∷ [])) 0
           → Good (measuredBy v c p (b .marks) (b .output) (b .work) (b .second))
       measures c rs v (fitting f) r z =
           changed c (changedProgram c p) (same (b .marks) (freshMarks p)) (subst (λ n. Returned e b n 0) (f (foreignRow p (b .marks) ∷ [])) r) z
       measures c rs v (unfit low high f) r z =
-          refuses (length-early low high (subst (λ n. Returned e b n 0) (f (foreignRow p (b .marks) ∷ [])) r)) z
+          refuses (length-early m low high (subst (λ n. Returned e b n 0) (f (foreignRow p (b .marks) ∷ [])) r)) z
 
       wanted : (w : ChangeRead) → wantedChange k p (b .text) ≡ w → Returned e b (numberThen w (firstMet last)) 0
           → Good (wantedBy w p (b .marks) (b .output) (b .work) (b .second))
@@ -385,7 +454,7 @@ module _ (k : Form) (e : Entry) (b : Lent) (h : rows e b ≡ repairRows k b) whe
           let rs = measuredRows c p (length (b .second)) (length (b .work)) in
           measures c rs (verdictOf (firstMet rs)) (measured-told c p (length (b .second)) (length (b .work)))
           (subst (λ (l : List Row). Returned e b (firstMet (l ++ foreignRow p (b .marks) ∷ [])) 0) (later-told (form-read k p (b .text) c i) p (length (b .second)) (length (b .work))) r)
-      wanted (change.Refused n) i r = refuses (change-early k p i r)
+      wanted (change.Refused n) i r = refuses (change-early m k p i r)
 
       go : (v : Verdict) → Judged e b left v → Good (repairedBy k v p (b .marks) (b .text) (b .output) (b .work) (b .second))
       go Accepted r = wanted (wantedChange k p (b .text)) refl (subst (λ n. Returned e b n 0) (change-told k p (b .text) last) r)
@@ -414,11 +483,13 @@ gives-demanded analyze b a g = subst (Demand1 analyze b) (sym g) (analyze-good b
 gives-demanded next-violation b a g = subst (Demand1 next-violation b) (sym g) (next-good b)
 gives-demanded next-blocked b a g = subst (Demand1 next-blocked b) (sym g) (block-good b)
 gives-demanded prune b a g = subst (Demand1 prune b) (sym (g .0)) (prune-good b (a .marks) (g .1))
-gives-demanded repair-forward b a g = forward-good EditLine repair-forward b refl a g
-gives-demanded repair-inside-out b a g = inside-out-good EditLine repair-inside-out b refl a g
+gives-demanded marks-to-frames b a g = subst (Demand1 marks-to-frames b) (sym g) (move-good over marks-to-frames refl b (b .marks) refl)
+gives-demanded frames-to-marks b a g = subst (Demand1 frames-to-marks b) (sym g) (move-good back frames-to-marks refl b (b .text) refl)
+gives-demanded repair-forward b a g = forward-good EditLine repair-forward refl b refl a g
+gives-demanded repair-inside-out b a g = inside-out-good EditLine repair-inside-out refl b refl a g
 gives-demanded exchange-sizes b a g = subst (Demand1 exchange-sizes b) (sym g) (room-good b)
-gives-demanded exchange-forward b a g = forward-good ExchangeText exchange-forward b refl a g
-gives-demanded exchange-inside-out b a g = inside-out-good ExchangeText exchange-inside-out b refl a g
+gives-demanded exchange-forward b a g = forward-good ExchangeText exchange-forward refl b refl a g
+gives-demanded exchange-inside-out b a g = inside-out-good ExchangeText exchange-inside-out refl b refl a g
 
 -- ---- a call that is not refused
 

@@ -41,7 +41,7 @@ use Rattle.demands.proofs.RefusalsReturned.{Unrefused, unrefused, accep
 -- ---- of a file
 
 -- a largest number that is not 0 is one of the numbers
-largest-attained : (ns : List ℕ) → 0 < largest ns → (f : ℕ) × (f < length ns) × (getD ns f 0 ≡ largest ns)
+pub largest-attained : (ns : List ℕ) → 0 < largest ns → (f : ℕ) × (f < length ns) × (getD ns f 0 ≡ largest ns)
 unfolding largest
 largest-attained [] h = absurd (omega arith)
 largest-attained (n ∷ ns) h = go (leb (largest ns) n) refl (largest-attained ns)

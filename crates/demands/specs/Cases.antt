@@ -1,7 +1,7 @@
 -- The paper's cases P1 to P10, R1 and R2 for repairs by edit lines, T1 to T4 for tables, E1 to E5 for
 -- exchanges of a routine, H1 to H6 for calls and returns that are heard, B1 to B6 for where runs are cut off, L1 to
--- L4 for a limit, and S1 to S8 for the sizes that a program chooses, each from the bytes of its file, and of its edit
--- line or text where it has one: one table.
+-- L4 for a limit, S1 to S8 for the sizes that a program chooses, and M1 and M2 for saved marks, each from the bytes of
+-- its file, and of its edit line or text where it has one: one table.
 use mathlib.Core.Path.{_≡_}
 use mathlib.Core.Option.{Option, none, some}
 use mathlib.Core.List.{List, [], _∷_, _++_}
@@ -15,7 +15,9 @@ use Rattle.reach.specs.Marks.{violations}
 use Rattle.exchange.specs.Changes.{Form, EditLine, ExchangeText}
 use Rattle.exchange.specs.Lengths.{longer}
 use Rattle.desk.specs.Entries.{Entry, sizes, faulty-pair, analyze, next-blocked, exchange-sizes, Lent, Room, Back, programIn}
-use Rattle.desk.specs.Entries.{Gives}
+use Rattle.desk.specs.Entries.{marks-to-frames, frames-to-marks, Gives}
+use Rattle.program.specs.Chosen.{numbers}
+use Rattle.saved.specs.Saved.{oldSizes}
 use Rattle.demands.specs.Demands.{noLimit}
 use Rattle.demands.specs.Lists.{entry}
 use Rattle.demands.specs.Lists as repair
@@ -88,6 +90,14 @@ pub record CutAsked : Type 0 where
   pub found : ℕ
   pub edge : ℕ
 
+-- a file, by its lines, so many bytes of marks, and its old marks, by the configurations of their numbers, and its
+-- frames, by their lines: each is moved to the other
+pub record Saved : Type 0 where
+  pub file : List String
+  pub size : ℕ
+  pub old : List ℕ
+  pub frames : List String
+
 pub data Case : Type 0 where
   fresh : Fresh → Case
   changed : Changed → Case
@@ -95,6 +105,7 @@ pub data Case : Type 0 where
   asked : Asked → Case
   pair-asked : PairAsked → Case
   cut-asked : CutAsked → Case
+  saved : Saved → Case
 
 -- ---- what it means
 
@@ -205,6 +216,35 @@ pub record CutAnswered (c : CutAsked) (a : Back) : Type 0 where
   pub found : a .values .found ≡ c .found
   pub edge : a .values .edge ≡ c .edge
 
+-- what is moved, with an output that is just long enough for what is expected
+abbrev pub lentSaved : Saved → List ℕ → List ℕ → List ℕ → Lent
+lentSaved c marks text expected = record {
+  file = bytes (c .file);
+  marks = marks;
+  text = text;
+  output = anything (length expected);
+  work = anything (c .size);
+  second = [];
+  limit = 0;
+  from = 0;
+}
+
+abbrev pub oldMarksOf : Saved → List ℕ
+oldMarksOf c = marksAt (numbers oldSizes) (c .old)
+
+-- a move is accepted and fills the output
+pub record MovedTo (expected : List ℕ) (a : Back) : Type 0 where
+  pub accepted : a .refusal ≡ 0
+  pub size : a .values .written ≡ length expected
+  pub output : a .output ≡ expected
+
+-- both ways
+pub record SavedBoth (c : Saved) : Type 0 where
+  pub over : (a : Back) → Gives marks-to-frames (lentSaved c (oldMarksOf c) [] (bytes (c .frames))) a
+      → MovedTo (bytes (c .frames)) a
+  pub back : (a : Back) → Gives frames-to-marks (lentSaved c [] (bytes (c .frames)) (oldMarksOf c)) a
+      → MovedTo (oldMarksOf c) a
+
 abbrev pub asking : Option (List String) → Entry
 asking none = sizes
 asking (some ls) = exchange-sizes
@@ -216,6 +256,7 @@ Holds (limited c) = (a : Back) → Gives analyze (lentLimited c) a → Tried c a
 Holds (asked c) = (a : Back) → Gives (asking (c .text)) (lentAsked c) a → Told c a
 Holds (pair-asked c) = (a : Back) → Gives faulty-pair (lentPairAsked c) a → PairAnswered c a
 Holds (cut-asked c) = (a : Back) → Gives next-blocked (lentCutAsked c) a → CutAnswered c a
+Holds (saved c) = SavedBoth c
 
 -- ---- the rows
 
@@ -819,6 +860,19 @@ S8 = record {
   reanalyzed = none;
 }
 
+-- M1: F's old marks are at 0, 65, 129, 1024 and 1089, and its frames are five and the end
+abbrev pub M1 : Saved
+M1 = record {
+  file = F;
+  size = 54;
+  old = 0 ∷ 65 ∷ 129 ∷ 1024 ∷ 1089 ∷ [];
+  frames = "4D00000000" ∷ "4D00010001" ∷ "4D00020001" ∷ "4D01000000" ∷ "4D01010001" ∷ "450005" ∷ [];
+}
+
+-- M2: a program without an initial state has no mark, and the end alone
+abbrev pub M2 : Saved
+M2 = record { file = P3 .file; size = 54; old = []; frames = "450000" ∷ [] }
+
 -- ---- the table
 
 abbrev pub table : List Case
@@ -829,4 +883,5 @@ table = fresh P1 ∷ fresh P2 ∷ fresh P3 ∷ fresh P4 ∷ changed P5 ∷ chang
     ∷ fresh H1 ∷ fresh H2 ∷ fresh H3 ∷ fresh H4 ∷ changed H5 ∷ changed H6
     ∷ cut-asked B1 ∷ cut-asked B2 ∷ cut-asked B3 ∷ cut-asked B4 ∷ cut-asked B5 ∷ cut-asked B6
     ∷ limited L1 ∷ limited L2 ∷ limited L3 ∷ limited L4
-    ∷ changed S1 ∷ changed S2 ∷ changed S3 ∷ fresh S4 ∷ asked S5 ∷ asked S6 ∷ asked S7 ∷ changed S8 ∷ []
+    ∷ changed S1 ∷ changed S2 ∷ changed S3 ∷ fresh S4 ∷ asked S5 ∷ asked S6 ∷ asked S7 ∷ changed S8
+    ∷ saved M1 ∷ saved M2 ∷ []

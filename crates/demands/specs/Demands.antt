@@ -28,7 +28,7 @@ use Rattle.reach.specs.Configurations.{Earlier, InRange, number, routineOf, nod
 use Rattle.reach.specs.Runs.{Activation, Run, Occurs}
 use Rattle.reach.specs.Worklist.{analysis}
 use Rattle.reach.specs.Takings.{takenIn, times}
-use Rattle.reach.specs.Marks.{violations}
+use Rattle.reach.specs.Marks.{Shows, violations}
 use Rattle.base.specs.Bits.{bit}
 use Rattle.base.specs.Flags.{countSet}
 use Rattle.reach.specs.Violations.{Violation, Ascends}
@@ -38,12 +38,14 @@ use Rattle.exchange.specs.Changing.{changedProgram}
 use Rattle.exchange_text.specs.Wanted.{wantedChange}
 use Rattle.desk.specs.Entries.{Entry, read, Lent, Room, Back, hasWork, tellsPair, noValues, pairing}
 use Rattle.desk.specs.Entries.{programIn, Gives}
-use Rattle.demands.specs.Refusals.{FaultyPairOf, Returned}
+use Rattle.demands.specs.Refusals.{FaultyPairOf, Returned, clears}
+use Rattle.saved.specs.Saved.{oldSizes}
+use Rattle.saved.specs.Rules.{Saves}
 use Rattle.repair.specs.Repairs.{zeroed}
 use Rattle.demands.specs.Lists.{Call, wrote, seenOf, bookPlayed, BookRoutines, BookLeaves}
 
 -- ---- demand 1: every file, edit line, text of an exchange and lent buffer gets a result or one numbered refusal; a
--- refusal changes nothing but that 17 and 22 clear the working buffer
+-- refusal changes nothing but that some clear the working buffer: 17 and 22, and of the moves of saved marks 25 and 10
 
 -- of a call of a function: what was lent to it, and what it gives back
 pub record Demand1 (e : Entry) (b : Lent) (a : Back) : Type 0 where
@@ -57,11 +59,10 @@ pub record Demand1 (e : Entry) (b : Lent) (a : Back) : Type 0 where
   pub marks : a .refusal ≢ 0 → a .marks ≡ b .marks
   pub output : a .refusal ≢ 0 → a .output ≡ b .output
   pub second : a .refusal ≢ 0 → a .second ≡ b .second
-  -- the working buffer is unchanged after a refusal that is checked before 17 and 22
-  pub work-kept : a .refusal ≢ 0 → a .refusal ≢ 17 → a .refusal ≢ 22 → a .work ≡ b .work
-  -- and all zero, over its own length, after 17, 22 or success
-  pub work-cleared : hasWork e ≡ true → (a .refusal ≡ 0) ⊎ ((a .refusal ≡ 17) ⊎ (a .refusal ≡ 22))
-      → a .work ≡ zeroed (b .work)
+  -- the working buffer is unchanged after a refusal that does not clear it
+  pub work-kept : a .refusal ≢ 0 → clears e (a .refusal) ≡ false → a .work ≡ b .work
+  -- and all zero, over its own length, after one that does, or success
+  pub work-cleared : hasWork e ≡ true → (a .refusal ≡ 0) ⊎ (clears e (a .refusal) ≡ true) → a .work ≡ zeroed (b .work)
 
 -- what is told of a file whose table is refused, and of any other
 pub record PairTold (b : Lent) (a : Back) : Type 0 where
@@ -303,6 +304,30 @@ pub record OneLook (p : Program) (look : ℕ → ℕ → ℕ) : Type 0 where
   -- nor does a label outside it, which no event of the program has
   pub no-label : (q l s : ℕ) → ((e : Event) → EventOf (p .automaton) (p .routines) e → labelOf e ≢ l)
       → bit s (look q l) ≡ false
+
+-- ---- saved marks (paper: saved sheets): old ones, 16,384 flags in the numbers of before sizes were chosen, and frames
+
+-- a program for which no marks were saved (24): more than 16 nodes in some routine (paper: places), more than 8 states, or
+-- more than 256 transitions (paper: rule lines)
+pub data TooLarge (p : Program) : Type 0 where
+  by-nodes : (f : ℕ) → 16 < getD (p .nodes) f 0 → TooLarge p
+  by-states : 8 < p .automaton .states → TooLarge p
+  by-transitions : 256 < length (p .automaton .transitions) → TooLarge p
+
+-- a move that none of the checks before 25 refuses
+abbrev pub Reaches25 : Back → Type 0
+Reaches25 a = (a .refusal ≡ 25) ⊎ ((a .refusal ≡ 10) ⊎ (a .refusal ≡ 0))
+
+-- of a move to frames: 25 says that the old marks are not the program's own, which have a 1 exactly where some run
+-- arrives; and what is written meets the rules of frames
+pub record MovedOver (b : Lent) (a : Back) : Type 0 where
+  pub given : (a .refusal ≢ 25) ↔ Shows oldSizes (Occurs (programIn b)) (b .marks)
+  pub written : a .refusal ≡ 0 → Saves (programIn b) (wrote a)
+
+-- of a move back: 25 says that the frames break the rules; and what is written are the program's own old marks
+pub record MovedBack (b : Lent) (a : Back) : Type 0 where
+  pub given : (a .refusal ≢ 25) ↔ Saves (programIn b) (b .text)
+  pub written : a .refusal ≡ 0 → Shows oldSizes (Occurs (programIn b)) (wrote a)
 
 -- ---- demand 3: for every list of forward and inside-out repair calls, by edit lines and by exchanges of routines,
 -- refused ones among them, the marks are byte for byte those of a full analysis (paper: worked afresh) of the program as

@@ -1,10 +1,11 @@
 -- The table of refusals (paper: "Refusals by place"): for each row its case, for each function its rows in their order.
 -- The rows of the lengths (`bufferRows`), of the text of an exchange (`exchangeRows`) and the lengths that depend on it
--- (`lengthRows`), of the marks (`foreignRow`) and of the limit (`limitRow`) stand where the answers are defined.
+-- (`lengthRows`), of the marks (`foreignRow`), of the limit (`limitRow`) and of saved marks (`earlyRows`, `lateRows`)
+-- stand where the answers are defined.
 use Prim.Native.Nat.{ℕ, _+_, _<_, _≤_}
 use mathlib.Core.Path.{_≡_}
 use mathlib.Core.Logic.{_≢_, _⊎_}
-use mathlib.Core.Bool.{Bool, true, false, _&&_, not}
+use mathlib.Core.Bool.{Bool, true, false, cond, _&&_, _||_, not}
 use mathlib.Core.List.{List, [], _∷_, _++_}
 use lib.Dec.{ltb, leb, eqb}
 use lib.ListN.{length}
@@ -26,8 +27,9 @@ use Rattle.edit.specs.declared.Edit.the-variants.{Add, Drop, Replace}
 use Rattle.exchange_text.specs.ExchangeText.{textLines, exchangeIn, exchangeRows}
 use Rattle.exchange.specs.Lengths.{sizesAfter, lengthsOf, lengthRows, workFirst}
 use Rattle.exchange.specs.Changes.{Form, EditLine, ExchangeText}
+use Rattle.saved.specs.Answers.{Way, over, back, givenMarks, earlyRows, lateRows}
 use Rattle.desk.specs.Entries.{Entry, read, sizes, faulty-pair, write, analyze, next-violation, next-blocked, prune}
-use Rattle.desk.specs.Entries.{repair-forward, repair-inside-out, exchange-sizes, exchange-forward}
+use Rattle.desk.specs.Entries.{marks-to-frames, frames-to-marks, repair-forward, repair-inside-out, exchange-sizes, exchange-forward}
 use Rattle.desk.specs.Entries.{exchange-inside-out, Lent, programIn}
 
 -- ---- a file
@@ -176,6 +178,12 @@ repairRows k b =
 abbrev pub marksRows : Lent → List Row
 marksRows b = bufferRows (marksLength b) (Of (length (b .marks))) NotAsked (Of (length (b .work)))
 
+-- of functions that move saved marks, by what is given: 24, 9, 11, 25 and 10
+abbrev pub moveRows : Way → List ℕ → Lent → List Row
+moveRows way given b =
+    earlyRows (programIn b) (givenMarks way given) (length (b .work))
+    ++ lateRows way (programIn b) given (length (b .output))
+
 abbrev pub rows : Entry → Lent → List Row
 rows read b = []
 rows sizes b = []
@@ -185,11 +193,37 @@ rows analyze b = marksRows b ++ limitRow (programIn b) (b .limit) ∷ []
 rows prune b = marksRows b
 rows next-violation b = marksRows b ++ foreignRow (programIn b) (b .marks) ∷ []
 rows next-blocked b = marksRows b ++ foreignRow (programIn b) (b .marks) ∷ []
+rows marks-to-frames b = moveRows over (b .marks) b
+rows frames-to-marks b = moveRows back (b .text) b
 rows repair-forward b = repairRows EditLine b
 rows repair-inside-out b = repairRows EditLine b
 rows exchange-sizes b = changeRows ExchangeText (programIn b) (b .text)
 rows exchange-forward b = repairRows ExchangeText b
 rows exchange-inside-out b = repairRows ExchangeText b
+
+-- ---- the refusals that leave the working buffer all zero: those by what an analysis found, and whatever is checked
+-- after it
+
+-- does it move saved marks?
+abbrev pub isMove : Entry → Bool
+isMove read = false
+isMove sizes = false
+isMove faulty-pair = false
+isMove write = false
+isMove analyze = false
+isMove next-violation = false
+isMove next-blocked = false
+isMove prune = false
+isMove marks-to-frames = true
+isMove frames-to-marks = true
+isMove repair-forward = false
+isMove repair-inside-out = false
+isMove exchange-sizes = false
+isMove exchange-forward = false
+isMove exchange-inside-out = false
+
+abbrev pub clears : Entry → ℕ → Bool
+clears e n = cond (isMove e) (eqb n 25 || eqb n 10) (eqb n 17 || eqb n 22)
 
 -- ---- the number that is returned, and its line
 

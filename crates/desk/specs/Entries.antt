@@ -20,6 +20,7 @@ use Rattle.analysis.specs.declared.NextAnswer.{NextAnswer}
 use Rattle.block_list.specs.Answers.{blockAnswer, blockRefusal, blockLine, blockFound, blockEdge}
 use Rattle.block_list.specs.declared.BlockAnswer.{BlockAnswer}
 use Rattle.prune.specs.Pruning.{Pruned}
+use Rattle.saved.specs.Answers.{Way, over, back, moveAnswer, moveOutput, moveWork}
 use Rattle.exchange_text.specs.Wanted.{wantedChange}
 use Rattle.exchange.specs.Changes.{Form, EditLine, ExchangeText}
 use Rattle.repair.specs.Repairs.{After, repaired, InsideOutNumber}
@@ -37,15 +38,18 @@ pub data Entry : Type 0 where
   next-violation : Entry
   next-blocked : Entry
   prune : Entry
+  marks-to-frames : Entry
+  frames-to-marks : Entry
   repair-forward : Entry
   repair-inside-out : Entry
   exchange-sizes : Entry
   exchange-forward : Entry
   exchange-inside-out : Entry
 
--- what is lent: of these a function reads those that its head names. `text` is an edit line or the text of an exchange,
--- `second` the buffer for the marks after an exchange, `limit` how many iterations a full analysis may make, and `from`
--- where to begin in a list of configurations
+-- what is lent: of these a function reads those that its head names. `marks` are the program's, or old ones that are to
+-- be moved to frames; `text` is an edit line, the text of an exchange, or frames that are to be moved back; `second` is
+-- the buffer for the marks after an exchange, `limit` how many iterations a full analysis may make, and `from` where to
+-- begin in a list of configurations
 pub record Lent : Type 0 where
   pub file : List ℕ
   pub marks : List ℕ
@@ -105,6 +109,8 @@ hasWork analyze = true
 hasWork next-violation = true
 hasWork next-blocked = true
 hasWork prune = true
+hasWork marks-to-frames = true
+hasWork frames-to-marks = true
 hasWork repair-forward = true
 hasWork repair-inside-out = true
 hasWork exchange-sizes = false
@@ -122,6 +128,8 @@ tellsPair analyze = false
 tellsPair next-violation = false
 tellsPair next-blocked = false
 tellsPair prune = false
+tellsPair marks-to-frames = false
+tellsPair frames-to-marks = false
 tellsPair repair-forward = false
 tellsPair repair-inside-out = false
 tellsPair exchange-sizes = false
@@ -322,6 +330,17 @@ pruneBack b v marks work = record {
   second = b .second;
 }
 
+abbrev pub moveBack : Lent → WriteAnswer → List ℕ → List ℕ → Back
+moveBack b r output work = record {
+  refusal = writeRefusal r;
+  line = writeLine r;
+  values = writing (writtenLength r);
+  marks = b .marks;
+  output = output;
+  work = work;
+  second = b .second;
+}
+
 abbrev pub repairBack : After → ℕ → Back
 repairBack a routines =
     record {
@@ -341,8 +360,8 @@ programIn b = readFile (b .file) .program
 abbrev pub repairedIn : Form → Lent → After
 repairedIn k b = repaired k (b .file) (b .marks) (b .text) (b .output) (b .work) (b .second)
 
--- what is lent to a repair, and what it gives back: its number, the line, the bytes written and the routines told, and
--- the buffers
+-- what is lent to a repair or a move, and what it gives back: its number, the line, the bytes written and the routines
+-- told, and the buffers
 abbrev pub lentRepair : List ℕ → List ℕ → List ℕ → List ℕ → List ℕ → List ℕ → Lent
 lentRepair file marks text output work second = record {
   file = file;
@@ -365,6 +384,12 @@ backRepair refusal line size routines marks output work second = record {
   work = work;
   second = second;
 }
+
+-- a move of old marks to frames, or back, by what is given
+abbrev pub MoveGives : Way → List ℕ → Lent → Back → Type 0
+MoveGives way given b a =
+    a ≡ moveBack b (moveAnswer way (b .file) given (b .output) (b .work))
+    (moveOutput way (b .file) given (b .output) (b .work)) (moveWork way (b .file) given (b .work))
 
 -- the forward one tells no routine
 abbrev pub RepairGives : Form → Lent → Back → Type 0
@@ -393,6 +418,8 @@ Gives prune b a =
     (a ≡ pruneBack b (checkedMarks (b .file) (b .marks) (b .work)) (a .marks)
     (workAfter (b .file) (b .marks) (b .work)))
     × Pruned (checkedMarks (b .file) (b .marks) (b .work)) (programIn b) (b .marks) (a .marks)
+Gives marks-to-frames b a = MoveGives over (b .marks) b a
+Gives frames-to-marks b a = MoveGives back (b .text) b a
 Gives repair-forward b a = RepairGives EditLine b a
 Gives repair-inside-out b a = InsideOutGives EditLine b a
 Gives exchange-sizes b a = a ≡ roomBack b (roomAnswer (b .file) (b .text))

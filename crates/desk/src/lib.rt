@@ -11,7 +11,7 @@ use answers::write_numbers;
 use program::chosen::sizes_of;
 ghost use mathlib.Core.List.{[]};
 ghost use Rattle.desk.specs.Entries.{Gives, read, sizes, faulty-pair, write, analyze, next-violation, next-blocked, prune};
-ghost use Rattle.desk.specs.Entries.{repair-forward};
+ghost use Rattle.desk.specs.Entries.{marks-to-frames, frames-to-marks, repair-forward};
 ghost use Rattle.desk.specs.Entries.{repair-inside-out, exchange-sizes, exchange-forward, exchange-inside-out};
 ghost use Rattle.desk.specs.Entries.{noValues, writing, counts, finding, blocking, sizing, pairing, lentRepair, backRepair};
 
@@ -316,6 +316,49 @@ pub extern "C" fn palthrenni_prune(
     let v = prune::prune(file, marks, work);
     let numbers = verdict_numbers(v);
     *line = numbers.line;
+    numbers.refusal
+}
+
+// Moves the old marks of a file's program to frames. The line of a refusal and the count of bytes written are set.
+#[no_mangle]
+pub extern "C" fn palthrenni_marks_to_frames(
+    file: &[u8],
+    old_marks: &[u8],
+    output: &mut [u8],
+    work: &mut [u8],
+    line: &mut u32,
+    written: &mut u32,
+) -> u32
+    ensures { λ r. ⌜ Gives marks-to-frames
+        (lentRepair (now (file .entry)) (now («old_marks» .entry)) [] (now (output .entry)) (now (work .entry)) [])
+        (backRepair r (now (line .exit)) (now (written .exit)) 0 (now («old_marks» .entry)) (now (output .exit))
+        (now (work .exit)) []) ⌝ }
+{
+    let a = saved::marks_to_frames(file, old_marks, output, work);
+    let numbers = write_numbers(a);
+    *line = numbers.line;
+    *written = numbers.written;
+    numbers.refusal
+}
+
+// Moves the frames of a file's program back to old marks. The line of a refusal and the count of bytes written are set.
+#[no_mangle]
+pub extern "C" fn palthrenni_frames_to_marks(
+    file: &[u8],
+    frames: &[u8],
+    output: &mut [u8],
+    work: &mut [u8],
+    line: &mut u32,
+    written: &mut u32,
+) -> u32
+    ensures { λ r. ⌜ Gives frames-to-marks
+        (lentRepair (now (file .entry)) [] (now (frames .entry)) (now (output .entry)) (now (work .entry)) [])
+        (backRepair r (now (line .exit)) (now (written .exit)) 0 [] (now (output .exit)) (now (work .exit)) []) ⌝ }
+{
+    let a = saved::frames_to_marks(file, frames, output, work);
+    let numbers = write_numbers(a);
+    *line = numbers.line;
+    *written = numbers.written;
     numbers.refusal
 }
 
