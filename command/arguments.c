@@ -1,5 +1,6 @@
 #include "arguments.h"
 
+#include "output.h"
 #include "palthrenni.h"
 #include "status.h"
 
@@ -18,6 +19,10 @@ static int misused(const char *argument, const char *what)
     wrong(argument, what);
     fprintf(stderr, "usage: check [--all] [--blocked] [--limit N]"
                     " [--exchange TEXT [--output NEW]] [--] [FILE]\n"
+                    "       check [--all] [--blocked] [--limit N]"
+                    " [--old-sheet SHEET] --save-sheet FRAMES [--] FILE\n"
+                    "       check [--all] [--blocked] [--limit N]"
+                    " --saved-sheet FRAMES [--save-old-sheet SHEET] [--] FILE\n"
                     "       check --help | --version\n");
     return WRONG;
 }
@@ -59,11 +64,23 @@ static int *flag_of(struct arguments *arguments, const char *option)
  * option. */
 static const char **value_of(struct arguments *arguments, const char *option)
 {
-    if (strcmp(option, "--limit") == 0)
-        return &arguments->limit_given;
-    if (strcmp(option, "--exchange") == 0)
-        return &arguments->text;
-    return strcmp(option, "--output") == 0 ? &arguments->output : NULL;
+    const struct {
+        const char *option;
+        const char **value;
+    } values[] = {
+        {"--limit", &arguments->limit_given},
+        {"--exchange", &arguments->text},
+        {"--output", &arguments->output},
+        {"--old-sheet", &arguments->old_sheet},
+        {"--save-sheet", &arguments->save_sheet},
+        {"--saved-sheet", &arguments->saved_sheet},
+        {"--save-old-sheet", &arguments->save_old_sheet},
+    };
+    for (size_t i = 0; i < sizeof values / sizeof values[0]; i++) {
+        if (strcmp(option, values[i].option) == 0)
+            return values[i].value;
+    }
+    return NULL;
 }
 
 /* Reads an option, and the value that follows it, NULL if nothing does. Sets
@@ -96,14 +113,54 @@ static int read_file_name(struct arguments *arguments, const char *name)
     return 0;
 }
 
+/* Whether a name is that of standard input. */
+static int is_input(const char *name)
+{
+    return name != NULL && strcmp(name, "-") == 0;
+}
+
+/* Whether the options of saved marks fit together. */
+static int check_sheets(const struct arguments *arguments)
+{
+    if (arguments->old_sheet != NULL && arguments->save_sheet == NULL)
+        return misused("--old-sheet", "only with --save-sheet");
+    if (arguments->save_old_sheet != NULL && arguments->saved_sheet == NULL)
+        return misused("--save-old-sheet", "only with --saved-sheet");
+    if (arguments->save_sheet != NULL && arguments->saved_sheet != NULL)
+        return misused("--save-sheet", "not with --saved-sheet");
+    return 0;
+}
+
+/* Whether they fit to the rest. The file has to be named: whoever gave its name
+ * alone would have it replaced by the marks of the sample. */
+static int check_sheet_file(const struct arguments *arguments)
+{
+    int saves = arguments->save_sheet != NULL;
+    const char *option = saves ? "--save-sheet" : "--saved-sheet";
+    const char *read = saves ? arguments->old_sheet : arguments->saved_sheet;
+    const char *written = saves ? arguments->save_sheet : arguments->save_old_sheet;
+    if (read == NULL && written == NULL)
+        return 0;
+    if (arguments->text != NULL)
+        return misused(option, "not with --exchange");
+    if (arguments->file == NULL)
+        return misused(option, "only with a FILE that is named");
+    if (is_input(read) && is_input(arguments->file))
+        return misused("-", "standard input cannot be both the sheet and the file");
+    if (written != NULL && would_replace(written, arguments->file))
+        return misused(written, "the program file itself, which would be lost");
+    return 0;
+}
+
 /* Whether what was given fits together. */
 static int check_arguments(struct arguments *arguments)
 {
     if (arguments->output != NULL && arguments->text == NULL)
         return misused("--output", "only with --exchange");
-    if (arguments->text != NULL && strcmp(arguments->text, "-") == 0
-        && arguments->file != NULL && strcmp(arguments->file, "-") == 0)
+    if (is_input(arguments->text) && is_input(arguments->file))
         return misused("-", "standard input cannot be both the text and the file");
+    if (check_sheets(arguments) != 0 || check_sheet_file(arguments) != 0)
+        return WRONG;
     return arguments->limit_given != NULL ? read_limit(arguments) : 0;
 }
 

@@ -23,13 +23,24 @@ struct marks {
     uint8_t bytes[PALTHRENNI_MARKS_MOST];
 };
 
-/* The arguments, the program file and the text of an exchange, the marks of the
- * program file, and room to work in. After an exchange the file is the new
- * one. */
+/* Marks of a program as they are saved (paper: saved sheets), in both forms: the
+ * old marks, from before programs had sizes of their own, and frames. */
+struct saved {
+    uint8_t old_marks[PALTHRENNI_OLD_MARKS_SIZE];
+    uint32_t old_len;
+    uint8_t frames[PALTHRENNI_FRAMES_MOST];
+    uint32_t frames_len;
+};
+
+/* The arguments, the program file and the text of an exchange, the saved marks
+ * that were read, the marks of the program file, what is saved of them, and room
+ * to work in. After an exchange the file is the new one. */
 struct check {
     struct arguments arguments;
     struct input file, text;
+    struct sheet sheet;
     struct marks marks;
+    struct saved own;
     uint8_t work[PALTHRENNI_MARKS_MOST];
 };
 

@@ -13,6 +13,15 @@ struct parts parts_of(uint32_t number, const struct sizes *sizes)
     return parts;
 }
 
+uint32_t number_of(struct parts parts, const struct sizes *sizes)
+{
+    uint32_t number = parts.routine * sizes->nodes + parts.node;
+    number = number * sizes->states + parts.root;
+    return number * sizes->states + parts.state;
+}
+
+const struct sizes old_sizes = {16, 16, 8, PALTHRENNI_OLD_MARKS_SIZE};
+
 struct words in_words(const char *word, struct parts parts)
 {
     struct words words;

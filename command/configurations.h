@@ -12,6 +12,13 @@ struct parts {
 
 struct parts parts_of(uint32_t number, const struct sizes *sizes);
 
+/* The number of these parts, by the sizes, which have to hold them. */
+uint32_t number_of(struct parts parts, const struct sizes *sizes);
+
+/* The sizes by which every program's configurations had their numbers before a
+ * program had sizes of its own. */
+extern const struct sizes old_sizes;
+
 /* A configuration, after a word that says what is the matter with it. */
 struct words in_words(const char *word, struct parts parts);
 

@@ -96,13 +96,8 @@ static int exchange(struct check *check, struct exchanged *result, uint32_t *rea
  * with more nodes. */
 static int has(const struct marks *there, struct parts parts)
 {
-    const struct sizes *sizes = &there->sizes;
-    if (parts.node >= sizes->nodes)
-        return 0;
-    uint32_t number = parts.routine * sizes->nodes + parts.node;
-    number = number * sizes->states + parts.root;
-    number = number * sizes->states + parts.state;
-    return there->bytes[number];
+    return parts.node < there->sizes.nodes
+        && there->bytes[number_of(parts, &there->sizes)];
 }
 
 /* Prints the configurations that are marked here and not there, the first FIRST
@@ -170,8 +165,5 @@ int check_exchange(struct check *check, uint32_t *violations)
     int status = go_on(check, &result, violations);
     if (status != 0 || output == NULL)
         return status;
-    /* NEW may be a pipe that the report goes to as well: what was said comes
-     * before it. */
-    fflush(stdout);
     return write_output(output, check->file.bytes, check->file.len);
 }

@@ -6,11 +6,29 @@
 #include <stdio.h>
 #include <string.h>
 
-static int read_open(struct input *input, FILE *in)
+/* Reads what has this name, as far as there is room for it, and sets the name
+ * that messages have. */
+static int read_bytes(const char **name, uint8_t *bytes, size_t room, size_t *len)
 {
-    input->len = fread(input->bytes, 1, sizeof input->bytes, in);
-    if (ferror(in))
-        return wrong(input->name, strerror(errno));
+    FILE *in = stdin;
+    if (strcmp(*name, "-") != 0)
+        in = fopen(*name, "rb");
+    else
+        *name = "standard input";
+    if (in == NULL)
+        return wrong(*name, strerror(errno));
+    *len = fread(bytes, 1, room, in);
+    int status = ferror(in) ? wrong(*name, strerror(errno)) : 0;
+    if (in != stdin)
+        fclose(in);
+    return status;
+}
+
+int read_input(struct input *input, const char *name)
+{
+    input->name = name;
+    if (read_bytes(&input->name, input->bytes, sizeof input->bytes, &input->len) != 0)
+        return WRONG;
     if (input->len > LONGEST) {
         char what[100];
         snprintf(what, sizeof what, "more than %d bytes; %s has %lu at most",
@@ -20,17 +38,8 @@ static int read_open(struct input *input, FILE *in)
     return 0;
 }
 
-int read_input(struct input *input, const char *name)
+int read_sheet(struct sheet *sheet, const char *name)
 {
-    if (strcmp(name, "-") == 0) {
-        input->name = "standard input";
-        return read_open(input, stdin);
-    }
-    input->name = name;
-    FILE *in = fopen(name, "rb");
-    if (in == NULL)
-        return wrong(name, strerror(errno));
-    int status = read_open(input, in);
-    fclose(in);
-    return status;
+    sheet->name = name;
+    return read_bytes(&sheet->name, sheet->bytes, sizeof sheet->bytes, &sheet->len);
 }

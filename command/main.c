@@ -10,6 +10,7 @@
 #include "exchange.h"
 #include "notes.h"
 #include "refusals.h"
+#include "saved.h"
 #include "status.h"
 #include "violations.h"
 #include "words.h"
@@ -43,14 +44,23 @@ static int check_file(struct check *check)
     int status = analyze(check, &violations);
     if (status == 0 && check->arguments.text != NULL)
         status = check_exchange(check, &violations);
-    return status == 0 ? conclude(check, violations) : status;
+    if (status == 0)
+        status = check_saved(check);
+    if (status != 0)
+        return status;
+    status = conclude(check, violations);
+    return status != WRONG && write_saved(check) != 0 ? WRONG : status;
 }
 
-/* Reads the text of an exchange, if one is named, and the program file: without
- * a name the one that the script `check` says, or standard input. */
+/* Reads the text of an exchange or saved marks, if they are named, and the
+ * program file: without a name the one that the script `check` says, or standard
+ * input. */
 static int read_inputs(struct check *check)
 {
     const char *text = check->arguments.text, *file = check->arguments.file;
+    const char *sheet = check->arguments.old_sheet;
+    if (sheet == NULL)
+        sheet = check->arguments.saved_sheet;
     if (file == NULL)
         file = getenv("PALTHRENNI_SAMPLE");
     check->file.what = "an accepted file";
@@ -59,6 +69,8 @@ static int read_inputs(struct check *check)
     /* A frame 52 and as many edges as there may be. */
     check->text.most = 7 + 256 * 11;
     if (text != NULL && read_input(&check->text, text) != 0)
+        return WRONG;
+    if (sheet != NULL && read_sheet(&check->sheet, sheet) != 0)
         return WRONG;
     return read_input(&check->file, file != NULL ? file : "-");
 }

@@ -18,9 +18,9 @@
 /* The longest path of a file, with its ending zero. */
 #define PATH_SIZE 4096
 
-/* The new file: its name as it is given, which messages have; where it is, after
- * all symbolic links; whether one is there already; its permissions, and whose it
- * is. */
+/* The file that is written: its name as it is given, which messages have; where
+ * it is, after all symbolic links; whether one is there already; its permissions,
+ * and whose it is. */
 struct place {
     const char *name;
     char path[PATH_SIZE];
@@ -151,12 +151,24 @@ static mode_t new_mode(void)
     return 0666 & ~mask;
 }
 
+static int is_same(const struct stat *one, const struct stat *other)
+{
+    return one->st_dev == other->st_dev && one->st_ino == other->st_ino;
+}
+
+int would_replace(const char *name, const char *input)
+{
+    struct stat there, read;
+    int failed = strcmp(input, "-") == 0 ? fstat(STDIN_FILENO, &read) : stat(input, &read);
+    return failed == 0 && stat(name, &there) == 0 && S_ISREG(there.st_mode)
+        && is_same(&there, &read);
+}
+
 /* Whether this is the file that standard output goes to. */
 static int is_standard_output(const struct stat *there)
 {
     struct stat out;
-    return fstat(STDOUT_FILENO, &out) == 0 && out.st_dev == there->st_dev
-        && out.st_ino == there->st_ino;
+    return fstat(STDOUT_FILENO, &out) == 0 && is_same(&out, there);
 }
 
 /* Replaces a regular file, or makes one. */
@@ -177,6 +189,8 @@ int write_output(const char *name, const uint8_t *bytes, size_t len)
 {
     struct place place = {.name = name, .mode = new_mode()};
     struct stat there;
+    /* It may be a pipe that the report goes to as well. */
+    fflush(stdout);
     place.exists = stat(name, &there) == 0;
     if (place.exists) {
         /* To replace it would be to lose the report. Whether all of that could

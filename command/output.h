@@ -1,4 +1,4 @@
-/* Writing the new program file so that nothing is lost. */
+/* Writing a new program file, or saved marks, so that nothing is lost. */
 #ifndef OUTPUT_H
 #define OUTPUT_H
 
@@ -11,10 +11,14 @@
  * wrong, a file that was there is as it was, and else none is made. A symbolic
  * link is followed, and the permissions of a file that was there are kept.
  * What is no regular file, such as a pipe, is written straight to, and so is the
- * file that standard output goes to.
+ * file that standard output goes to, after all that was said before.
  *
  * Says what is wrong and what was kept, and gives WRONG; else gives 0.
  */
 int write_output(const char *name, const uint8_t *bytes, size_t len);
+
+/* Whether that would replace the file that is read by this other name, "-" for
+ * standard input. */
+int would_replace(const char *name, const char *input);
 
 #endif

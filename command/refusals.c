@@ -1,6 +1,7 @@
 #include "refusals.h"
 
 #include "file_faults.h"
+#include "saved_faults.h"
 #include "status.h"
 #include "text_faults.h"
 
@@ -72,5 +73,16 @@ int print_exchange_refusal(const struct check *check, uint32_t refusal)
                    lines_of(check->file.bytes, check->file.len), refusal, &words))
         printf(": %s", words.text);
     printf("\n");
+    return REFUSED;
+}
+
+int print_sheet_refusal(const struct check *check, uint32_t refusal)
+{
+    struct words words;
+    if (!saved_fault(check, refusal, &words))
+        return wrong(check->file.name, "its saved marks were refused,"
+                                       " and nothing is wrong with them");
+    printf("sheet refused: %lu (%s): %s\n", (unsigned long)refusal,
+           palthrenni_reason(refusal), words.text);
     return REFUSED;
 }

@@ -13,4 +13,9 @@ int print_file_refusal(const struct input *file, uint32_t number, uint32_t line)
  * command finds in the text; gives REFUSED. */
 int print_exchange_refusal(const struct check *check, uint32_t refusal);
 
+/* Says that saved marks are refused, by the checker's number, and what the
+ * command finds in them, or in the program. Gives REFUSED, or WRONG where it
+ * finds nothing: the checker contradicts itself then. */
+int print_sheet_refusal(const struct check *check, uint32_t refusal);
+
 #endif

@@ -4,7 +4,7 @@
 
 enum status {
     PASSED = 0,    /* no run arrives in a rejecting state */
-    REFUSED = 1,   /* the file, or the exchange, is refused */
+    REFUSED = 1,   /* the file, the exchange or the saved marks are refused */
     WRONG = 2,     /* anything else is wrong */
     VIOLATED = 3,  /* some run arrives in a rejecting state */
     GAVE_UP = 4    /* an analysis gave up at its limit */

@@ -63,8 +63,7 @@ static int first_fault(struct lines text, fault *find, const struct exchange *ex
     struct words found;
     for (unsigned long line = 1; next_frame(&text, &frame); line++) {
         if (find(&frame, line == 1 ? NULL : &last, exchange, &found))
-            return say(words, "line %lu: %s%s%s", line, shown(&frame).text,
-                       frame.len > 0 ? ": " : "", found.text);
+            return say_of_line(words, line, &frame, found.text);
         last = frame;
     }
     return 0;

@@ -41,6 +41,13 @@ struct words shown(const struct frame *frame)
     return words;
 }
 
+int say_of_line(struct words *words, unsigned long line, const struct frame *frame,
+                const char *found)
+{
+    return say(words, "line %lu: %s%s%s", line, shown(frame).text,
+               frame->len > 0 ? ": " : "", found);
+}
+
 const char *plural(uint64_t count)
 {
     return count == 1 ? "" : "s";

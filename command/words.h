@@ -19,6 +19,10 @@ struct words range_of(uint32_t first, uint32_t count);
 /* The bytes of a line to be shown: unprintable ones escaped, a long line cut. */
 struct words shown(const struct frame *frame);
 
+/* What was found in a line, counted from 1, after the line itself; gives 1. */
+int say_of_line(struct words *words, unsigned long line, const struct frame *frame,
+                const char *found);
+
 /* The ending of a word that is counted. */
 const char *plural(uint64_t count);
 

@@ -163,6 +163,8 @@
  *     palthrenni_exchange_sizes        32768
  *     palthrenni_exchange_forward      98304
  *     palthrenni_exchange_inside_out   98304
+ *     palthrenni_marks_to_frames       65536
+ *     palthrenni_frames_to_marks       65536
  *
  * PALTHRENNI_STACK is the largest of them, for whoever gives a thread its
  * stack. These bounds are measured, and not proved: include/stack.c calls each
@@ -173,17 +175,21 @@
  * Platforms. Tried on Linux on x86_64 (Debian 12), as C11 with gcc 12.2 and
  * clang 14.0 and as C++17 with g++ 12.2 and clang++ 14.0; on nothing else.
  *
- * Coming from 0.6.0, nothing has to change: PALTHRENNI_VERSION,
+ * Coming from 0.6.0 or 0.6.1, nothing has to change. New in 0.6.2 are
+ * palthrenni_marks_to_frames and palthrenni_frames_to_marks, with the refusals
+ * 24 and 25, and other words for 10; new in 0.6.1 were PALTHRENNI_VERSION,
  * PALTHRENNI_STACK, palthrenni_reason, palthrenni_next_blocked and
- * palthrenni_faulty_pair are new. Coming from the version whose marks always
- * had 16384 bytes, a caller has to change this:
+ * palthrenni_faulty_pair. Coming from the version whose marks always had 16384
+ * bytes, a caller has to change this:
  *
  *     buffers      lend marks and working buffers of the length that
  *                  palthrenni_sizes gives, and outputs of 7712 bytes or more
  *                  (it was 5328)
  *     numbers      of configurations go by the program's sizes, and the macros
  *                  for their parts take the sizes. Marks that were kept go by
- *                  the earlier numbers: analyze the file again
+ *                  the earlier numbers: analyze the file again, or move them
+ *                  to frames, in which nothing goes by numbers
+ *                  (palthrenni_marks_to_frames)
  *     exchanges    ask palthrenni_exchange_sizes, lend a second buffer for the
  *                  new marks, and go on with that one
  *     states       may be 16: a caller that reads frames 46 itself meets the
@@ -206,7 +212,7 @@ extern "C" {
 /* The version of this header, and of the archive that belongs to it. The second
  * number rises where a caller has to change something, and the third where
  * something is added and a caller may stay as it is. The first is 0. */
-#define PALTHRENNI_VERSION "0.6.1"
+#define PALTHRENNI_VERSION "0.6.2"
 
 /*
  * Refusals. A function judges in the order of this table, as far as it has the
@@ -214,14 +220,19 @@ extern "C" {
  * functions have the row:
  *
  *     all       every function
- *     marks     those that marks are lent to
- *     output    those that an output is lent to
- *     work      those that a working buffer is lent to, but for exchanges
+ *     marks     those that marks are lent to, but for those of "saved"
+ *     output    those that an output is lent to, but for those of "saved"
+ *     work      those that a working buffer is lent to, but for exchanges and
+ *               for those of "saved"
  *     edit      palthrenni_repair_forward, palthrenni_repair_inside_out
  *     text      palthrenni_exchange_sizes, and both exchanges
  *     exchange  palthrenni_exchange_forward, palthrenni_exchange_inside_out
  *     own       palthrenni_next_violation, palthrenni_next_blocked, both
  *               repairs by an edit, and both exchanges
+ *     saved     palthrenni_marks_to_frames, palthrenni_frames_to_marks: they
+ *               judge the file, and then 24, 9, 11, 25 and 10, in an order of
+ *               their own; 10 comes last, since only then it is known how long
+ *               the output has to be
  *
  * 1 to 8, 19, 20 and the first 23 are the refusals of the file. Of its lines
  * the first faulty one decides, and in it the lowest of 1 to 7; but whatever
@@ -292,6 +303,17 @@ extern "C" {
  *     analyze    22  palthrenni_analyze gave up: its count of iterations is
  *                    above the limit. That is no fault of the file, and says
  *                    nothing of its violations
+ *     saved      24  a routine has more than 16 nodes, or there are more than 8
+ *                    states, or more than 256 transitions: no such program was
+ *                    accepted when old marks were saved
+ *     saved       9  the old marks, which the first of the two is lent, do not
+ *                    have exactly PALTHRENNI_OLD_MARKS_SIZE bytes
+ *     saved      11  the working buffer does not have exactly the length that
+ *                    palthrenni_sizes gives
+ *     saved      25  the old marks, or the frames, are not the program's own:
+ *                    some byte is another one, or is left out or too many
+ *     saved      10  the output is shorter than what is to be written: this
+ *                    program's frames, or PALTHRENNI_OLD_MARKS_SIZE bytes
  *     none       18  the input of the program `bench` has more than 16384
  *                    bytes. No function returns it, and none has such a bound
  *
@@ -323,15 +345,24 @@ extern "C" {
 #define PALTHRENNI_EDGES_FULL 16
 #define PALTHRENNI_FOREIGN_MARKS 17
 #define PALTHRENNI_GAVE_UP 22
+#define PALTHRENNI_TOO_LARGE_TO_SAVE 24
+#define PALTHRENNI_FOREIGN_SAVED 25
 
-/* The most bytes that are ever written, and so the least length of an output.
- * No accepted file is longer; one with rows has at most 7456 bytes. Of a longer
- * file one byte more than these is enough to see it refused, though the number
- * and the line may be others than those of the whole. */
+/* The most bytes that a program is ever written in, and so the least length of
+ * an output for one. No accepted file is longer; one with rows has at most 7456
+ * bytes. Of a longer file one byte more than these is enough to see it refused,
+ * though the number and the line may be others than those of the whole. */
 #define PALTHRENNI_OUTPUT_SIZE 7712
 /* The length of the longest marks that an accepted program has, and so of the
  * longest working buffer. */
 #define PALTHRENNI_MARKS_MOST 16384
+/* The length of old marks, whatever the program: "palthrenni_marks_to_frames",
+ * below. It is another number than the one above, with the same value. */
+#define PALTHRENNI_OLD_MARKS_SIZE 16384
+/* The most bytes that the frames of a program have: 11 for each of 16384
+ * configurations, and 7. Of a longer text one byte more than these is enough to
+ * see it refused (25). */
+#define PALTHRENNI_FRAMES_MOST 180231
 
 /* More stack than any call takes ("Stack", above). */
 #define PALTHRENNI_STACK 98304
@@ -399,7 +430,7 @@ static inline const char *palthrenni_reason(uint32_t refusal)
     case 7: return "the end count is wrong";
     case 8: return "no end frame, or something after it";
     case 9: return "the marks do not have the length that is needed";
-    case 10: return "the output has fewer than 7712 bytes";
+    case 10: return "the output is shorter than is needed";
     case 11: return "the working buffer does not have the length"
                     " that is needed";
     case 12: return "not one edit line of a kind 2B, 2D or 3D,"
@@ -416,6 +447,9 @@ static inline const char *palthrenni_reason(uint32_t refusal)
     case 22: return "gave up: there are more iterations than the limit";
     case 23: return "routines x nodes x states x states"
                     " would be more than 16384";
+    case 24: return "a routine has more than 16 nodes,"
+                    " or there are more than 8 states or 256 transitions";
+    case 25: return "the saved marks are not the program's own";
     default: return "unknown refusal";
     }
 }
@@ -526,7 +560,7 @@ uint32_t palthrenni_write(const uint8_t *file, size_t file_len,
  * the limit does not overflow, since 100000000 never gives up.
  *
  * Only this function has a limit. The analysis that others make inside them,
- * to see whether marks are a program's own (17), has none, and they never
+ * to see whether marks are a program's own (17, 25), has none, and they never
  * return 22.
  *
  *   file, file_len    the file's bytes, of any length
@@ -887,6 +921,133 @@ uint32_t palthrenni_exchange_inside_out(const uint8_t *file, size_t file_len,
                                         size_t new_marks_len,
                                         uint32_t *line, uint32_t *written,
                                         uint32_t *reanalyzed);
+
+/*
+ * Moves saved marks (paper: saved sheets) to frames: reads a program file and
+ * marks of its program that were saved before programs had sizes of their own,
+ * and writes the form in which marks are saved now.
+ *
+ * Old marks have PALTHRENNI_OLD_MARKS_SIZE bytes, whatever the program, and a
+ * configuration has the number
+ *
+ *     ((routine * 16 + node) * 8 + root) * 8 + state
+ *
+ * in them. Its byte is 1 if it can occur and 0 if not; bytes of routines, nodes
+ * and states that the program does not have are 0. (Of an exchange, above, "old
+ * marks" are those before it, in today's numbers.)
+ *
+ * Frames are lines of hexadecimal as in a file, two digits a number and a byte
+ * 0A at the end of each line,
+ *
+ *     4D f n r q      for each configuration that can occur: routine f, node n,
+ *                     root r, state q; ascending, compared left to right
+ *     45 h l          last, and once: they are h * 256 + l
+ *
+ * with no number that goes by any sizes. (4D is the ASCII code of M.) A program
+ * has exactly one such text. These are the frames of examples/F.txt, with their
+ * 62 bytes:
+ *
+ *     4D00000000      main's entry, root 0, state 0
+ *     4D00010001      main's exit, root 0, state 1
+ *     4D00020001      main's node 2, root 0, state 1
+ *     4D01000000      the entry of routine 1, root 0, state 0
+ *     4D01010001      its exit, root 0, state 1
+ *     450005          five configurations
+ *
+ * A program without an initial state has the line 450000 alone. This moves old
+ * marks over, and back for a machine that takes old marks only:
+ *
+ *     static uint8_t frames[PALTHRENNI_FRAMES_MOST];
+ *     static uint8_t back[PALTHRENNI_OLD_MARKS_SIZE];
+ *
+ *     refusal = palthrenni_sizes(file, file_len, &line,
+ *                                &routines, &nodes, &states, &marks_size);
+ *     if (refusal == PALTHRENNI_OK)
+ *         refusal = palthrenni_marks_to_frames(
+ *             file, file_len, old_marks, old_marks_len,
+ *             frames, sizeof frames, work, marks_size, &line, &frames_len);
+ *     if (refusal == PALTHRENNI_OK)
+ *         refusal = palthrenni_frames_to_marks(
+ *             file, file_len, frames, frames_len,
+ *             back, sizeof back, work, marks_size, &line, &written);
+ *
+ * Then back holds the bytes of old_marks. So it is the other way round: frames
+ * that are accepted, moved back and over again, are the same bytes.
+ *
+ * Today's marks are saved in frames the same way. Put each byte where its parts
+ * (PALTHRENNI_ROUTINE and so on) have it in the old numbers, all others being
+ * 0, and move these over; but only where the program has at most 16 nodes and 8
+ * states, since other configurations have no place there (24). Frames are not
+ * made into today's marks: palthrenni_analyze sets those.
+ *
+ * Each call costs one full analysis, without a limit, to see whether the old
+ * marks are the program's own (25); only a refusal before 25 costs less.
+ *
+ *   file, file_len            the file's bytes, of any length
+ *   old_marks, old_marks_len  the old marks: PALTHRENNI_OLD_MARKS_SIZE bytes,
+ *                             which are lent for reading only
+ *   output, output_len        where the frames are written: as many bytes as
+ *                             this program's frames have, or more;
+ *                             PALTHRENNI_FRAMES_MOST are enough for every
+ *                             program
+ *   work, work_len            room to work in: as many bytes as
+ *                             palthrenni_sizes gives for today's marks, which
+ *                             may hold anything before
+ *   line                      set to the line of a refusal 1 to 8, else to 0
+ *   written                   set to how many bytes were written, 7 to
+ *                             PALTHRENNI_FRAMES_MOST, or to 0 if the call was
+ *                             refused
+ *
+ * Returns a refusal of the file; then, if it is accepted, the first that is met
+ * of 24, 9, 11, 25 and 10, in this order; else PALTHRENNI_OK.
+ *
+ * On PALTHRENNI_OK the frames are at the start of the output and the rest of
+ * the output is unchanged. On a refusal all of the output is unchanged. The
+ * working buffer is all zero on 25, on 10 and on PALTHRENNI_OK, and unchanged
+ * on every other number.
+ */
+uint32_t palthrenni_marks_to_frames(const uint8_t *file, size_t file_len,
+                                    const uint8_t *old_marks,
+                                    size_t old_marks_len,
+                                    uint8_t *output, size_t output_len,
+                                    uint8_t *work, size_t work_len,
+                                    uint32_t *line, uint32_t *written);
+
+/*
+ * Moves frames back to old marks, for machines that take these only: reads a
+ * program file and frames of its program, and writes its old marks;
+ * palthrenni_marks_to_frames, above, says what both are. The frames have to be
+ * the program's own to the byte. Whatever is wrong with them is 25, with line
+ * 0: a line that is none, another kind, a configuration too many or too few,
+ * another order, another count at the end, or anything after it.
+ *
+ * Each call costs one full analysis, without a limit, to see whether the frames
+ * are the program's own (25); only a refusal before 25 costs less.
+ *
+ *   file, file_len      the file's bytes, of any length
+ *   frames, frames_len  the frames' bytes, of any length; they are lent for
+ *                       reading only
+ *   output, output_len  where the old marks are written:
+ *                       PALTHRENNI_OLD_MARKS_SIZE bytes or more
+ *   work, work_len      room to work in: as many bytes as palthrenni_sizes
+ *                       gives for today's marks, which may hold anything before
+ *   line                set to the line of a refusal 1 to 8, else to 0
+ *   written             set to PALTHRENNI_OLD_MARKS_SIZE, or to 0 if the call
+ *                       was refused
+ *
+ * Returns a refusal of the file; then, if it is accepted, the first that is met
+ * of 24, 11, 25 and 10, in this order; else PALTHRENNI_OK.
+ *
+ * On PALTHRENNI_OK the old marks, each 0 or 1, are at the start of the output
+ * and the rest of the output is unchanged. On a refusal all of the output is
+ * unchanged. The working buffer is left as palthrenni_marks_to_frames leaves
+ * it.
+ */
+uint32_t palthrenni_frames_to_marks(const uint8_t *file, size_t file_len,
+                                    const uint8_t *frames, size_t frames_len,
+                                    uint8_t *output, size_t output_len,
+                                    uint8_t *work, size_t work_len,
+                                    uint32_t *line, uint32_t *written);
 
 #ifdef __cplusplus
 }

@@ -3,8 +3,9 @@
  * on a stack of its own, which is painted before it; afterwards the paint is
  * gone down to the deepest byte that the call has touched. The calls are those
  * of the largest programs, of edits of every kind, of the longest texts of an
- * exchange, and of what is refused. For each function it prints a line with its
- * name and that depth in bytes; include/test compares it with the header.
+ * exchange, of saved marks in both forms, and of what is refused. For each
+ * function it prints a line with its name and that depth in bytes; include/test
+ * compares it with the header.
  */
 #define _XOPEN_SOURCE 700
 
@@ -32,6 +33,14 @@ static size_t marks_len, new_len, work_len, output_len = sizeof output;
 static uint64_t limit = PALTHRENNI_NO_LIMIT;
 static uint32_t from;
 static uint32_t refusal, line, one, two, three, four;
+
+/* Saved marks, in both forms, with room for frames that are too long, and no
+ * configuration at first; and where the other form is written. */
+static uint8_t old_marks[PALTHRENNI_OLD_MARKS_SIZE];
+static uint8_t frames[PALTHRENNI_FRAMES_MOST + 1] = "450000\n";
+static uint8_t moved[PALTHRENNI_FRAMES_MOST];
+static size_t old_len = sizeof old_marks, frames_len = 7;
+static size_t moved_len = sizeof moved;
 
 static void call_read(void)
 {
@@ -118,9 +127,23 @@ static void call_exchange_inside_out(void)
                                              &line, &one, &two);
 }
 
+static void call_marks_to_frames(void)
+{
+    refusal = palthrenni_marks_to_frames(file.bytes, file.len, old_marks,
+                                         old_len, moved, moved_len, work,
+                                         work_len, &line, &one);
+}
+
+static void call_frames_to_marks(void)
+{
+    refusal = palthrenni_frames_to_marks(file.bytes, file.len, frames,
+                                         frames_len, moved, moved_len, work,
+                                         work_len, &line, &one);
+}
+
 /* What a function is lent beside the file: nothing that has to be tried anew,
- * an edit line, or a text of an exchange. */
-enum lent { FILE_ONLY = 1, EDIT = 2, EXCHANGE = 4, ALL = 7 };
+ * an edit line, a text of an exchange, or saved marks. */
+enum lent { FILE_ONLY = 1, EDIT = 2, EXCHANGE = 4, SAVED = 8, ALL = 15 };
 
 /* Each function, with the deepest that a call of it has come, and how many of
  * its calls were accepted. */
@@ -145,6 +168,8 @@ static struct function {
     {"palthrenni_exchange_forward", call_exchange_forward, EXCHANGE, 0, 0},
     {"palthrenni_exchange_inside_out", call_exchange_inside_out, EXCHANGE, 0,
      0},
+    {"palthrenni_marks_to_frames", call_marks_to_frames, SAVED, 0, 0},
+    {"palthrenni_frames_to_marks", call_frames_to_marks, SAVED, 0, 0},
 };
 
 static void stop(const char *what)
@@ -236,6 +261,8 @@ static const struct shape shapes[] = {
     /* The longest marks, with as many edges and transitions as there may be. */
     {16, 4, 16, 16, 256, 16, 8, 8, 0},
     {16, 16, 8, 32, 256, 32, 16, 16, 0},
+    /* And with as many transitions as marks may be saved with. */
+    {16, 16, 8, 16, 256, 16, 8, 8, 0},
     {1, 64, 16, 32, 256, 30, 1, 1, 0},
     {4, 64, 8, 32, 256, 32, 4, 4, 0},
     {4, 16, 16, 32, 256, 32, 0, 0, 0},
@@ -451,6 +478,61 @@ static void measure_foreign(const struct shape *shape)
     call_analyze();
 }
 
+/* Today's marks in the old numbers, and their frames; of a program that marks
+ * are not saved of, what was there before. */
+static void make_saved(uint32_t nodes, uint32_t states)
+{
+    if (nodes > 16 || states > 8)
+        return;
+    memset(old_marks, 0, sizeof old_marks);
+    for (uint32_t i = 0; i < marks_len; i++) {
+        uint32_t at = PALTHRENNI_ROUTINE(i, nodes, states) * 16
+                    + PALTHRENNI_NODE(i, nodes, states);
+        at = at * 8 + PALTHRENNI_ROOT(i, nodes, states);
+        old_marks[at * 8 + PALTHRENNI_STATE(i, nodes, states)] = marks[i];
+    }
+    call_marks_to_frames();
+    if (refusal == PALTHRENNI_OK)
+        memcpy(frames, moved, frames_len = one);
+}
+
+/* Saved marks that are the program's own; with an output that is too short, by
+ * a byte or by all of it; and old marks of another length. */
+static void measure_saved(const struct shape *shape)
+{
+    make_saved(shape->nodes, shape->states);
+    measure_each(SAVED);
+    moved_len = frames_len - 1;
+    measure_each(SAVED);
+    moved_len = 0;
+    measure_each(SAVED);
+    moved_len = sizeof moved;
+    old_len--;
+    measure_each(SAVED);
+    old_len = sizeof old_marks;
+}
+
+/* Saved marks that are not the program's own: a byte is another one, here and
+ * there, or the frames end there; and frames that are too long. */
+static void measure_saved_foreign(void)
+{
+    size_t whole = frames_len;
+    for (size_t i = 0; i < 12; i++) {
+        size_t at = i * (whole - 1) / 11, old = i * (old_len - 1) / 11;
+        frames[at] ^= 1;
+        old_marks[old] ^= 1;
+        measure_each(SAVED);
+        frames[at] ^= 1;
+        old_marks[old] ^= 1;
+        frames_len = at;
+        measure_each(SAVED);
+        frames_len = whole;
+    }
+    frames_len = sizeof frames;
+    measure_each(SAVED);
+    frames_len = whole;
+}
+
 /* Every function with buffers that are too short, from the last number on, and
  * with a limit that is too small. */
 static void measure_lent(void)
@@ -493,6 +575,8 @@ static void measure_shape(const struct shape *shape, unsigned edges)
 {
     make_file(shape, edges);
     analyze();
+    measure_saved(shape);
+    measure_saved_foreign();
     measure_lent();
     measure_foreign(shape);
     measure_edits(shape);

@@ -37,7 +37,7 @@ int main(void)
            PALTHRENNI_ROUTINE(wide, nodes, 1 + 2), PALTHRENNI_NODE(wide, nodes, 1 + 2),
            PALTHRENNI_ROOT(wide, nodes, 1 + 2), PALTHRENNI_STATE(wide, nodes, 1 + 2));
     printf("fit %d %d %d\n", parts_fit(16, 4, 16), parts_fit(3, 5, 3), parts_fit(1, 64, 16));
-    for (number = 0; number <= 24; number++)
+    for (number = 0; number <= 26; number++)
         printf("%" PRIu32 " %s\n", number, palthrenni_reason(number));
     printf("%" PRIu32 " %s\n", PALTHRENNI_NONE, palthrenni_reason(PALTHRENNI_NONE));
     return PALTHRENNI_NO_LIMIT == UINT64_MAX ? 0 : 1;
