@@ -146,4 +146,28 @@ extern "C" {
         written: *mut u32,
         reanalyzed: *mut u32,
     ) -> u32;
+    pub fn palthrenni_marks_to_frames(
+        file: *const u8,
+        file_len: usize,
+        old_marks: *const u8,
+        old_marks_len: usize,
+        output: *mut u8,
+        output_len: usize,
+        work: *mut u8,
+        work_len: usize,
+        line: *mut u32,
+        written: *mut u32,
+    ) -> u32;
+    pub fn palthrenni_frames_to_marks(
+        file: *const u8,
+        file_len: usize,
+        frames: *const u8,
+        frames_len: usize,
+        output: *mut u8,
+        output_len: usize,
+        work: *mut u8,
+        work_len: usize,
+        line: *mut u32,
+        written: *mut u32,
+    ) -> u32;
 }

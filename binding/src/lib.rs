@@ -177,3 +177,21 @@ pub fn exchange_inside_out(
         file, marks, text, output, work, new_marks;; written, reanalyzed
     ))
 }
+
+pub fn marks_to_frames(
+    file: Option<&[u8]>,
+    old_marks: Option<&[u8]>,
+    output: Option<&mut [u8]>,
+    work: Option<&mut [u8]>,
+) -> Answer<1> {
+    answer!(palthrenni_marks_to_frames(file, old_marks, output, work;; written))
+}
+
+pub fn frames_to_marks(
+    file: Option<&[u8]>,
+    frames: Option<&[u8]>,
+    output: Option<&mut [u8]>,
+    work: Option<&mut [u8]>,
+) -> Answer<1> {
+    answer!(palthrenni_frames_to_marks(file, frames, output, work;; written))
+}

@@ -12,10 +12,11 @@ use reference::generate::random::Random;
 use reference::generate::shapes::{Shape, SHAPES};
 use reference::model::analysis::{analysis_of, analyze, Analysis};
 use reference::model::calls::sheets::{analyze_answer, Counts, NO_LIMIT};
-use reference::model::former::{self, is_former, FORMER_SIZES};
+use reference::model::former;
 use reference::model::fresh;
 use reference::model::fresh::most_takings;
 use reference::model::program::{Event, Program, RuleLine, MOST_RULE_LINES};
+use reference::model::saved::{is_former, FORMER_SIZES};
 use reference::model::standing::marked;
 use reference::model::write::write;
 

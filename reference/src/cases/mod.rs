@@ -7,7 +7,8 @@
 //!   refusal; `tables` has the files with rows, what they are written as, and repairs of one of them.
 //! - `analyses`, `keepings` and `repairs` have what these calls leave; what exchanges leave stands with
 //!   their texts. `heard` has all of these for rules that hear calls and returns. `limits` has fresh
-//!   workings with a limit on the takings, and `blocked` has where runs are cut off.
+//!   workings with a limit on the takings, `blocked` has where runs are cut off, and `saved` has saved
+//!   sheets in both forms.
 //! - `inputs` has inputs of `bench`.
 
 pub mod analyses;
@@ -21,6 +22,7 @@ pub mod keepings;
 pub mod limits;
 pub mod repairs;
 pub mod sample;
+pub mod saved;
 pub mod small;
 pub mod tables;
 

@@ -9,12 +9,12 @@
 //!   and `rules` makes their rules.
 //! - `edits` makes edit lines, and `exchanges` makes exchanges and their texts; `text_damage` does the
 //!   damage to these.
-//! - `sheets` makes sheets, `limits` makes limits of fresh workings, `calls` makes the calls of a list,
-//!   and `inputs` makes inputs of `bench`.
+//! - `sheets` makes sheets, `saved` makes saved ones in both forms, `limits` makes limits of fresh
+//!   workings, `calls` makes the calls of a list, and `inputs` makes inputs of `bench`.
 //! - `met` counts what they have met: refusals, the `classes` of files with rows, the `pair_classes` of
 //!   files by the first faulty pair of their table, the `size_classes` of files, the `label_classes` of rule lines and steps, the `hearing` of rules, the `blocked_classes` of
-//!   programs by where runs are cut off, and of exchanges the `text_classes` and the `length_classes` of
-//!   what is lent to them.
+//!   programs by where runs are cut off, the `saved_classes` of what moves saved sheets, and of exchanges
+//!   the `text_classes` and the `length_classes` of what is lent to them.
 
 pub mod blocked_classes;
 pub mod calls;
@@ -34,6 +34,8 @@ pub mod programs;
 pub mod random;
 pub mod row_damage;
 pub mod rules;
+pub mod saved;
+pub mod saved_classes;
 pub mod shapes;
 pub mod sheets;
 pub mod size_classes;

@@ -8,6 +8,7 @@ use crate::model::kinds::{COUNTS, END, FINDING, REFUSED};
 use crate::model::lines::{line_of, lines, starts_with_kind, two_numbers};
 use crate::model::program::Program;
 use crate::model::refusals::INPUT_LONG;
+use crate::model::write::frame;
 
 /// How many bytes of input there may be.
 pub const MOST_INPUT: usize = 16_384;
@@ -59,7 +60,7 @@ fn block(program: &Program) -> Vec<u8> {
     let mut printed = Vec::new();
     for &finding in &analysis.findings {
         let at = program.sizes().standing(finding as usize);
-        printed.extend(line_of(&[FINDING, at.routine, at.place, at.root, at.state]));
+        printed.extend(line_of(&frame(FINDING, &at.numbers())));
     }
     let [high, low] = two_numbers(analysis.standings() as usize);
     let [findings_high, findings_low] = two_numbers(analysis.findings.len());

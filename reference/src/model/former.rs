@@ -1,5 +1,4 @@
-//! Working afresh as it was before the rule could hear calls and returns; and the sizes by which all
-//! standings were numbered before each program had its own.
+//! Working afresh as it was before the rule could hear calls and returns.
 //!
 //! Here the rule sees actions only, a root is the state at the call, and an exit wakes by the caller's
 //! state. It is kept because old files are to be safe: a program whose rule has no line for a call or a
@@ -11,24 +10,6 @@ use crate::model::fresh::Fresh;
 use crate::model::program::{Event, Label, Program, EXIT};
 use crate::model::standing::{Sizes, Standing};
 use std::collections::BTreeSet;
-
-/// The sizes that every program was numbered by: as many as there could be of everything.
-pub const FORMER_SIZES: Sizes = Sizes {
-    routines: 16,
-    places: 16,
-    states: 8,
-};
-
-/// Whether a program could be put down when these were its sizes.
-pub fn is_former(program: &Program) -> bool {
-    let own = program.sizes();
-    own.places <= FORMER_SIZES.places
-        && own.states <= FORMER_SIZES.states
-        && program.rule.len() <= FORMER_RULE_LINES
-}
-
-/// How many rule lines a program could have then.
-const FORMER_RULE_LINES: usize = 256;
 
 /// Works a program's standings afresh, as if its rule had no line for a call or a return, with numbers
 /// by these sizes.
@@ -156,6 +137,7 @@ mod tests {
     use crate::model::edit::edited_by_line;
     use crate::model::file::read;
     use crate::model::fresh;
+    use crate::model::saved::{is_former, FORMER_SIZES};
 
     fn formerly(program: &Program) -> Analysis {
         analysis_of(program, &work_in(program.sizes(), program))

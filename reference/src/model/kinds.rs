@@ -59,6 +59,11 @@ pub const EDITS: [Kind; 3] = [kind(ADD, 4), kind(DROP, 4), kind(REPLACE, 5)];
 /// The kinds of lines in the text of an exchange.
 pub const EXCHANGES: [Kind; 2] = [kind(ROUTINE, 2), kind(STEP, 4)];
 
+pub const STANDING: u8 = 0x4D;
+
+/// The kinds of lines in the frames of a saved sheet.
+pub const SAVED: [Kind; 2] = [kind(STANDING, 4), kind(END, 2)];
+
 /// The kinds of lines that `bench` prints.
 pub const FINDING: u8 = 0x58;
 pub const COUNTS: u8 = 0x5A;

@@ -20,13 +20,14 @@
 //! - `standing` has the standings, and their numbers in the sizes of a program.
 //! - `moves` says what an action, a call or a return does to the rule's state.
 //! - `fresh` works a program's standings afresh, the lowest first, and counts the takings; `former` does
-//!   it as it was done before the rule could hear calls and returns, and has the sizes that all programs
-//!   once had; `acted_out` makes programs in which that comes to the same.
+//!   it as it was done before the rule could hear calls and returns; `acted_out` makes programs in which
+//!   that comes to the same.
 //! - `least` and `runs` find the same standings in two other ways: as a least set, and step by step
 //!   with a stack of open calls.
 //! - `analysis` has the sheet, the counts and the findings of a program, and `blocked` says where its
 //!   runs are cut off.
 //! - `keeping` keeps of any sheet what has support back to a start.
+//! - `saved` has the two forms of a saved sheet, by the sizes that all programs once had.
 //! - `groups` says which routines an inside-out repair reopens; `inside_out` follows the repair
 //!   itself.
 //!
@@ -59,6 +60,7 @@ pub mod program;
 pub mod ranges;
 pub mod refusals;
 pub mod runs;
+pub mod saved;
 pub mod standing;
 pub mod table;
 pub mod write;

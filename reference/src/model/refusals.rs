@@ -31,11 +31,14 @@ pub const STEPS_FULL: u32 = 16;
 pub const FOREIGN_SHEET: u32 = 17;
 // Of a fresh working with a limit.
 pub const GAVE_UP: u32 = 22;
+// Of moving a saved sheet: by the program, and by what is to be moved.
+pub const NOT_FORMER: u32 = 24;
+pub const FOREIGN_SAVED: u32 = 25;
 // Of the input of `bench`.
 pub const INPUT_LONG: u32 = 18;
 
 /// How many numbers there are to answer with: every refusal's, and 0 for none.
-pub const ANSWERS: usize = 24;
+pub const ANSWERS: usize = 26;
 
 /// Why a file is refused: all faults of the line that decides, lowest first, and that line's number,
 /// counted from 1. Where its table decides, the one fault is that of the first faulty pair, and where its

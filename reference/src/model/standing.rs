@@ -40,6 +40,20 @@ impl Standing {
         }
     }
 
+    /// The standing that the numbers f n r q say.
+    pub fn of_numbers(numbers: &[u8]) -> Standing {
+        Standing {
+            routine: numbers[0],
+            place: numbers[1],
+            root: numbers[2],
+            state: numbers[3],
+        }
+    }
+
+    pub fn numbers(self) -> [u8; 4] {
+        [self.routine, self.place, self.root, self.state]
+    }
+
     /// The standing at another place of the same activation.
     pub fn at(self, place: u8, state: u8) -> Standing {
         Standing {

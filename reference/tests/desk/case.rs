@@ -1,5 +1,5 @@
 //! A file to ask about, and what is lent with it. The comparisons of the fresh working, of the list of
-//! findings and of the list of where runs are cut off share this.
+//! findings, of the list of where runs are cut off and of moving saved sheets share this.
 
 use super::lent::Lent;
 use reference::generate::random::Random;

@@ -10,12 +10,13 @@ pub mod trial;
 use reference::model::analysis::NONE;
 use reference::model::blocked::Blocked;
 use reference::model::calls::files::FaultyPair;
-use reference::model::calls::repairs::{Buffers, Function, Repaired};
+use reference::model::calls::repairs::{Buffers, Function, Held, Repaired};
 use reference::model::calls::sheets::Counts;
 use reference::model::calls::sizes::{SizesOfExchange, SizesOfFile};
 use reference::model::calls::Answer;
 use reference::model::change::Form;
 use reference::model::program::Program;
+use reference::model::saved::Way;
 use reference::model::standing::marked;
 use reference::model::write::write as write_program;
 
@@ -211,6 +212,45 @@ fn exchange(
         forward(binding::exchange_forward(
             file, marks, text, output, work, new,
         ))
+    }
+}
+
+/// Moving a saved sheet, with NULL for each buffer of no bytes. An old sheet is lent as the sheet, and
+/// frames are lent as the text.
+pub fn move_saved(way: Way, file: &[u8], lent: &mut Buffers) -> Answer<u32> {
+    let file = unless_empty(file);
+    let output = unless_empty_mut(lent.output);
+    let work = unless_empty_mut(lent.work);
+    let answer = match way {
+        Way::Over => binding::marks_to_frames(file, unless_empty(lent.sheet), output, work),
+        Way::Back => binding::frames_to_marks(file, unless_empty(lent.text), output, work),
+    };
+    in_words(answer, |[written]| written)
+}
+
+/// A saved sheet moved by the library alone, into an output of this length: what it writes, or the
+/// refusal's number.
+pub fn moved(way: Way, file: &[u8], given: &[u8], output: usize) -> Result<Vec<u8>, u32> {
+    let mut held = held(given, given, output, sheet_length(file));
+    let answer = move_saved(way, file, &mut held.lend());
+    assert_eq!(answer.line, 0);
+    assert!(held.work.iter().all(|&byte| byte == 0));
+    let (written, rest) = held.output.split_at(answer.value as usize);
+    assert!(rest.iter().all(|&byte| byte == 7));
+    match answer.refusal {
+        0 => Ok(written.to_vec()),
+        refusal => Err(refusal),
+    }
+}
+
+/// A sheet, a text, and an output and a working buffer of these lengths, filled with sevens.
+pub fn held(sheet: &[u8], text: &[u8], output: usize, work: usize) -> Held {
+    Held {
+        sheet: sheet.to_vec(),
+        text: text.to_vec(),
+        output: vec![7; output],
+        work: vec![7; work],
+        second: Vec::new(),
     }
 }
 

@@ -46,10 +46,10 @@ fn written(reading: &Reading, output: &mut [u8]) -> Result<u32, Refused> {
     Ok(put(&write(program), output))
 }
 
-/// Puts a file at an output's start, and says how long it is.
-pub fn put(file: &[u8], output: &mut [u8]) -> u32 {
-    output[..file.len()].copy_from_slice(file);
-    file.len() as u32
+/// Puts what is written at an output's start, and says how long it is.
+pub fn put(written: &[u8], output: &mut [u8]) -> u32 {
+    output[..written.len()].copy_from_slice(written);
+    written.len() as u32
 }
 
 #[cfg(test)]

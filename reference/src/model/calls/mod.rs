@@ -6,10 +6,12 @@
 //! - `sheets` has those that take a sheet too: the fresh working, the list of findings, the list of where
 //!   runs are cut off, the keeping.
 //! - `repairs` has the two repairs.
+//! - `saved` has those that move a saved sheet from one form to the other.
 //! - `sizes` has those that say how long the buffers of the others have to be.
 
 pub mod files;
 pub mod repairs;
+pub mod saved;
 pub mod sheets;
 pub mod sizes;
 
