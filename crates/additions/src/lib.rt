@@ -1,6 +1,8 @@
 // An add by the inside-out repair: it does what the forward one does, and tells the routines that have gained a
 // configuration by it. The adds that come here were not refused and the marks are the program's own (refusals 12 to 17,
 // 21): hence each `requires`.
+#![tactic(auto)]
+
 ghost use Rattle.std.specs.Prelude.{◌≡◌, length};
 ghost use Rattle.program.specs.Chosen.{sizes_of, numbers};
 ghost use Rattle.program.specs.WellFormed.{WellFormed};
@@ -25,7 +27,7 @@ use program::DecodedProgram;
 use program::sizes::{MARKS_MOST, Sizes};
 
 // The changed program, and the routines that are told as reanalyzed.
-#[derive(Drop)]
+#[derive(Clone, Copy)]
 pub struct Reworked {
     pub program: DecodedProgram,
     pub routines: Routines,
@@ -47,7 +49,7 @@ fn add_step_beside(
         work.new
         × FlagsOf (Gained (program_of p) (edited_program (Add s) (program_of p))) result.routines.flags }
 {
-    let _copied = bytes::copy(marks, old);
+    let _copied = base::bytes::copy(marks, old);
     let program = add_step(z, p, s, marks, work);
     let routines = gained(z, old, marks);
     Reworked { program, routines }
@@ -89,7 +91,7 @@ fn add_routine_beside(
         × FlagsOf (Gained (emptied x.routine (program_of p)) (exchanged_program (exchange_of x) (program_of p)))
         result.routines.flags }
 {
-    let _copied = bytes::copy(marks, past);
+    let _copied = base::bytes::copy(marks, past);
     let program = add_routine(z, p, x, marks, work);
     let routines = gained(z, past, marks);
     Reworked { program, routines }

@@ -1,4 +1,6 @@
 // The full analysis of a file's program, and the list of its violations.
+#![tactic(auto)]
+
 pub mod own;
 
 ghost use Rattle.std.specs.Prelude.{◌≡◌, length};
@@ -22,14 +24,14 @@ use violations::{count_violations, first_violation};
 use worklist::run::{Stop, analyze_program};
 
 // The counts of configurations, violations and iterations; or a refusal, at a line.
-#[derive(Drop)]
+#[derive(Clone, Copy)]
 pub enum AnalyzeAnswer {
     Counts(usize, usize, usize),
     Refused(u8, usize),
 }
 
 // The number of a violation; or there is none; or a refusal, at a line.
-#[derive(Drop)]
+#[derive(Clone, Copy)]
 pub enum NextAnswer {
     Found(usize),
     Nothing,
@@ -54,7 +56,7 @@ fn hand_over(
         marks.old) }
 {
     if stop.ended {
-        let _copied = bytes::copy(worked, marks);
+        let _copied = base::bytes::copy(worked, marks);
         let rule = p.automaton;
         let rejecting = rejecting_flags(rule);
         let flags = rejecting.flags;

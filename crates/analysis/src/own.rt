@@ -22,7 +22,7 @@ pub fn is_own(p: DecodedProgram, marks: &[u8], work: &mut [u8]) -> bool
 {
     let z = sizes_of(p);
     let _stop = analyze_program(z, p, work, enough_iterations(z));
-    let own = check::same(marks, work);
+    let own = marks == work;
     clear(work);
     own
 }

@@ -1,5 +1,7 @@
 // The numbers of the answers, as C receives them. What an answer holds fits 32 bits, since the definitions say so: hence
 // each `requires`.
+#![tactic(auto)]
+
 ghost use Rattle.std.specs.Prelude.{◌≡◌};
 ghost use Rattle.program.specs.Chosen.{numbers};
 ghost use Rattle.program.specs.Reading.{refusal, refusal_line};
@@ -23,7 +25,7 @@ use writer::WriteAnswer;
 // Told in the place of a number where a search finds none.
 const NONE: u32 = 4294967295;
 
-#[derive(Drop)]
+#[derive(Clone, Copy)]
 pub struct VerdictNumbers {
     pub refusal: u32,
     pub line: u32,
@@ -46,7 +48,7 @@ pub fn verdict_numbers(v: Verdict) -> VerdictNumbers
     }
 }
 
-#[derive(Drop)]
+#[derive(Clone, Copy)]
 pub struct WriteNumbers {
     pub refusal: u32,
     pub line: u32,
@@ -72,7 +74,7 @@ pub fn write_numbers(a: WriteAnswer) -> WriteNumbers
     }
 }
 
-#[derive(Drop)]
+#[derive(Clone, Copy)]
 pub struct AnalyzeNumbers {
     pub refusal: u32,
     pub line: u32,
@@ -106,7 +108,7 @@ pub fn analyze_numbers(a: AnalyzeAnswer) -> AnalyzeNumbers
     }
 }
 
-#[derive(Drop)]
+#[derive(Clone, Copy)]
 pub struct NextNumbers {
     pub refusal: u32,
     pub line: u32,
@@ -136,7 +138,7 @@ pub fn next_numbers(a: NextAnswer) -> NextNumbers
     }
 }
 
-#[derive(Drop)]
+#[derive(Clone, Copy)]
 pub struct BlockNumbers {
     pub refusal: u32,
     pub line: u32,
@@ -172,7 +174,7 @@ pub fn block_numbers(a: BlockAnswer) -> BlockNumbers
     }
 }
 
-#[derive(Drop)]
+#[derive(Clone, Copy)]
 pub struct RepairNumbers {
     pub refusal: u32,
     pub line: u32,
@@ -202,7 +204,7 @@ pub fn repair_numbers(a: RepairAnswer) -> RepairNumbers
     }
 }
 
-#[derive(Drop)]
+#[derive(Clone, Copy)]
 pub struct SizesNumbers {
     pub routines: u32,
     pub nodes: u32,
@@ -232,7 +234,7 @@ pub fn sizes_numbers(v: Verdict, z: Sizes) -> SizesNumbers
     }
 }
 
-#[derive(Drop)]
+#[derive(Clone, Copy)]
 pub struct PairNumbers {
     pub state: u32,
     pub action: u32,
@@ -248,7 +250,7 @@ pub fn pair_numbers(x: FaultyPair) -> PairNumbers
     }
 }
 
-#[derive(Drop)]
+#[derive(Clone, Copy)]
 pub struct RoomNumbers {
     pub refusal: u32,
     pub line: u32,

@@ -9,7 +9,7 @@ use base::flags::set_flag;
 use tables::in_use;
 
 // A flag for each state that there may be.
-#[derive(Drop)]
+#[derive(Clone, Copy)]
 pub struct StateFlags {
     pub flags: [u8; MAX_STATES],
 }

@@ -6,7 +6,7 @@ ghost use Rattle.automaton.specs.NextStates.{in_range};
 use crate::sizes::{FIRST_CALL, FIRST_RETURN};
 
 // How many routines, states and actions a program has.
-#[derive(Drop)]
+#[derive(Clone, Copy)]
 pub struct Range {
     pub routines: u8,
     pub states: u8,

@@ -1,4 +1,6 @@
 // The automaton by value, and the questions that are asked of it.
+#![tactic(auto)]
+
 pub mod flags;
 pub mod labels;
 pub mod next;
@@ -12,7 +14,7 @@ use sizes::MAX_STATES;
 use transitions::Transitions;
 
 // What the automaton sees of a run.
-#[derive(Drop)]
+#[derive(Clone, Copy)]
 pub enum Event {
     Action(u8),
     Call(u8),
@@ -20,13 +22,13 @@ pub enum Event {
 }
 
 // A list of states, ascending: the first `count` are in use.
-#[derive(Drop)]
+#[derive(Clone, Copy)]
 pub struct States {
     pub count: usize,
     pub list: [u8; MAX_STATES],
 }
 
-#[derive(Drop)]
+#[derive(Clone, Copy)]
 pub struct DecodedAutomaton {
     pub states: u8,
     pub actions: u8,

@@ -16,13 +16,13 @@ use base::flags::{is_set, set_flag};
 use tables::in_use;
 
 // A set for each label and state.
-#[derive(Drop)]
+#[derive(Clone, Copy)]
 pub struct NextStates {
     pub sets: [u16; NEXT_STATES_SIZE],
 }
 
 // A flag for each label that some transition has.
-#[derive(Drop)]
+#[derive(Clone, Copy)]
 pub struct HeardLabels {
     pub flags: [u8; MAX_LABELS],
 }

@@ -6,14 +6,14 @@ ghost use Rattle.automaton.specs.Decoded.{transition_keys_of, transition_of};
 use crate::sizes::MAX_TRANSITIONS;
 
 // The keys of transitions, ascending: the first `count` are in use.
-#[derive(Drop)]
+#[derive(Clone, Copy)]
 pub struct Transitions {
     pub count: usize,
     pub keys: [u32; MAX_TRANSITIONS],
 }
 
 // A transition as its key says it.
-#[derive(Drop)]
+#[derive(Clone, Copy)]
 pub struct DecodedTransition {
     pub before: u32,
     pub label: u32,

@@ -1,5 +1,7 @@
 // Reads a program file and then edits from standard input, and prints what the library says of each. The first argument
 // chooses the repair; what is printed is the same with either.
+#![tactic(auto)]
+
 ghost use Rattle.std.specs.Prelude.{◌≤◌, length};
 
 use input::INPUT_SIZE;

@@ -1,4 +1,6 @@
 // The list of configurations at which runs of a file's program are cut off.
+#![tactic(auto)]
+
 ghost use Rattle.std.specs.Prelude.{◌≡◌, length};
 ghost use Rattle.program.specs.Chosen.{sizes_of, numbers};
 ghost use Rattle.program.specs.WellFormed.{WellFormed};
@@ -16,7 +18,7 @@ use program::{DecodedProgram, Length, Verdict};
 
 // The number of a configuration and the place of the edge that is not allowed there; or there is none; or a refusal, at
 // a line.
-#[derive(Drop)]
+#[derive(Clone, Copy)]
 pub enum BlockAnswer {
     Found(usize, usize),
     Nothing,

@@ -1,5 +1,7 @@
 // Where marks say that runs are cut off: the search for the first such configuration, and for the edge that the
 // automaton does not allow there.
+#![tactic(auto)]
+
 ghost use Rattle.std.specs.Prelude.{◌≡◌, true, ◌<◌, length};
 ghost use Rattle.program.specs.Sizes.{max_routines, max_nodes};
 ghost use Rattle.program.specs.Chosen.{numbers, Admitted};
@@ -27,7 +29,7 @@ use tables::in_use;
 pub const NO_EDGE: usize = 4294967295;
 
 // Whether runs are cut off at a configuration, and by which edge.
-#[derive(Drop)]
+#[derive(Clone, Copy)]
 struct Cut {
     is_cut: bool,
     edge: usize,
@@ -35,7 +37,7 @@ struct Cut {
 
 // Where runs are cut off: the number of the configuration, which is past the marks where there is none, and the place
 // of the edge.
-#[derive(Drop)]
+#[derive(Clone, Copy)]
 pub struct Blocked {
     pub number: usize,
     pub edge: usize,

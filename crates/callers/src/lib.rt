@@ -1,4 +1,6 @@
 // Who waits for a summary: whatever is marked before a call that can give its root becomes pending again.
+#![tactic(auto)]
+
 ghost use Rattle.std.specs.Prelude.{◌<◌, length, get_or};
 ghost use Rattle.index.specs.Index.{Indexed};
 ghost use Rattle.program.specs.Sizes.{max_routines};

@@ -21,7 +21,7 @@ use tables::in_use;
 pub const LEADS_SIZE: usize = MAX_ROUTINES * MAX_ROUTINES;
 
 // The flag at the place of (f, g): f leads to g by one call or more.
-#[derive(Drop)]
+#[derive(Clone, Copy)]
 pub struct Graph {
     pub leads: [u8; LEADS_SIZE],
 }

@@ -8,7 +8,7 @@ ghost use Rattle.callgraph.specs.Parts.{joined_flag};
 use program::sizes::MAX_ROUTINES;
 
 // flags[f]: routine f is one of the set.
-#[derive(Drop)]
+#[derive(Clone, Copy)]
 pub struct Routines {
     pub flags: [u8; MAX_ROUTINES],
 }

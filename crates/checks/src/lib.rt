@@ -1,4 +1,6 @@
 // The checks that a call makes before it touches anything: the file, and the lengths of the buffers that it is lent.
+#![tactic(auto)]
+
 ghost use Rattle.std.specs.Prelude.{◌≡◌, [], ◌∷◌};
 ghost use Rattle.program.specs.Checks.{row, first_met, verdict_of, followed_by, other_than, under, checked_by};
 ghost use Rattle.checks.specs.Checked.{Checked};

@@ -11,7 +11,7 @@ use reach::spans::summary_count;
 use words::set_at;
 
 // A bit for each summary: whether its exit is marked.
-#[derive(Drop)]
+#[derive(Clone, Copy)]
 pub struct Summaries {
     pub words: [u64; KNOWN_WORDS],
 }

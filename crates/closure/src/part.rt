@@ -17,7 +17,7 @@ use words::set_at;
 use worklist::pending::follow_pending;
 
 // What is pending, a bit for each configuration.
-#[derive(Drop)]
+#[derive(Clone, Copy)]
 pub struct Pending {
     pub words: [u64; PENDING_WORDS],
 }

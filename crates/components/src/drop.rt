@@ -28,7 +28,7 @@ const FIRST_TURN: usize = MAX_ROUTINES;
 const END_TURN: usize = MAX_ROUTINES * MAX_ROUTINES + MAX_ROUTINES;
 
 // The routines that are done, and those of them that were reanalyzed.
-#[derive(Drop)]
+#[derive(Clone, Copy)]
 pub struct Progress {
     pub done: Routines,
     pub reanalyzed: Routines,

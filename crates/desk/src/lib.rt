@@ -1,4 +1,6 @@
 // The functions for C: bytes are handed over, and numbers come back. Every number is set on every call.
+#![tactic(auto)]
+
 ghost use Rattle.std.specs.Prelude.{[]};
 ghost use Rattle.desk.specs.Entries.{Gives, read, sizes, faulty-pair, write, analyze, next_violation, next_blocked, prune};
 ghost use Rattle.desk.specs.Entries.{marks_to_frames, frames_to_marks, repair_forward};

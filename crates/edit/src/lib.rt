@@ -1,16 +1,18 @@
 // Edits of a program: one step is added, dropped, or given another label; judged by the program's edges, and made.
+#![tactic(auto)]
+
 pub mod apply;
 pub mod judge;
 mod key;
 
 // A label is an action, or a call of a routine.
-#[derive(Drop)]
+#[derive(Clone, Copy)]
 pub enum Label {
     Action(u8),
     Call(u8),
 }
 
-#[derive(Drop)]
+#[derive(Clone, Copy)]
 pub struct Step {
     pub routine: u8,
     pub source: u8,
@@ -18,7 +20,7 @@ pub struct Step {
     pub target: u8,
 }
 
-#[derive(Drop)]
+#[derive(Clone, Copy)]
 pub enum Edit {
     Add(Step),
     Drop(Step),
@@ -26,7 +28,7 @@ pub enum Edit {
 }
 
 // An edit that was read, or the refusal of its line (12 to 16).
-#[derive(Drop)]
+#[derive(Clone, Copy)]
 pub enum EditRead {
     Read(Edit),
     Refused(u8),

@@ -1,4 +1,6 @@
 // Edit lines: the edit that a buffer says for a program, or its refusal.
+#![tactic(auto)]
+
 mod line;
 
 ghost use Rattle.std.specs.Prelude.{◌≡◌};

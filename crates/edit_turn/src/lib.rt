@@ -1,4 +1,6 @@
 // The turn of an edit line: what is held is repaired by it, and the new block or the refusal is printed.
+#![tactic(auto)]
+
 ghost use Rattle.std.specs.Prelude.{◌≡◌};
 ghost use Rattle.repair.specs.Desk.{file_by, after};
 ghost use Rattle.report.specs.Report.{Printed};
@@ -13,7 +15,7 @@ use transcript::{Held, Turn, hold, put_held, within};
 use writer::WriteAnswer;
 
 // A repair's answer, and what is held after it.
-#[derive(Drop)]
+#[derive(Clone, Copy)]
 struct Edited {
     answer: WriteAnswer,
     held: Held,

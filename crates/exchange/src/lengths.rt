@@ -12,7 +12,7 @@ use program::chosen::sizes_of;
 use program::sizes::{Sizes, length_of};
 
 // How long the second buffer and the working buffer have to be.
-#[derive(Drop)]
+#[derive(Clone, Copy)]
 pub struct Lengths {
     pub second: usize,
     pub work: usize,

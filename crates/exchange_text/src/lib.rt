@@ -1,4 +1,6 @@
 // The text of an exchange: the exchange that it says for a program, or its refusal.
+#![tactic(auto)]
+
 mod line;
 mod scan;
 
@@ -18,7 +20,7 @@ use scan::{after_line, conclude, start_scan};
 use text::read_line;
 
 // The exchange that was read, and 0; or the refusal of its text, with any exchange beside it.
-#[derive(Drop)]
+#[derive(Clone, Copy)]
 pub struct DecodedRead {
     pub refusal: u8,
     pub exchange: DecodedExchange,

@@ -25,7 +25,7 @@ use text::Line;
 
 // The key of the frame before; whether a line was out of range (13), or astray (21); whether there were more edges than
 // a table has room for (16), and those that have room.
-#[derive(Drop)]
+#[derive(Clone, Copy)]
 pub struct Scan {
     pub last: u64,
     pub outside: bool,

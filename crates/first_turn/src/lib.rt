@@ -1,4 +1,6 @@
 // The first turn: the file of an input is read and analyzed, and its block or its refusal is printed.
+#![tactic(auto)]
+
 ghost use Rattle.std.specs.Prelude.{◌≡◌, ◌≤◌, length};
 ghost use Rattle.input.specs.Input.{input_size};
 ghost use Rattle.program.specs.Sizes.{marks_most};

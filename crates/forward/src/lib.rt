@@ -3,6 +3,8 @@
 // edges of the routine, in the sizes before, and then the add of all new ones, in sizes that hold both programs. The
 // changes that come here were not refused (12 to 16, 21), the buffers have their lengths (9 and 11), and but for a drop
 // the marks must be the program's own (17): hence each `requires`.
+#![tactic(auto)]
+
 ghost use Rattle.std.specs.Prelude.{◌≡◌, length};
 ghost use Rattle.program.specs.Chosen.{sizes_of, numbers};
 ghost use Rattle.program.specs.WellFormed.{WellFormed};

@@ -1,4 +1,6 @@
 // The frames of a file: a line's kind, its numbers and its key, and the edge or the row that it says.
+#![tactic(auto)]
+
 ghost use Rattle.std.specs.Prelude.{◌≡◌, ◌<◌};
 ghost use Rattle.text.specs.Lines.{max_numbers};
 ghost use Rattle.rows.specs.Decoded.{row_of};

@@ -1,5 +1,7 @@
 // The routines that have gained a configuration, by two lists of marks: those that have a mark in the new one that is
 // not in the old.
+#![tactic(auto)]
+
 ghost use Rattle.std.specs.Prelude.{◌≡◌, length};
 ghost use Rattle.program.specs.Chosen.{numbers, Admitted};
 ghost use Rattle.reach.specs.Configurations.{Usable};

@@ -1,6 +1,8 @@
 // An index of a table of edges: the edges from one node, and those that call one routine, each as a chained list in
 // the order of the table. Whoever asks for these goes over no other edge. The edges of one routine are a part of the
 // table, and it is found by where it begins.
+#![tactic(auto)]
+
 pub mod part;
 pub mod sizes;
 
@@ -15,7 +17,7 @@ use program::sizes::{MAX_NODES, MAX_ROUTINES};
 use sizes::{FIRST_CALLERS, INDEX_SIZE, NEXT_CALLERS, NEXT_EDGES};
 
 // An edge is its number in the table, and the count of edges stands for none.
-#[derive(Drop)]
+#[derive(Clone, Copy)]
 pub struct Index {
     pub places: [u16; INDEX_SIZE],
 }

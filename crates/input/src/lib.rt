@@ -1,4 +1,6 @@
 // The input of bench: where a line of it ends, and where its file does.
+#![tactic(auto)]
+
 ghost use Rattle.std.specs.Prelude.{◌≡◌, ◌<◌, length, drop};
 ghost use Rattle.text.specs.Lines.{lines, first_line};
 ghost use Rattle.input.specs.Input.{starts_end, file_size, first_size};

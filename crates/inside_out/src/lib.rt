@@ -2,6 +2,8 @@
 // replace is the drop and then the add; an exchange is the drop of all edges of the routine and then the add of all new
 // ones. The routines that are reanalyzed are told. The changes that come here were not refused and the marks are the
 // program's own (refusals 12 to 17, 21): hence each `requires`.
+#![tactic(auto)]
+
 ghost use Rattle.std.specs.Prelude.{◌≡◌, length};
 ghost use Rattle.program.specs.Chosen.{sizes_of, numbers};
 ghost use Rattle.program.specs.WellFormed.{WellFormed};

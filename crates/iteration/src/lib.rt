@@ -1,4 +1,6 @@
 // One iteration: the configuration of a number is taken.
+#![tactic(auto)]
+
 ghost use Rattle.std.specs.Prelude.{◌≡◌, ℕ, ◌<◌, ◌+◌};
 ghost use Rattle.index.specs.Index.{Indexed};
 ghost use Rattle.program.specs.Chosen.{numbers, Admitted};

@@ -1,4 +1,6 @@
 // The refusal that one line meets (1 to 7): the lowest.
+#![tactic(auto)]
+
 ghost use Rattle.std.specs.Prelude.{◌≡◌};
 ghost use Rattle.program.specs.Reading.{lowest};
 ghost use Rattle.judge.specs.Judged.{judged_by};

@@ -1,6 +1,8 @@
 // What is asked of the kept configurations while support is sought: whether a move leads on from one, whether one calls
 // and gives a root, whether one calls and is returned to. `next` has the sets of next states of the automaton: by them
 // actions, calls and returns move.
+#![tactic(auto)]
+
 ghost use Rattle.std.specs.Prelude.{◌≡◌, ◌<◌};
 ghost use Rattle.base.specs.Bits.{bit};
 ghost use Rattle.automaton.specs.NextStates.{set_at};

@@ -1,4 +1,6 @@
 // Marked configurations as frames, a line each.
+#![tactic(auto)]
+
 ghost use Rattle.std.specs.Prelude.{◌≡◌, [], map, ◌<◌, length, get_or};
 ghost use Rattle.automaton.specs.Sizes.{max_states};
 ghost use Rattle.program.specs.Chosen.{numbers, Admitted};

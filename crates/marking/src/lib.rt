@@ -2,6 +2,8 @@
 // in words. Each function returns a number below which nothing is pending, if there was nothing below the one it was
 // given. None asks for the length of the marks: a number past them marks nothing. A base is a configuration's number:
 // hence each `requires`.
+#![tactic(auto)]
+
 ghost use Rattle.std.specs.Prelude.{◌<◌, ◌≤◌};
 ghost use Rattle.reach.specs.Configurations.{byte_numbers};
 ghost use Rattle.reach.specs.Worklist.{mark as marked, wake as woken};

@@ -1,5 +1,7 @@
 // The order of the frames: what a line is refused for by how much was read before it. It is out of order (4), a table is
 // full (6), or the end frame's count is wrong (7).
+#![tactic(auto)]
+
 ghost use Rattle.std.specs.Prelude.{◌≡◌};
 ghost use Rattle.program.specs.Reading.{due, in_place, ordered, full, miscounted};
 
@@ -10,7 +12,7 @@ use rows::MAX_ROWS;
 use text::Line;
 
 // How much was read before a line: frames, routine frames, edges, transitions and rows.
-#[derive(Drop)]
+#[derive(Clone, Copy)]
 pub struct Counts {
     pub frames: usize,
     pub nodes: usize,

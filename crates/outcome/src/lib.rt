@@ -1,5 +1,7 @@
 // The outcome of reading a file: refused by a number at a line, or accepted with its program. Rows are judged as a table
 // (19, 20), which tells its first faulty pair, and the sizes (23) where all lines are good.
+#![tactic(auto)]
+
 ghost use Rattle.std.specs.Prelude.{◌≡◌, map, ◌≤◌};
 ghost use Rattle.automaton.specs.Sizes.{max_states, max_actions};
 ghost use Rattle.automaton.specs.Decoded.{transition_keys_of, transition_of};

@@ -1,5 +1,7 @@
 // The pass over a component (paper: working a group anew): its routines are worked by their own edges, from their roots
 // and the summaries of the routines that they call outside, in rounds until a round marks nothing.
+#![tactic(auto)]
+
 ghost use Rattle.std.specs.Prelude.{◌≡◌, ◌<◌, length};
 ghost use Rattle.automaton.specs.NextStates.{Answers};
 ghost use Rattle.program.specs.Chosen.{numbers};

@@ -9,14 +9,14 @@ use crate::sizes::MAX_EDGES;
 use automaton::sizes::FIRST_CALL;
 
 // The keys of edges, ascending: the first `count` are in use.
-#[derive(Drop)]
+#[derive(Clone, Copy)]
 pub struct Edges {
     pub count: usize,
     pub keys: [u32; MAX_EDGES],
 }
 
 // An edge as its key says it.
-#[derive(Drop)]
+#[derive(Clone, Copy)]
 pub struct DecodedEdge {
     pub routine: u8,
     pub source: u8,

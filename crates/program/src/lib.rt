@@ -1,4 +1,6 @@
 // The program of a file, decoded: counts, nodes, edges and the automaton, by value.
+#![tactic(auto)]
+
 pub mod chosen;
 pub mod edges;
 pub mod frames;
@@ -15,14 +17,14 @@ use edges::{Edges, no_edges};
 use sizes::MAX_ROUTINES;
 
 // How many nodes each routine has: the first `count` are in use.
-#[derive(Drop)]
+#[derive(Clone, Copy)]
 pub struct Nodes {
     pub count: usize,
     pub list: [u8; MAX_ROUTINES],
 }
 
 // The decoded program.
-#[derive(Drop)]
+#[derive(Clone, Copy)]
 pub struct DecodedProgram {
     pub routines: u8,
     pub nodes: Nodes,
@@ -31,21 +33,21 @@ pub struct DecodedProgram {
 }
 
 // A file is accepted, or refused by a number at a line.
-#[derive(Drop)]
+#[derive(Clone, Copy)]
 pub enum Verdict {
     Accepted,
     Refused(u8, usize),
 }
 
 // The state and the action that a table of rows is refused for; 0 and 0 where there is none.
-#[derive(Drop)]
+#[derive(Clone, Copy)]
 pub struct FaultyPair {
     pub state: u8,
     pub action: u8,
 }
 
 // The verdict on a file, its program, and the pair that its table is refused for.
-#[derive(Drop)]
+#[derive(Clone, Copy)]
 pub struct Reading {
     pub verdict: Verdict,
     pub program: DecodedProgram,
@@ -53,7 +55,7 @@ pub struct Reading {
 }
 
 // The length of a buffer that a call is lent; or the call has no such buffer.
-#[derive(Drop)]
+#[derive(Clone, Copy)]
 pub enum Length {
     NotAsked,
     Of(usize),

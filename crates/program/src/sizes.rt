@@ -16,7 +16,7 @@ pub const OUTPUT_SIZE: usize = 7712;
 
 // The sizes that a program chooses: how many routines, the largest count of nodes of one, and how many states. Every
 // number of a configuration is computed in them.
-#[derive(Drop)]
+#[derive(Clone, Copy)]
 pub struct Sizes {
     pub routines: u8,
     pub nodes: u8,

@@ -1,4 +1,6 @@
 // What is known after some lines of a file: at the start, and after a line without a fault.
+#![tactic(auto)]
+
 ghost use Rattle.std.specs.Prelude.{◌≡◌, true, List, [], ◌<◌, ◌^◌, eqb, length, take};
 ghost use Rattle.automaton.specs.Sizes.{max_states, max_transitions};
 ghost use Rattle.automaton.specs.Decoded.{states_of, transition_keys_of, transition_of, automaton_of};
@@ -22,7 +24,7 @@ use tables::{with_byte, with_key};
 use text::Line;
 
 // What is known after some frames, but for the rows.
-#[derive(Drop)]
+#[derive(Clone, Copy)]
 pub struct Reader {
     pub last: u64,
     pub frames: usize,

@@ -1,5 +1,7 @@
 // Pruning (paper: the keeping): of marks those stay that have support back to a start through marked configurations. The
 // marks and what is kept of them have a byte for each configuration: hence each `requires` about their lengths.
+#![tactic(auto)]
+
 ghost use Rattle.std.specs.Prelude.{◌≡◌, cond, ◌&&◌, map, ◌+◌, ◌*◌, ◌<◌, length, set};
 ghost use Rattle.program.specs.Chosen.{numbers, Admitted};
 ghost use Rattle.automaton.specs.Flags.{Starts};
@@ -230,7 +232,7 @@ pub fn prune_program(z: Sizes, p: DecodedProgram, marks: &mut [u8], work: &mut [
         × (work.new ≡ none_set z) }
 {
     keep(z, p, marks, work);
-    let _copied = bytes::copy(work, marks);
+    let _copied = base::bytes::copy(work, marks);
     clear(work);
 }
 

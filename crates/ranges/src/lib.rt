@@ -1,4 +1,6 @@
 // The ranges of a frame's numbers (5), and what bounds them.
+#![tactic(auto)]
+
 ghost use Rattle.std.specs.Prelude.{◌≡◌, get_or};
 ghost use Rattle.rows.specs.Rows.{row_fits};
 ghost use Rattle.program.specs.Program.{within, counts_fit, placed, edge_fits, transition_fits};
@@ -16,7 +18,7 @@ use tables::in_use;
 use text::Line;
 
 // What bounds the numbers of a frame.
-#[derive(Drop)]
+#[derive(Clone, Copy)]
 pub struct Limits {
     pub routines: u8,
     pub states: u8,

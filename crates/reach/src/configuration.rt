@@ -12,7 +12,7 @@ use automaton::sizes::MAX_STATES;
 use program::sizes::{Sizes, with_digit};
 
 // A configuration, its parts one by one.
-#[derive(Drop)]
+#[derive(Clone, Copy)]
 pub struct Configuration {
     pub routine: u8,
     pub node: u8,

@@ -10,7 +10,7 @@ use crate::spans::{Spans, spans_of};
 use program::sizes::{Sizes, length_of};
 
 // How often a span was taken off a number, and what is left of it.
-#[derive(Drop)]
+#[derive(Clone, Copy)]
 struct Taken {
     times: usize,
     left: usize,

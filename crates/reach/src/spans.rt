@@ -24,7 +24,7 @@ pub fn routine_span(z: Sizes) -> usize
 }
 
 // Both, for whoever needs them often.
-#[derive(Drop)]
+#[derive(Clone, Copy)]
 pub struct Spans {
     pub node: usize,
     pub routine: usize,

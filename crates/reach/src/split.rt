@@ -10,7 +10,7 @@ use crate::spans::{node_span, routine_span};
 use program::sizes::{Sizes, with_digit};
 
 // Those of how many numbers follow one another with one root, at one node and in one routine.
-#[derive(Drop)]
+#[derive(Clone, Copy)]
 pub struct Reciprocals {
     pub root: usize,
     pub node: usize,

@@ -1,4 +1,6 @@
 // Reading a file: the verdict, and the decoded program.
+#![tactic(auto)]
+
 ghost use Rattle.std.specs.Prelude.{◌≡◌, List, length};
 ghost use Rattle.rows.specs.Rows.{TableRow};
 ghost use Rattle.program.specs.Reading.{judge, read_file};

@@ -1,5 +1,7 @@
 // Whether a component is to be worked anew (paper: reopened): it holds the changed routine, or calls one outside whose
 // summaries are others than before.
+#![tactic(auto)]
+
 ghost use Rattle.std.specs.Prelude.{◌<◌, ◌≤◌, ◌⊎◌, length};
 ghost use Rattle.program.specs.WellFormed.{WellFormed};
 ghost use Rattle.program.specs.Decoded.{edge_of, program_of};

@@ -1,5 +1,7 @@
 // Repairs: one edit line changes a program, its marks become those of the changed program, and the new file is written.
 // Exchanges, which have a second buffer, are in the crate `rewrite`; an edit line has none.
+#![tactic(auto)]
+
 ghost use Rattle.std.specs.Prelude.{◌≡◌, true, [], eqb, ◌≤◌, length};
 ghost use Rattle.program.specs.Sizes.{output_size};
 ghost use Rattle.program.specs.Chosen.{sizes_of, numbers};
@@ -26,7 +28,7 @@ use writer::put::write_program;
 
 // So many bytes were written, and these routines were reanalyzed, a bit each; or nothing was done, and a refusal says
 // why, at which line.
-#[derive(Drop)]
+#[derive(Clone, Copy)]
 pub enum RepairAnswer {
     Repaired(usize, u32),
     Refused(u8, usize),

@@ -1,4 +1,6 @@
 // What bench prints: the block of a program and its marks, and the lines of refusals.
+#![tactic(auto)]
+
 mod put;
 
 ghost use Rattle.std.specs.Prelude.{◌≡◌, [], ◌∷◌, ◌/◌, ◌%◌, length};

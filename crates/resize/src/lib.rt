@@ -1,5 +1,7 @@
 // The marks of a set of configurations, in other sizes: an exchange may change the largest count of nodes, and with it
 // every number.
+#![tactic(auto)]
+
 ghost use Rattle.std.specs.Prelude.{◌≡◌, ◌<◌, length};
 ghost use Rattle.base.specs.Filled.{Filled};
 ghost use Rattle.program.specs.Chosen.{numbers};

@@ -1,5 +1,7 @@
 // Repairs by the text of an exchange: a whole routine of the program is exchanged, the marks of the new program go to a
 // second buffer, and its file is written. The old marks are only read.
+#![tactic(auto)]
+
 ghost use Rattle.std.specs.Prelude.{◌≡◌, true, eqb, ◌≤◌, length};
 ghost use Rattle.program.specs.Sizes.{output_size};
 ghost use Rattle.program.specs.Chosen.{sizes_of, numbers};
@@ -34,7 +36,7 @@ use writer::WriteAnswer;
 use writer::put::write_program;
 
 // An exchange, with the sizes of the program before it and after it.
-#[derive(Drop)]
+#[derive(Clone, Copy)]
 struct SizedExchange {
     before: Sizes,
     after: Sizes,
@@ -229,7 +231,7 @@ pub fn exchange_inside_out(
 
 // What an exchange has to be lent: the largest count of nodes of the new program, the length of its marks, and that of
 // the working buffer; or the first refusal of the file or the text.
-#[derive(Drop)]
+#[derive(Clone, Copy)]
 pub enum RoomAnswer {
     Needs(u8, usize, usize),
     Refused(u8, usize),

@@ -1,4 +1,6 @@
 // The roots that are on marks, the roots that occur, and the cut to these.
+#![tactic(auto)]
+
 pub mod cut;
 mod live;
 
@@ -14,7 +16,7 @@ use reach::configuration::entry_of;
 use reach::spans::ROOTS_SIZE;
 
 // A flag for each root of each routine.
-#[derive(Drop)]
+#[derive(Clone, Copy)]
 pub struct Roots {
     pub flags: [u8; ROOTS_SIZE],
 }

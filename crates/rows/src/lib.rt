@@ -1,5 +1,7 @@
 // The automaton's transitions as a table that people fill in: its rows by value, and what they say of each pair of a
 // state and an action.
+#![tactic(auto)]
+
 ghost use Rattle.std.specs.Prelude.{◌≡◌, cond, ◌&&◌, [], ◌∷◌, ◌++◌, map, ◌≤◌, ◌<◌, ltb, length, take};
 ghost use Rattle.automaton.specs.Sizes.{max_states, max_actions};
 ghost use Rattle.rows.specs.Rows.{max_rows, no_bit_from, pairs, meets, times_met, pair_refusal, next_state};
@@ -14,14 +16,14 @@ use tables::{in_use, with_key};
 pub const MAX_ROWS: usize = 256;
 
 // The keys of rows, ascending: the first `count` are in use.
-#[derive(Drop)]
+#[derive(Clone, Copy)]
 pub struct Rows {
     pub count: usize,
     pub keys: [u64; MAX_ROWS],
 }
 
 // What a table is refused for, or 0, the pair that decides, 0 and 0 where there is none, and its transitions.
-#[derive(Drop)]
+#[derive(Clone, Copy)]
 pub struct Table {
     pub refusal: u8,
     pub state: u8,
@@ -30,7 +32,7 @@ pub struct Table {
 }
 
 // How many rows meet a pair, and the next state that the first of them says.
-#[derive(Drop)]
+#[derive(Clone, Copy)]
 struct Met {
     times: usize,
     next: u8,

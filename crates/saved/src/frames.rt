@@ -27,7 +27,7 @@ fn is_line(s: &[u8], l: Line) -> bool
 {
     let mut line = [0u8; LINE_SIZE];
     let size = put_line(&mut line, 0, l);
-    check::same(s, &line[0..size])
+    s == &line[0..size]
 }
 
 // Does a text have, from this position on, the line of the configuration of this number? A position past its end is none,

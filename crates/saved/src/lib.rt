@@ -1,4 +1,6 @@
 // Saved marks: old ones, of before a program chose its sizes, are moved to frames, and frames back to old marks.
+#![tactic(auto)]
+
 mod frames;
 mod old;
 
@@ -68,7 +70,7 @@ fn write_marks(marks: &[u8], output: &mut [u8]) -> WriteAnswer
     if output.len() < size {
         return WriteAnswer::Refused(10, 0);
     }
-    let _copied = bytes::copy(marks, output);
+    let _copied = base::bytes::copy(marks, output);
     WriteAnswer::Written(size)
 }
 
@@ -83,7 +85,7 @@ fn move_over(p: DecodedProgram, marks: &[u8], output: &mut [u8], work: &mut [u8]
     let mut own = [0u8; OLD_MARKS_SIZE];
     analyze_old(p, &mut own);
     clear(work);
-    if check::same(marks, &own) {
+    if marks == own.as_slice() {
         return write_frames(marks, output);
     }
     WriteAnswer::Refused(25, 0)

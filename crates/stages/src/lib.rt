@@ -3,6 +3,8 @@
 // all new edges are added. The old marks are lent for reading. The exchanges that come here were not refused (12, 13,
 // 16, 21, 23), the marks are the program's own (17), and the buffers have their lengths (9 and 11): hence each
 // `requires`.
+#![tactic(auto)]
+
 ghost use Rattle.std.specs.Prelude.{◌≡◌, ◌≤◌, length, replicate};
 ghost use Rattle.program.specs.Chosen.{sizes_of, numbers};
 ghost use Rattle.program.specs.WellFormed.{WellFormed};
@@ -36,7 +38,7 @@ fn drop_copied(z: Sizes, p: DecodedProgram, f: u8, marks: &[u8], kept: &mut [u8]
     ensures { Shows z (Kept z (emptied f (program_of p)) marks.now) kept.new }
 {
     let size = kept.len();
-    let _copied = bytes::copy(marks, kept);
+    let _copied = base::bytes::copy(marks, kept);
     drop_routine(z, p, f, kept, &mut work[..size]);
 }
 
@@ -56,7 +58,7 @@ fn drop_copied_inside_out(
         × FlagsOf (Reanalyzed (program_of p) (emptied f (program_of p)) f) result.flags }
 {
     let size = own.len();
-    let _copied = bytes::copy(marks, own);
+    let _copied = base::bytes::copy(marks, own);
     drop_routine_inside_out(z, p, f, own, &mut work[..size])
 }
 

@@ -1,5 +1,7 @@
 // What follows from one configuration: by each edge from its node what the automaton allows is marked, and, where the
 // edge is a call, the entry of the called routine and the results of its known summaries.
+#![tactic(auto)]
+
 ghost use Rattle.std.specs.Prelude.{◌<◌, ◌≤◌, length, get_or};
 ghost use Rattle.automaton.specs.Sizes.{max_states};
 ghost use Rattle.index.specs.Index.{Indexed};

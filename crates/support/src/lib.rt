@@ -1,4 +1,6 @@
 // Whether a configuration (f, n, r, q) has support through kept ones: the search over edges and states.
+#![tactic(auto)]
+
 ghost use Rattle.std.specs.Prelude.{◌≡◌, ◌<◌};
 ghost use Rattle.program.specs.Sizes.{max_routines};
 ghost use Rattle.program.specs.Decoded.{edge_view};

@@ -1,4 +1,6 @@
 // Tables of keys: the first `count` entries of a slice are in use, and a count above its length means all of them.
+#![tactic(auto)]
+
 ghost use Rattle.std.specs.Prelude.{◌≡◌, [], ◌∷◌, ◌++◌, min, ◌+◌, ◌≤◌, ◌<◌, length, take};
 ghost use Rattle.tables.specs.Keys.{member, inserted_key, between, without_between, without_key, Holds, FirstFrom};
 

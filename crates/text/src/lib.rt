@@ -1,4 +1,6 @@
 // Lines of hexadecimal: reading one at a position, and writing one.
+#![tactic(auto)]
+
 ghost use Rattle.std.specs.Prelude.{◌≡◌, [], ◌∷◌, ◌<◌, ◌≤◌, ◌+◌, ◌*◌, length, take};
 ghost use Rattle.std.proofs.lemmas.List.Edits.{sets};
 ghost use Rattle.text.specs.Hex.{digit, joined, two_digits, hex_digit, hex, hex_line};
@@ -8,14 +10,14 @@ ghost use Rattle.text.specs.Lines.{max_numbers, line_of, line_at, grown};
 pub const MAX_NUMBERS: usize = 8;
 
 // The numbers of a line: how many there are, and the first of them.
-#[derive(Drop)]
+#[derive(Clone, Copy)]
 pub struct Line {
     pub count: usize,
     pub numbers: [u8; MAX_NUMBERS],
 }
 
 // A line, and the position of the next one.
-#[derive(Drop)]
+#[derive(Clone, Copy)]
 pub struct ReadLine {
     pub line: Line,
     pub next: usize,

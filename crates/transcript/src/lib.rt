@@ -1,6 +1,8 @@
 // What bench prints for an input, a turn after the other: one for the file, and then one for each edit line. Each turn
 // puts its text at the start of an output of 180,235 bytes, which every text fits. Here is what is held between two
 // turns, and its block.
+#![tactic(auto)]
+
 ghost use Rattle.std.specs.Prelude.{◌≡◌, ◌≤◌, length, take};
 ghost use Rattle.input.specs.Input.{input_size};
 ghost use Rattle.report.specs.Report.{block_text, Printed, block_size};
@@ -13,7 +15,7 @@ use report::BLOCK_SIZE;
 
 // What is held between two turns: the first `used` bytes of the file, and the first `size` of the marks. The bytes past
 // them are free.
-#[derive(Drop)]
+#[derive(Clone, Copy)]
 pub struct Held {
     pub file: [u8; INPUT_SIZE],
     pub used: usize,
@@ -22,7 +24,7 @@ pub struct Held {
 }
 
 // After a turn: how many bytes of the output are printed, where the next edit line starts, and what is held for it.
-#[derive(Drop)]
+#[derive(Clone, Copy)]
 pub struct Turn {
     pub size: usize,
     pub next: usize,
@@ -45,7 +47,7 @@ pub fn hold(file: &[u8], marks: [u8; MARKS_MOST], size: usize) -> Held
     ensures { held_of result ≡ record { file = file.entry.now; marks = take size marks } }
 {
     let mut copy = [0u8; INPUT_SIZE];
-    let used = bytes::copy(file, &mut copy);
+    let used = base::bytes::copy(file, &mut copy);
     Held {
         file: copy,
         used,

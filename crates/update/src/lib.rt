@@ -1,4 +1,6 @@
 // The marks after an edit: those of the program before it become those of the edited program, forward or inside-out.
+#![tactic(auto)]
+
 ghost use Rattle.std.specs.Prelude.{◌≡◌, length};
 ghost use Rattle.program.specs.Chosen.{sizes_of, numbers};
 ghost use Rattle.program.specs.WellFormed.{WellFormed};

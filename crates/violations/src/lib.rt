@@ -1,4 +1,6 @@
 // The violations that marks have: the count of them, and the search for one.
+#![tactic(auto)]
+
 ghost use Rattle.std.specs.Prelude.{◌≡◌, ◌<◌, length, get_or};
 ghost use Rattle.automaton.specs.Sizes.{max_states};
 ghost use Rattle.program.specs.Chosen.{numbers, Admitted};

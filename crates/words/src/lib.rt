@@ -1,4 +1,6 @@
 // Flags kept as bits of words, so that the first that is set is found a word at a time.
+#![tactic(auto)]
+
 ghost use Rattle.std.specs.Prelude.{◌≡◌, ◌≤◌, length, set};
 ghost use Rattle.base.specs.Flags.{is_set};
 ghost use Rattle.words.specs.Words.{max_words, flags_of, BitsFrom, NoneBelow, FirstFlag};

@@ -51,7 +51,7 @@ fn begin(z: Sizes, initial: States, marks: &mut [u8], pending: &mut [u64])
 }
 
 // Where an analysis stopped: how many iterations it made, and whether it had ended, with nothing pending.
-#[derive(Drop)]
+#[derive(Clone, Copy)]
 pub struct Stop {
     pub iterations: usize,
     pub ended: bool,

@@ -1,4 +1,6 @@
 // Writing a file's program back.
+#![tactic(auto)]
+
 pub mod put;
 
 ghost use Rattle.std.specs.Prelude.{◌≡◌};
@@ -9,7 +11,7 @@ use program::{Length, Verdict};
 use put::write_program;
 
 // So many bytes were written; or nothing was, and a refusal says why, at which line.
-#[derive(Drop)]
+#[derive(Clone, Copy)]
 pub enum WriteAnswer {
     Written(usize),
     Refused(u8, usize),

@@ -1,0 +1,54 @@
+-- `blocked::first_blocked` meets its contract: the tables are those of the program.
+use Prim.Native.Nat.{◌≤◌}
+use mathlib.Core.Path.{◌≡◌, sym}
+use native.Mathlib.Omega.{arith}
+use lib.ListN.{length, take}
+use lib.Seq.{length-take-le}
+use borrow.Author.Rules.{rules}
+use Rattle.program.specs.Sizes.{max_edges}
+use Rattle.program.specs.Decoded.{program_of}
+use Rattle.program.proofs.ProgramRanged.{ranged}
+use Rattle.index.proofs.RoutinePart.{table_edges}
+use Rattle.support.specs.Parts.{Tables}
+use Rattle.blocked.proofs.first_blocked.Goals as goal
+use Rattle.blocked.proofs.first_blocked.Goals.{After-in_use-count, After-index_of-chained, Start}
+
+room : (c : Start) → length c.args.p.edges.keys ≡ max_edges
+room c = search rules
+
+in_table : (c : After-in_use-count) → c.in_use-count.result ≤ length c.args.p.edges.keys
+in_table c = let r = room (goal.at.After-in_use-count c).Start in let u = c.in_use-count.ensures in omega arith
+
+pub next_states-table-requires : goal.next_states-table-requires
+next_states-table-requires c = ranged (program_of c.args.p) c.requires.0
+
+pub slice_bounds-keys-end : goal.slice_bounds-keys-end
+slice_bounds-keys-end c = in_table (goal.at.slice_bounds-keys-end c).After-in_use-count
+
+pub slice_bounds-steps-end : goal.slice_bounds-steps-end
+slice_bounds-steps-end c =
+    sym (length-take-le c.in_use-count.result c.args.p.edges.keys (in_table (goal.at.slice_bounds-steps-end c).After-in_use-count))
+
+pub index_of-chained-requires : goal.index_of-chained-requires
+index_of-chained-requires c =
+    let r = room (goal.at.index_of-chained-requires c).Start in
+    omega (arith, length-take-le c.in_use-count.result c.args.p.edges.keys (in_table (goal.at.index_of-chained-requires c).After-in_use-count), in_table (goal.at.index_of-chained-requires c).After-in_use-count)
+
+tables : (c : After-index_of-chained)
+    → let a = c.args in
+    Tables a.z (program_of a.p) (take c.in_use-count.result a.p.edges.keys) c.next_states-table.result.sets
+tables c =
+    record {
+      well_formed = c.requires.0;
+      sized = c.requires.1;
+      edges = table_edges c.args.p (room (goal.at.After-index_of-chained c).Start) c.in_use-count.ensures;
+      answers = c.next_states-table.ensures;
+    }
+
+pub search_marks-requires : goal.search_marks-requires
+search_marks-requires c =
+    (c.requires.1.usable, c.requires.1.admitted, c.requires.2, c.index_of-chained.ensures)
+
+pub returns : goal.returns
+returns c =
+    c.search_marks.ensures (program_of c.args.p) (tables (goal.at.returns c).After-index_of-chained)

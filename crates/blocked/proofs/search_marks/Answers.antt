@@ -1,0 +1,48 @@
+use Prim.Native.Nat.{ℕ, ◌-◌, ◌≤◌, ◌<◌}
+use mathlib.Core.Path.{◌≡◌, refl, sym, ◌∙◌}
+use mathlib.Core.Bool.{true}
+use mathlib.Core.List.{List}
+use native.Mathlib.Omega.{arith}
+use borrow.Author.Tests.{le-ltb}
+use Rattle.program.specs.declared.sizes.Sizes.{Sizes}
+use Rattle.program.specs.Chosen.{numbers}
+use Rattle.program.specs.Program.{Program}
+use Rattle.base.specs.Searches.{seek}
+use Rattle.blocked.specs.Blocks.{is_blocked, blocked_by, block_in, block_from}
+use Rattle.blocked.proofs.EdgesSought.{Seeking, seek_start, seek_next, seek_here, seek_out}
+use Rattle.blocked.proofs.search_marks.Goals as goal
+use Rattle.blocked.proofs.search_marks.Goals.{In-loop-i}
+
+-- TODO
+-- module _ (Z : Sizes) (p : Program) (marks : List ℕ) {low i : ℕ} (s : Seeking (is_blocked Z p marks) (numbers Z) low i) where
+--   block_here : {k : ℕ} → i < numbers Z → is_blocked Z p marks i ≡ true → k ≡ blocked_by Z p i → block_from Z p marks low ≡ block_in Z i k
+--   unfolding block_from
+--   block_here h t e = rw (seek_here s h t, e) refl
+-- 
+--   block_nowhere : (k : ℕ) → numbers Z ≤ i → block_from Z p marks low ≡ block_in Z i k
+--   unfolding block_from
+--   block_nowhere k h =
+--       rw (le-ltb (seek (is_blocked Z p marks) (numbers Z - low) low) (numbers Z) (seek_out s h), le-ltb i (numbers Z) h) refl
+
+pub loop-i-init : goal.loop-i-init
+loop-i-init c = seek_start _ _ _
+
+-- a number of the marks is one of a configuration
+numbered : (c : In-loop-i) → c.loop-i.i < numbers c.args.z
+numbered c = let h = c.loop-i-test in omega (arith, c.requires.2)
+
+pub cut_of-cut-requires : goal.cut_of-cut-requires
+cut_of-cut-requires c =
+    (c.requires.0, c.requires.1, numbered c, c.requires.2, c.requires.3)
+
+pub returns-then-cut : goal.returns-then-cut
+returns-then-cut c =
+    let told = c.cut_of-cut.ensures p t in
+    block_here _ p _ (c.loop-i.invariant p t) (numbered (goal.at.returns-then-cut c).In-loop-i) (sym told.0 ∙ c.if-cut.true) (told.1 c.if-cut.true)
+
+pub loop-i-preserved : goal.loop-i-preserved
+loop-i-preserved c =
+    seek_next (c.loop-i.invariant p t) (numbered (goal.at.loop-i-preserved c).In-loop-i) (sym (c.cut_of-cut.ensures p t).0 ∙ c.if-cut.false)
+
+pub returns : goal.returns
+returns c = let h = c.loop-i-test in block_nowhere _ p _ (c.loop-i.invariant p t) 0 (omega (arith, c.requires.2))

@@ -1,0 +1,32 @@
+use Rattle.marking.proofs.StepsMark.{loop_start, loop_turn, loop_end}
+use Rattle.marking.proofs.StepsChosen.{step_taken, step_left}
+use mathlib.Core.Logic.{⊎_elim}
+use mathlib.Core.Path.{refl, sym, ◌∙◌}
+use native.Mathlib.Omega.{arith}
+use Rattle.callers.proofs.wake_states.Goals as goal
+
+pub loop-x-init : goal.loop-x-init
+loop-x-init c = loop_start _ c.args.z.states _ _ _
+
+pub wake_roots-lowest-requires : goal.wake_roots-lowest-requires
+wake_roots-lowest-requires c =
+    c.number_of-base.ensures.1
+
+pub loop-x-preserved : goal.loop-x-preserved
+loop-x-preserved c =
+    let e = rw c.next_after-roots.ensures at c.has_bit.ensures in
+    ⊎_elim
+    (λ w.
+    let k = w.3 in
+    rw (w.6, w.7)
+    (loop_turn c.loop-x.invariant (omega arith) (step_taken _ (sym e ∙ w.0.taken) (rw w.1.ensures.0 at k.ensures.0)) k.ensures.1
+    refl k.kept.1.1.0))
+    (λ w. rw (w.1, w.2) (loop_turn c.loop-x.invariant (omega arith) (step_left _ (sym e ∙ w.0.left)) (λ h. h) refl refl))
+    c.if-has_bit.branch
+
+pub shape_of-pending : goal.shape_of-pending
+shape_of-pending c =
+    c.loop-x.invariant.pending_length
+
+pub returns : goal.returns
+returns c = loop_end c.loop-x.invariant (omega arith)

@@ -1,0 +1,4 @@
+use Rattle.frames.proofs.edge_in.Goals as goal
+
+pub returns : goal.returns
+returns c = cc

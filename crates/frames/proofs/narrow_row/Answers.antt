@@ -1,0 +1,4 @@
+use Rattle.frames.proofs.narrow_row.Goals as goal
+
+pub returns : goal.returns
+returns c = cc

@@ -1,0 +1,26 @@
+use mathlib.Core.Path.{sym, ◌∙◌}
+use mathlib.Core.Logic.{⊎_elim}
+use Rattle.kept.specs.Parts.{root_kept, caller_kept}
+use Rattle.base.proofs.SearchesAsk.{both_met, first_fails, second_fails, try_all, try_found, try_next, try_none}
+use Rattle.kept.proofs.caller_kept.Goals as goal
+
+pub loop-x-init : goal.loop-x-init
+loop-x-init c = try_all _ _
+
+pub returns-then-root_kept : goal.returns-then-root_kept
+unfolding caller_kept
+returns-then-root_kept c =
+    let first = sym c.may_go.ensures ∙ c.if-may_go.true in
+    let second = sym (rw c.number_of.ensures.0 at c.root_kept.ensures) ∙ c.if-root_kept.true in
+    try_found c.loop-x.invariant c.loop-x-test.true (both_met first second)
+
+pub loop-x-preserved : goal.loop-x-preserved
+loop-x-preserved c =
+    let may = sym c.may_go.ensures in
+    try_next c.loop-x.invariant c.loop-x-test.true
+    (⊎_elim (λ w. second_fails (may ∙ w.0.taken) (sym (rw w.1.ensures.0 at w.2.ensures) ∙ w.3.left))
+    (λ w. first_fails _ (may ∙ w.left)) c.if-may_go.branch)
+
+pub returns : goal.returns
+unfolding caller_kept
+returns c = try_none c.loop-x.invariant c.loop-x-test.false

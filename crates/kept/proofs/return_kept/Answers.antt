@@ -1,0 +1,31 @@
+use mathlib.Core.Path.{refl, sym, ◌∙◌}
+use mathlib.Core.Logic.{⊎_elim}
+use borrow.Author.Tests.{lt-ltb, le-ltb}
+use Rattle.base.specs.Flags.{is_set}
+use Rattle.kept.specs.Parts.{root_returns, return_kept}
+use Rattle.base.proofs.SearchesAsk.{both_met, first_fails, second_fails, try_all, try_found, try_next, try_none}
+use Rattle.kept.proofs.return_kept.Goals as goal
+
+pub returns-then-g-ge-MAX_ROUTINES : goal.returns-then-g-ge-MAX_ROUTINES
+unfolding return_kept
+returns-then-g-ge-MAX_ROUTINES c = rw (le-ltb _ _ c.if-g-ge-MAX_ROUTINES.true) refl
+
+pub loop-y-init : goal.loop-y-init
+loop-y-init c = try_all _ _
+
+pub returns-then-root_returns : goal.returns-then-root_returns
+unfolding return_kept
+returns-then-root_returns c =
+    rw (lt-ltb _ _ c.if-g-ge-MAX_ROUTINES.false)
+    (try_found c.loop-y.invariant c.loop-y-test.true
+    (both_met (sym c.is_set.ensures ∙ c.if-is_set.true) (sym c.root_returns.ensures ∙ c.if-root_returns.true)))
+
+pub loop-y-preserved : goal.loop-y-preserved
+loop-y-preserved c =
+    let on = sym c.is_set.ensures in
+    try_next c.loop-y.invariant c.loop-y-test.true
+    (⊎_elim (λ w. second_fails (on ∙ w.0.taken) (sym w.1.ensures ∙ w.2.left)) (λ w. first_fails _ (on ∙ w.left)) c.if-is_set.branch)
+
+pub returns : goal.returns
+unfolding return_kept
+returns c = rw (lt-ltb _ _ c.if-g-ge-MAX_ROUTINES.false) (try_none c.loop-y.invariant c.loop-y-test.false)

@@ -1,0 +1,4 @@
+use Rattle.order.proofs.is_miscounted.Goals as goal
+
+pub returns : goal.returns
+returns c = cc

@@ -1,0 +1,11 @@
+use mathlib.Core.Path.{◌≡◌}
+use lib.ListN.{length}
+use borrow.Author.Rules.{rules}
+use Rattle.program.specs.Sizes.{max_routines}
+use Rattle.progress.proofs.ListsKept.{room_for}
+use Rattle.progress.proofs.add_node.Goals as goal
+
+pub add_byte-count-requires : goal.add_byte-count-requires
+add_byte-count-requires c =
+    let size : length c.args.n.list ≡ max_routines = search rules in
+    room_for c.args.n.count c.args.n.list size c.requires

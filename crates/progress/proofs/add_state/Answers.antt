@@ -1,0 +1,11 @@
+use mathlib.Core.Path.{◌≡◌}
+use lib.ListN.{length}
+use borrow.Author.Rules.{rules}
+use Rattle.automaton.specs.Sizes.{max_states}
+use Rattle.progress.proofs.ListsKept.{room_for}
+use Rattle.progress.proofs.add_state.Goals as goal
+
+pub add_byte-count-requires : goal.add_byte-count-requires
+add_byte-count-requires c =
+    let size : length c.args.s.list ≡ max_states = search rules in
+    room_for c.args.s.count c.args.s.list size c.requires

@@ -1,0 +1,4 @@
+use Rattle.ranges.proofs.in_range.Goals as goal
+
+pub returns : goal.returns
+returns c = cc

@@ -1,0 +1,21 @@
+use Rattle.stages.proofs.ExchangeStages.{part_room}
+use Prim.Native.Nat.{ℕ}
+use native.Mathlib.Omega.{arith}
+use mathlib.Core.Path.{◌≡◌, sym, ap, ◌∙◌}
+use lib.ListN.{length, take, replicate}
+use Rattle.rewrite.proofs.check_own_within.Goals as goal
+use Rattle.rewrite.proofs.check_own_within.Goals.{Start}
+
+room : (s : Start) → length s.args.marks.now ≡ length (take (length s.args.marks.now) s.args.work.now)
+room s = part_room _ s.args.work.now (omega (arith, s.requires.marks_len.0, s.requires.marks_len.1))
+
+pub slice_bounds-check_own-end-2 : goal.slice_bounds-check_own-end-2
+slice_bounds-check_own-end-2 c = room (goal.at.slice_bounds-check_own-end-2 c).Start
+
+pub check_own-own-requires : goal.check_own-own-requires
+check_own-own-requires c =
+    (c.requires.well_formed, (c.requires.marks_len.0, sym (room (goal.at.check_own-own-requires c).Start) ∙ c.requires.marks_len.0))
+
+pub returns : goal.returns
+returns c =
+    (c.check_own-own.ensures.0, c.Clear-whole.ensures ∙ ap (λ (n : ℕ). replicate n 0) (same_length c))

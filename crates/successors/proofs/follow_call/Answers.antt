@@ -1,0 +1,49 @@
+use Rattle.marking.proofs.StepsMark.{loop_start, loop_turn, loop_end, loop_idle}
+use Rattle.marking.proofs.StatesTaken.{leaving_all, leaving_half, leaving_here, leaving_other, none_followed}
+use Rattle.marking.proofs.StepsChosen.{step_taken, step_left}
+use mathlib.Core.Logic.{⊎_elim}
+use mathlib.Core.Path.{refl}
+use native.Mathlib.Omega.{arith}
+use Rattle.successors.proofs.follow_call.Goals as goal
+
+pub loop-y-init : goal.loop-y-init
+loop-y-init c =
+    (loop_start _ c.args.z.states _ _ _, rw c.next_after-left.ensures (leaving_all _))
+
+pub shape_of-marks-then-left-eq0 : goal.shape_of-marks-then-left-eq0
+shape_of-marks-then-left-eq0 c = c.loop-y.invariant.0.marks-length
+
+pub shape_of-pending-then-left-eq0 : goal.shape_of-pending-then-left-eq0
+shape_of-pending-then-left-eq0 c = c.loop-y.invariant.0.pending_length
+
+pub returns-then-left-eq0 : goal.returns-then-left-eq0
+returns-then-left-eq0 c = loop_idle c.loop-y.invariant.0 (none_followed c.loop-y.invariant.1 c.if-left-eq0.true _ _)
+
+pub follow_entry-lowest-requires : goal.follow_entry-lowest-requires
+follow_entry-lowest-requires c =
+    c.requires
+
+pub loop-y-preserved : goal.loop-y-preserved
+loop-y-preserved c =
+    let l = c.loop-y.invariant.1 in
+    ⊎_elim
+    (λ w.
+    let k = w.3 in
+    rw (w.8, w.9, w.10) (
+      loop_turn c.loop-y.invariant.0 (omega arith) (step_taken _ (leaving_here l w.0.taken) k.ensures.0)
+          k.ensures.1 k.kept.1.1.1.0 k.kept.1.1.1.1.0,
+      leaving_half l,
+    ))
+    (λ w.
+    rw (w.1, w.2, w.3)
+    (loop_turn c.loop-y.invariant.0 (omega arith) (step_left _ (leaving_other l w.0.left)) (λ h. h) refl refl, leaving_half l))
+    c.if-left-eq1.branch
+
+pub shape_of-marks : goal.shape_of-marks
+shape_of-marks c = c.loop-y.invariant.0.marks-length
+
+pub shape_of-pending : goal.shape_of-pending
+shape_of-pending c = c.loop-y.invariant.0.pending_length
+
+pub returns : goal.returns
+returns c = loop_end c.loop-y.invariant.0 (omega arith)

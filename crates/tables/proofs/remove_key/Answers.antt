@@ -1,0 +1,6 @@
+-- `tables::remove_key` meets its contract.
+use Rattle.tables.proofs.TableChanged.{without_next}
+use Rattle.tables.proofs.remove_key.Goals as goal
+
+pub returns : goal.returns
+returns c = rw (without_next _ _) at c.remove_between.ensures
