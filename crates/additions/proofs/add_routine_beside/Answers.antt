@@ -14,7 +14,7 @@ copy-copied-requires c =
     search (rules, m)
 
 pub add_routine-program-requires : goal.add_routine-program-requires
-add_routine-program-requires c = (c.requires.well_formed, (c.requires.marks_value.0, c.requires.marks_value.1))
+add_routine-program-requires c = record { well_formed = c.requires.well_formed; marks_value = (c.requires.marks_value.0, c.requires.marks_value.1) }
 
 -- which of the two are the old marks is for `returns` to tell
 pub gained-routines-requires : goal.gained-routines-requires

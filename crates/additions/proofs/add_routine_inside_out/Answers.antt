@@ -26,7 +26,7 @@ slice_bounds-add_routine_beside-end c = copy_room _ (fits (goal.at.slice_bounds-
 
 pub add_routine_beside-requires : goal.add_routine_beside-requires
 add_routine_beside-requires c =
-    (c.requires.well_formed, (c.requires.marks_value.0, c.requires.marks_value.1, sym (copy_room _ (fits (goal.at.add_routine_beside-requires c).Start)) ∙ long (goal.at.add_routine_beside-requires c).Start))
+    record { well_formed = c.requires.well_formed; marks_value = (c.requires.marks_value.0, c.requires.marks_value.1, sym (copy_room _ (fits (goal.at.add_routine_beside-requires c).Start)) ∙ long (goal.at.add_routine_beside-requires c).Start) }
 
 pub returns : goal.returns
 returns c = c.add_routine_beside.ensures

@@ -16,7 +16,7 @@ copy-copied-requires c =
     search (rules, m)
 
 pub add_step-program-requires : goal.add_step-program-requires
-add_step-program-requires c = (c.requires.well_formed, (c.requires.marks_value.0, c.requires.marks_value.1))
+add_step-program-requires c = record { well_formed = c.requires.well_formed; marks_value = (c.requires.marks_value.0, c.requires.marks_value.1) }
 
 -- which of the two are the old marks is for `returns` to tell
 pub gained-routines-requires : goal.gained-routines-requires

@@ -1,3 +1,4 @@
+use Rattle.std.proofs.Common.{[]}
 use Rattle.program.specs.Checks.{row, first_met, verdict_of, followed_by}
 use Prim.Native.Nat.{ℕ}
 use mathlib.Core.List.{◌∷◌}

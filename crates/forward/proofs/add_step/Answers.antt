@@ -17,10 +17,7 @@ follow_added-requires c =
     let fits = added_well_formed c.args.s p _ c.requires.well_formed.0 c.requires.well_formed.2 c.requires.well_formed.1 e in
     let from = add_from c.args.s p c.requires.well_formed.0 c.requires.well_formed.2 c.requires.well_formed.1 in
     let source = from.1 in
-    let target = from.2 in (
-      (fits.0, fits.1, from.0, search (source, target)),
-      added_closed c.args.s p _ c.requires.well_formed.0 c.requires.well_formed.2 c.requires.well_formed.1 e c.requires.marks_value.0,
-    )
+    let target = from.2 in record { well_formed = (fits.0, fits.1, from.0, search (source, target)); closed_but = added_closed c.args.s p _ c.requires.well_formed.0 c.requires.well_formed.2 c.requires.well_formed.1 e c.requires.marks_value.0 }
 
 pub returns : goal.returns
 returns c =

@@ -16,7 +16,7 @@ prune_marks-requires c =
     let p = program_of c.args.p in
     let before : WellFormed p × Sized c.args.z p = (c.requires.well_formed.0, own_sized p c.requires.well_formed.2 c.requires.well_formed.0) in
     let after = dropped_well_formed c.args.s p _ c.requires.well_formed.0 c.requires.well_formed.2 c.requires.well_formed.1 c.without_step-dropped.ensures in
-    (search (before, after), c.requires.marks_len)
+    record { well_formed = search (before, after); marks_len = c.requires.marks_len }
 
 pub returns : goal.returns
 returns c =

@@ -12,7 +12,7 @@ drop_inside_out-requires c =
     let p = program_of c.args.p in
     let before = none_dropped p c.requires.well_formed.0 (own_sized p c.requires.well_formed.1 c.requires.well_formed.0) c.args.f in
     let after = drop_of p _ _ c.args.f c.without_routine-program.ensures (routine_drop c.args.f p c.requires.well_formed.0 c.requires.well_formed.1) in
-    (c.requires.marks_value.1, (p, search (before, after), c.requires.marks_value.0))
+    record { work_len = c.requires.marks_value.1; drop_of = (p, search (before, after), c.requires.marks_value.0) }
 
 pub returns : goal.returns
 returns c =

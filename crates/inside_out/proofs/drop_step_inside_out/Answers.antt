@@ -17,7 +17,7 @@ drop_inside_out-routines-requires c =
     let before = none_dropped p c.requires.well_formed.0 (own_sized p c.requires.well_formed.2 c.requires.well_formed.0) c.args.s.routine in
     let e = is_dropped c.args.s p _ c.without_step-program.ensures in
     let after = drop_of p _ _ c.args.s.routine e (step_drop c.args.s p c.requires.well_formed.0 c.requires.well_formed.1 c.requires.well_formed.2) in
-    (c.requires.marks_value.1, (p, search (before, after), c.requires.marks_value.0))
+    record { work_len = c.requires.marks_value.1; drop_of = (p, search (before, after), c.requires.marks_value.0) }
 
 pub returns : goal.returns
 returns c =

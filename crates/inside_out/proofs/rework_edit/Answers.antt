@@ -3,15 +3,15 @@ use Rattle.inside_out.proofs.rework_edit.Goals as goal
 
 pub add_step_inside_out-requires : goal.add_step_inside_out-requires
 add_step_inside_out-requires c =
-    ((c.requires.well_formed.0, rw c.e-1.given.1 at c.requires.well_formed.1, c.requires.well_formed.2), c.requires.marks_value)
+    record { well_formed = (c.requires.well_formed.0, rw c.e-1.given.1 at c.requires.well_formed.1, c.requires.well_formed.2); marks_value = c.requires.marks_value }
 
 pub drop_step_inside_out-requires : goal.drop_step_inside_out-requires
 drop_step_inside_out-requires c =
-    ((c.requires.well_formed.0, rw c.e-in-Drop-1.given.1 at c.requires.well_formed.1, c.requires.well_formed.2), c.requires.marks_value)
+    record { well_formed = (c.requires.well_formed.0, rw c.e-in-Drop-1.given.1 at c.requires.well_formed.1, c.requires.well_formed.2); marks_value = c.requires.marks_value }
 
 pub replace_step_inside_out-requires : goal.replace_step_inside_out-requires
 replace_step_inside_out-requires c =
-    ((c.requires.well_formed.0, rw c.e-in-Replace-1.given.1 at c.requires.well_formed.1, c.requires.well_formed.2), c.requires.marks_value)
+    record { well_formed = (c.requires.well_formed.0, rw c.e-in-Replace-1.given.1 at c.requires.well_formed.1, c.requires.well_formed.2); marks_value = c.requires.marks_value }
 
 pub returns-in-Add : goal.returns-in-Add
 returns-in-Add c = rw c.e-1.given.1 c.add_step_inside_out.ensures

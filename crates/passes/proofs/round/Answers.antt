@@ -9,7 +9,7 @@ loop-f-init c = (omega arith, round_none c.requires.0)
 pub turn-requires : goal.turn-requires
 turn-requires c =
     let z = c.requires in
-    (omega arith, (grown_ready z.0 c.loop-f.invariant.1.grows, z.1))
+    record { f_lt_routines = omega arith; ready = (grown_ready z.0 c.loop-f.invariant.1.grows, z.1) }
 
 pub overflow_add-f : goal.overflow_add-f
 overflow_add-f c = let h = c.loop-f-test.true in omega arith

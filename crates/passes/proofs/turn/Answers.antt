@@ -47,10 +47,7 @@ pub follow_part-requires : goal.follow_part-requires
 follow_part-requires c =
     let e = routine_edges c.args.p.edges.count (room (goal.at.follow_part-requires c).Start) c.in_use-count.ensures c.first_of-from.ensures c.first_of-to.ensures c.requires.ready.0.well_formed.edges_ascend in
     let first = c.number_of-low.ensures.0 in
-    let long = c.routine_span-span.ensures.0 in (
-      omega (arith, routine_fits c.args.z c.args.f c.requires.f_lt_routines, first, first_number c.args.z c.args.f, long),
-      (_, turn_followable c.args.f first long c.requires.ready.0 e c.requires.ready.1),
-    )
+    let long = c.routine_span-span.ensures.0 in record { high_bound = omega (arith, routine_fits c.args.z c.args.f c.requires.f_lt_routines, first, first_number c.args.z c.args.f, long); followable = (_, turn_followable c.args.f first long c.requires.ready.0 e c.requires.ready.1) }
 
 pub returns : goal.returns
 returns c =

@@ -8,7 +8,7 @@ loop-more-init c = let u = c.requires.usable.0 in (u, passing_none _ u _ _)
 pub keep_pass-more-requires : goal.keep_pass-more-requires
 keep_pass-more-requires c =
     let z = c.requires in
-    (z.0, (z.1.0, c.loop-more.invariant.1.len ∙ z.1.1))
+    record { usable = z.0; marks_len = (z.1.0, c.loop-more.invariant.1.len ∙ z.1.1) }
 
 pub loop-more-smaller : goal.loop-more-smaller
 loop-more-smaller c =

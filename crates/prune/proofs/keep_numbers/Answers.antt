@@ -25,7 +25,7 @@ keep_at-one-requires c =
     let span = c.routine_span-span.ensures.0 in
     let fits = routine_fits a.z a.f z.0.2 in
     let e = in_routine a.z z.0.0 a.f c.loop-i.i (omega (arith, first (goal.at.keep_at-one-requires c).At-loop-i, c.loop-i.invariant.0)) (omega (arith, first (goal.at.keep_at-one-requires c).At-loop-i, h, span)) in
-    ((z.0.0, z.0.1, omega (arith, first (goal.at.keep_at-one-requires c).At-loop-i, h, span, fits), rw e z.0.3), (z.1.0, c.loop-i.invariant.2.len ∙ z.1.1))
+    record { usable = (z.0.0, z.0.1, omega (arith, first (goal.at.keep_at-one-requires c).At-loop-i, h, span, fits), rw e z.0.3); marks_len = (z.1.0, c.loop-i.invariant.2.len ∙ z.1.1) }
 
 pub loop-i-preserved : goal.loop-i-preserved
 loop-i-preserved c =

@@ -26,7 +26,7 @@ slice_bounds-keep_all-end c = used_counted _ _ (edges_room (goal.at.slice_bounds
 pub keep_all-requires : goal.keep_all-requires
 keep_all-requires c =
     let same = in_use_same c.args.edges.count c.args.edges.keys (edges_room (goal.at.keep_all-requires c).Start) c.in_use-m.ensures in
-    ((c.requires.usable.0, c.requires.usable.1, subst (λ (ks : List ℕ). Ascending 0 (map edge_key (map edge_of ks))) (sym same) c.requires.usable.2), c.requires.marks_len)
+    record { usable = (c.requires.usable.0, c.requires.usable.1, subst (λ (ks : List ℕ). Ascending 0 (map edge_key (map edge_of ks))) (sym same) c.requires.usable.2); marks_len = c.requires.marks_len }
 
 pub returns : goal.returns
 returns c =

@@ -17,7 +17,7 @@ pub prune_program-requires : goal.prune_program-requires
 prune_program-requires c =
     let e = c.sizes_of-z.ensures in
     let r = ready c.checked_program-r.ensures c.enum_told-1.given.1 in
-    ((r.0, own_sized _ e r.0), (r.1.0 ∙ ap numbers (sym e), r.1.1 ∙ ap numbers (sym e)))
+    record { well_formed = (r.0, own_sized _ e r.0); marks_len = (r.1.0 ∙ ap numbers (sym e), r.1.1 ∙ ap numbers (sym e)) }
 
 -- what is shown for the sizes asked is shown for the program's own
 shown_at : (p : Program) (marks : List ℕ) {y x : Sizes} (l : List ℕ) → y ≡ x → Shows y (Kept y p marks) l → Shows x (Kept x p marks) l

@@ -1,3 +1,4 @@
+use Rattle.std.proofs.Common.{[]}
 use Rattle.writer.specs.Answers.{refusal}
 use Rattle.repair.specs.Repairs.{plain, reanalyzed}
 use Rattle.exchange.specs.Changes.{EditLine}
@@ -11,7 +12,7 @@ pub repair_wanted-requires : goal.repair_wanted-requires
 repair_wanted-requires c =
     let k = c.checked_program-r.ensures in
     let h = c.enum_told-1.given.1 in
-    (k.well_formed h, ((k.sized h).marks-length, (k.sized h).output_length, (k.sized h).work_length))
+    record { well_formed = k.well_formed h; marks_len = ((k.sized h).marks-length, (k.sized h).output_length, (k.sized h).work_length) }
 
 pub returns-in-Refused : goal.returns-in-Refused
 returns-in-Refused c =

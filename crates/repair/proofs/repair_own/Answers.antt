@@ -26,17 +26,14 @@ mend-mended-requires c =
     let p = program_of c.args.p in
     let o = c.check_own-own.ensures in
     let i = c.sizes_of-z.ensures in
-    let u = (own_sized p i c.requires.well_formed.0).usable in (
-      (c.requires.well_formed.0, c.requires.well_formed.1, i),
-      (own_lent c.args.inward c.args.e p (own_marks (goal.at.mend-mended-requires c).In-Accepted i) u, ap length (o.1 ∙ ap none_set (sym i)) ∙ none_length _ u),
-    )
+    let u = (own_sized p i c.requires.well_formed.0).usable in record { well_formed = (c.requires.well_formed.0, c.requires.well_formed.1, i); lent = (own_lent c.args.inward c.args.e p (own_marks (goal.at.mend-mended-requires c).In-Accepted i) u, ap length (o.1 ∙ ap none_set (sym i)) ∙ none_length _ u) }
 
 pub write_program-size-requires : goal.write_program-size-requires
 write_program-size-requires c =
     let p = program_of c.args.p in
     let r = mended_own c.args.inward c.args.e p (own_marks (goal.at.write_program-size-requires c).In-Accepted c.sizes_of-z.ensures) _ _ _ c.mend-mended.ensures.0 in
     let x = room c.args.e p c.args.output.now c.requires.well_formed.0 c.requires.well_formed.1 r c.requires.marks_len.1 in
-    (x.0.transitions_fit, x.1)
+    record { fits = x.0.transitions_fit; room = x.1 }
 
 pub returns-in-Refused : goal.returns-in-Refused
 returns-in-Refused c =

@@ -14,7 +14,7 @@ wanted_edit-wanted-requires c = c.requires.well_formed
 pub repair_own-requires : goal.repair_own-requires
 repair_own-requires c =
     let h = sym c.wanted_edit-wanted.ensures ∙ c.wanted-in-Read-1.given.1 in
-    ((c.requires.well_formed, wanted_applies (program_of c.args.p) c.args.text.now _ h), c.requires.marks_len)
+    record { well_formed = (c.requires.well_formed, wanted_applies (program_of c.args.p) c.args.text.now _ h); marks_len = c.requires.marks_len }
 
 pub returns-in-Refused : goal.returns-in-Refused
 returns-in-Refused c =

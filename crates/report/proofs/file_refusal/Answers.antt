@@ -1,4 +1,5 @@
 -- `report::file_refusal` meets its contract.
+use Rattle.std.proofs.Common.{[]}
 use mathlib.Core.Path.{◌≡◌, ap}
 use mathlib.Core.List.{◌∷◌}
 use Prim.Native.Nat.{◌/◌, ◌%◌}

@@ -8,7 +8,7 @@ loop-i-init c = filling_none _ _ _ c.requires.len.1
 
 pub resized_byte-b-requires : goal.resized_byte-b-requires
 resized_byte-b-requires c =
-    (c.requires.usable, (c.requires.len.0, omega (arith, c.requires.len.1)))
+    record { usable = c.requires.usable; len = (c.requires.len.0, omega (arith, c.requires.len.1)) }
 
 pub loop-i-preserved : goal.loop-i-preserved
 loop-i-preserved c = filling_more c.loop-i.invariant (omega arith) c.resized_byte-b.ensures

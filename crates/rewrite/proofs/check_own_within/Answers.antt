@@ -14,7 +14,7 @@ slice_bounds-check_own-end-2 c = room (goal.at.slice_bounds-check_own-end-2 c).S
 
 pub check_own-own-requires : goal.check_own-own-requires
 check_own-own-requires c =
-    (c.requires.well_formed, (c.requires.marks_len.0, sym (room (goal.at.check_own-own-requires c).Start) ∙ c.requires.marks_len.0))
+    record { well_formed = c.requires.well_formed; marks_len = (c.requires.marks_len.0, sym (room (goal.at.check_own-own-requires c).Start) ∙ c.requires.marks_len.0) }
 
 pub returns : goal.returns
 returns c =

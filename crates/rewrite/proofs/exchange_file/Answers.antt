@@ -11,7 +11,7 @@ pub exchange_wanted-requires : goal.exchange_wanted-requires
 exchange_wanted-requires c =
     let k = c.checked_program-r.ensures in
     let h = c.enum_told-1.given.1 in
-    (k.well_formed h, ((k.sized h).marks-length, (k.sized h).output_length))
+    record { well_formed = k.well_formed h; marks_len = ((k.sized h).marks-length, (k.sized h).output_length) }
 
 pub returns-in-Refused : goal.returns-in-Refused
 returns-in-Refused c =

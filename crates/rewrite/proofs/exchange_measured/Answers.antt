@@ -28,10 +28,7 @@ use Rattle.rewrite.proofs.exchange_measured.Goals as goal
 pub exchange_own-requires : goal.exchange_own-requires
 exchange_own-requires c =
     let z = start c in
-    let i = (sizes c).before.sizes-of.ensures in (
-      (z.pre.0.0, z.pre.0.1, i, (sizes c).sizes-after.ensures),
-      lengths_hold _ _ z.args.marks.now z.args.output.now z.args.work.now z.args.second.now (z.pre.1.0 ∙ ap numbers (sym i)) z.pre.1.1 (sym (met c) ∙ c.if-n-eq0.true),
-    )
+    let i = (sizes c).before.sizes-of.ensures in record { well_formed = (z.pre.0.0, z.pre.0.1, i, (sizes c).sizes-after.ensures); measured = lengths_hold _ _ z.args.marks.now z.args.output.now z.args.work.now z.args.second.now (z.pre.1.0 ∙ ap numbers (sym i)) z.pre.1.1 (sym (met c) ∙ c.if-n-eq0.true) }
 
 pub returns-then-n-eq0 : goal.returns-then-n-eq0
 returns-then-n-eq0 c =

@@ -22,7 +22,7 @@ pub check_own_within-own-requires : goal.check_own_within-own-requires
 check_own_within-own-requires c =
     let m = c.requires.measured in
     let e = ap numbers c.requires.well_formed.2 in
-    (c.requires.well_formed.0, (m.marks-length ∙ e, omega (arith, m.work_before, e)))
+    record { well_formed = c.requires.well_formed.0; marks_len = (m.marks-length ∙ e, omega (arith, m.work_before, e)) }
 
 pub mend_exchange-mended-requires : goal.mend_exchange-mended-requires
 mend_exchange-mended-requires c =
@@ -30,20 +30,17 @@ mend_exchange-mended-requires c =
     let q = c.requires.well_formed in
     let m = c.requires.measured in
     let o = c.check_own_within-own.ensures in
-    let l = ap length o.1 ∙ length-replicate {A = ℕ} (length c.args.work.now) 0 in (
-      exchanges (exchange_in (goal.at.mend_exchange-mended-requires c).Start) p q.0 q.1 q.2 q.3,
-      record {
+    let l = ap length o.1 ∙ length-replicate {A = ℕ} (length c.args.work.now) 0 in record { exchanges = exchanges (exchange_in (goal.at.mend_exchange-mended-requires c).Start) p q.0 q.1 q.2 q.3; buffers = record {
         own = accepted_own p c.args.marks.now (sym o.0 ∙ c.enum_told-1.given.1) ∙ ap (λ (y : Sizes). fresh_at y p) (sym q.2);
         room = m.second_length;
         before = omega (arith, m.work_before, l);
         after = omega (arith, m.work-after, l);
-      },
-    )
+      } }
 
 pub write_program-size-requires : goal.write_program-size-requires
 write_program-size-requires c =
     let x = room (exchange_in (goal.at.write_program-size-requires c).Start) (program_of c.args.p) c.args.output.now c.requires.well_formed.0 c.requires.well_formed.1 c.mend_exchange-mended.ensures.0 c.requires.measured.output_length in
-    (x.0.transitions_fit, x.1)
+    record { fits = x.0.transitions_fit; room = x.1 }
 
 pub returns-in-Refused : goal.returns-in-Refused
 returns-in-Refused c =

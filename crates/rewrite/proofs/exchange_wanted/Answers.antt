@@ -17,7 +17,7 @@ read t = text_read _ _ t.wanted_exchange-wanted.ensures t.if-n-eq0.true
 
 pub exchange_measured-requires : goal.exchange_measured-requires
 exchange_measured-requires c =
-    ((c.requires.well_formed, wanted_change_applies ExchangeText (program_of c.args.p) c.args.text.now _ (read (goal.at.exchange_measured-requires c).Then-n-eq0)), c.requires.marks_len)
+    record { well_formed = (c.requires.well_formed, wanted_change_applies ExchangeText (program_of c.args.p) c.args.text.now _ (read (goal.at.exchange_measured-requires c).Then-n-eq0)); marks_len = c.requires.marks_len }
 
 pub returns-then-n-eq0 : goal.returns-then-n-eq0
 returns-then-n-eq0 c =

@@ -1,4 +1,5 @@
 -- `saved::checked_early` meets its contract.
+use Rattle.std.proofs.Common.{[]}
 use mathlib.Core.Path.{◌≡◌, refl, sym, ap, subst, ◌∙◌}
 use mathlib.Core.Bool.{Bool, false}
 use mathlib.Core.List.{List, ◌∷◌}

@@ -16,7 +16,7 @@ pub resize-requires : goal.resize-requires
 resize-requires c =
     let x = exchange_of c.args.x in
     let p = program_of c.args.p in
-    (((left_after x p c.requires.exchanges).usable, sizes_alike x p c.requires.exchanges), (ap length c.requires.own_value.0 ∙ marks-length _ (left_before x p c.requires.exchanges).usable _, c.requires.own_value.1))
+    record { usable = ((left_after x p c.requires.exchanges).usable, sizes_alike x p c.requires.exchanges); len = (ap length c.requires.own_value.0 ∙ marks-length _ (left_before x p c.requires.exchanges).usable _, c.requires.own_value.1) }
 
 pub slice_bounds-add_routine-end-2 : goal.slice_bounds-add_routine-end-2
 slice_bounds-add_routine-end-2 c = room (goal.at.slice_bounds-add_routine-end-2 c).Start
@@ -24,10 +24,7 @@ slice_bounds-add_routine-end-2 c = room (goal.at.slice_bounds-add_routine-end-2 
 pub add_routine-added-requires : goal.add_routine-added-requires
 add_routine-added-requires c =
     let x = exchange_of c.args.x in
-    let p = program_of c.args.p in (
-      (c.requires.exchanges.well_formed, c.requires.exchanges.fits, left_after x p c.requires.exchanges, exchanged_after x p c.requires.exchanges),
-      (left_resized x p c.requires.exchanges c.requires.own_value.0 c.resize.ensures, sym (room (goal.at.add_routine-added-requires c).Start) ∙ c.requires.own_value.1),
-    )
+    let p = program_of c.args.p in record { well_formed = (c.requires.exchanges.well_formed, c.requires.exchanges.fits, left_after x p c.requires.exchanges, exchanged_after x p c.requires.exchanges); marks_value = (left_resized x p c.requires.exchanges c.requires.own_value.0 c.resize.ensures, sym (room (goal.at.add_routine-added-requires c).Start) ∙ c.requires.own_value.1) }
 
 pub returns : goal.returns
 returns c = cleared c.add_routine-added.ensures c.Clear-whole.ensures

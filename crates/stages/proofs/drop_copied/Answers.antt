@@ -18,7 +18,7 @@ slice_bounds-drop_routine-end-2 c = room (goal.at.slice_bounds-drop_routine-end-
 
 pub drop_routine-requires : goal.drop_routine-requires
 drop_routine-requires c =
-    (c.requires.well_formed, (search rules, sym (room (goal.at.drop_routine-requires c).Start) ∙ c.requires.marks_len.1))
+    record { well_formed = c.requires.well_formed; marks_len = (search rules, sym (room (goal.at.drop_routine-requires c).Start) ∙ c.requires.marks_len.1) }
 
 pub returns : goal.returns
 returns c =

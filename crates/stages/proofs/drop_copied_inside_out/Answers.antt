@@ -31,7 +31,7 @@ slice_bounds-drop_routine_inside_out-end-2 c = room (goal.at.slice_bounds-drop_r
 
 pub drop_routine_inside_out-requires : goal.drop_routine_inside_out-requires
 drop_routine_inside_out-requires c =
-    (c.requires.well_formed, (copied (goal.at.drop_routine_inside_out-requires c).Start c.copy-copied.ensures.1, sym (room (goal.at.drop_routine_inside_out-requires c).Start) ∙ c.requires.marks_value.1))
+    record { well_formed = c.requires.well_formed; marks_value = (copied (goal.at.drop_routine_inside_out-requires c).Start c.copy-copied.ensures.1, sym (room (goal.at.drop_routine_inside_out-requires c).Start) ∙ c.requires.marks_value.1) }
 
 pub returns : goal.returns
 returns c = let e = c.drop_routine_inside_out.ensures in (e.0, e.2)

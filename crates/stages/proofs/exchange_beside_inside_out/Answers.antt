@@ -7,12 +7,12 @@ use Rattle.stages.proofs.exchange_beside_inside_out.Goals as goal
 
 pub drop_copied_inside_out-dropped-requires : goal.drop_copied_inside_out-dropped-requires
 drop_copied_inside_out-dropped-requires c =
-    ((c.requires.exchanges.well_formed, c.requires.exchanges.before), (c.requires.buffers.0.own, c.requires.buffers.1, c.requires.buffers.0.before))
+    record { well_formed = (c.requires.exchanges.well_formed, c.requires.exchanges.before); marks_value = (c.requires.buffers.0.own, c.requires.buffers.1, c.requires.buffers.0.before) }
 
 pub add_resized_inside_out-added-requires : goal.add_resized_inside_out-added-requires
 add_resized_inside_out-added-requires c =
     let h = c.requires.buffers.0.after in
-    (c.requires.exchanges, (c.drop_copied_inside_out-dropped.ensures.0, c.requires.buffers.0.room, omega (arith, h)))
+    record { exchanges = c.requires.exchanges; own_value = (c.drop_copied_inside_out-dropped.ensures.0, c.requires.buffers.0.room, omega (arith, h)) }
 
 pub returns : goal.returns
 returns c =

@@ -30,4 +30,4 @@ slice_bounds-exchange_beside-end c = copy_room _ (fits (goal.at.slice_bounds-exc
 
 pub exchange_beside-requires : goal.exchange_beside-requires
 exchange_beside-requires c =
-    (c.requires.exchanges, (c.requires.buffers, sym (copy_room _ (fits (goal.at.exchange_beside-requires c).Start)) ∙ long (goal.at.exchange_beside-requires c).Start))
+    record { exchanges = c.requires.exchanges; buffers = (c.requires.buffers, sym (copy_room _ (fits (goal.at.exchange_beside-requires c).Start)) ∙ long (goal.at.exchange_beside-requires c).Start) }

@@ -30,4 +30,4 @@ slice_bounds-exchange_beside_inside_out-end c = copy_room _ (fits (goal.at.slice
 
 pub exchange_beside_inside_out-requires : goal.exchange_beside_inside_out-requires
 exchange_beside_inside_out-requires c =
-    (c.requires.exchanges, (c.requires.buffers, sym (copy_room _ (fits (goal.at.exchange_beside_inside_out-requires c).Start)) ∙ long (goal.at.exchange_beside_inside_out-requires c).Start))
+    record { exchanges = c.requires.exchanges; buffers = (c.requires.buffers, sym (copy_room _ (fits (goal.at.exchange_beside_inside_out-requires c).Start)) ∙ long (goal.at.exchange_beside_inside_out-requires c).Start) }

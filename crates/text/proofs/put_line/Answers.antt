@@ -1,3 +1,4 @@
+use Rattle.std.proofs.Common.{[]}
 use mathlib.Core.Path.{◌≡◌, refl, ◌∙◌}
 use native.Mathlib.Omega.{arith}
 use mathlib.Core.List.{◌∷◌}
@@ -33,4 +34,4 @@ returns c =
     let n = vlen (goal.at.returns c).After-v-1 in
     let l = c.args.l in
     let e : c.loop-k.k ≡ l.count = omega arith in
-    (search rules, rw (c.loop-k.invariant.0, c.loop-k.invariant.1.0, e) (after_hex _ l.numbers _ l.count (10 ∷ []) (search rules)))
+    record { value = search rules; out_after = rw (c.loop-k.invariant.0, c.loop-k.invariant.1.0, e) (after_hex _ l.numbers _ l.count (10 ∷ []) (search rules)) }

@@ -4,7 +4,7 @@ use Rattle.update.proofs.mend.Goals as goal
 
 pub rework_edit-requires : goal.rework_edit-requires
 rework_edit-requires c =
-    (c.requires.well_formed, (rw c.if-inward.true at c.requires.lent.0, c.requires.lent.1))
+    record { well_formed = c.requires.well_formed; marks_value = (rw c.if-inward.true at c.requires.lent.0, c.requires.lent.1) }
 
 pub returns-then-inward : goal.returns-then-inward
 returns-then-inward c =
@@ -14,7 +14,7 @@ returns-then-inward c =
 
 pub repair_edit-program-requires : goal.repair_edit-program-requires
 repair_edit-program-requires c =
-    (c.requires.well_formed, (rw c.if-inward.false at c.requires.lent.0, c.requires.lent.1))
+    record { well_formed = c.requires.well_formed; lent_forward = (rw c.if-inward.false at c.requires.lent.0, c.requires.lent.1) }
 
 pub returns : goal.returns
 returns c =

@@ -7,7 +7,7 @@ pub write_program-requires : goal.write_program-requires
 write_program-requires c =
     let k = c.checked_program-r.ensures in
     let h = c.enum_told-1.given.1 in
-    ((k.well_formed h).transitions_fit, has_room c.args.file.now c.args.output.now k h)
+    record { fits = (k.well_formed h).transitions_fit; room = has_room c.args.file.now c.args.output.now k h }
 
 pub returns-in-Refused : goal.returns-in-Refused
 returns-in-Refused c =

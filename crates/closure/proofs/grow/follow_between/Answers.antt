@@ -37,7 +37,7 @@ slice_bounds-follow_part-end c =
 
 pub follow_part-requires : goal.follow_part-requires
 follow_part-requires c =
-    (c.requires.well_formed.2, (_, followable (goal.at.follow_part-requires c).After-in_use-count))
+    record { high_bound = c.requires.well_formed.2; followable = (_, followable (goal.at.follow_part-requires c).After-in_use-count) }
 
 pub returns : goal.returns
 returns c =

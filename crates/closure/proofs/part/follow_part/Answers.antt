@@ -23,10 +23,7 @@ pub follow_pending-iterations-requires : goal.follow_pending-iterations-requires
 follow_pending-iterations-requires c =
     let o = c.await_between-awaited.type_inv in
     let pe = c.await_between-awaited.ensures in
-    let a : length c.await_between-awaited.result.words ≡ pending_words = search (rules, o) in (
-      (c.requires.followable.1.sized.usable, c.requires.followable.1.sized.admitted, a, none_under c.args.z c.requires.followable.1.sized.usable c.args.low c.args.high c.args.marks.now pe),
-      (_, part_begun c.args.z c.requires.followable.1.sized.usable c.requires.followable.1 c.index_of-edges.ensures c.summaries_of-exits.ensures pe),
-    )
+    let a : length c.await_between-awaited.result.words ≡ pending_words = search (rules, o) in record { usable = (c.requires.followable.1.sized.usable, c.requires.followable.1.sized.admitted, a, none_under c.args.z c.requires.followable.1.sized.usable c.args.low c.args.high c.args.marks.now pe); begun = (_, part_begun c.args.z c.requires.followable.1.sized.usable c.requires.followable.1 c.index_of-edges.ensures c.summaries_of-exits.ensures pe) }
 
 pub returns : goal.returns
 returns c =

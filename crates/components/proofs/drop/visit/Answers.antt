@@ -12,7 +12,7 @@ returns-then-rank-i c = λ old t. rank_skipped t c.rank.ensures c.if-rank-i.true
 pub work_component-requires : goal.work_component-requires
 work_component-requires c =
     let z = c.requires in
-    ((omega arith, c.if-flags-f-ne0.false), (z.0, at_turn z.1 c.rank.ensures c.if-rank-i.false))
+    record { f_lt_max_routines = (omega arith, c.if-flags-f-ne0.false); comes = (z.0, at_turn z.1 c.rank.ensures c.if-rank-i.false) }
 
 pub returns : goal.returns
 returns c =

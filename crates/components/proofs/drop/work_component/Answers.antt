@@ -14,7 +14,7 @@ component_pass-requires c =
     let t = c.requires.comes.1 in
     let m = c.component-c.ensures in
     let is = component_members t.graph c.requires.f_lt_max_routines.0 m in
-    ((t.drop.well_formed, t.drop.sized), may_pass c.args.f t c.requires.f_lt_max_routines.0 c.requires.f_lt_max_routines.1 m.len is)
+    record { well_formed = (t.drop.well_formed, t.drop.sized); passable = may_pass c.args.f t c.requires.f_lt_max_routines.0 c.requires.f_lt_max_routines.1 m.len is }
 
 pub returns-then-is_reanalyzed : goal.returns-then-is_reanalyzed
 returns-then-is_reanalyzed c =

@@ -1,3 +1,4 @@
+use Rattle.std.proofs.Common.{[]}
 use mathlib.Core.Path.{ap, ◌∙◌}
 use mathlib.Core.Bool.{cond}
 use lib.Dec.{eqb}

@@ -9,10 +9,7 @@ use Rattle.exchange.proofs.apply.exchanged.Goals as goal
 
 pub joined-edges-requires : goal.joined-edges-requires
 joined-edges-requires c =
-    (
-      (c.others_of-rest.ensures.1, omega (arith, c.first_from-at.ensures.within, c.others_of-rest.ensures.1)),
-      room_left (edge_keys_of c.others_of-rest.result) (edge_keys_of c.args.x.edges) c.others_of-rest.ensures.0 c.requires.edges_limited,
-    )
+    record { count_value = (c.others_of-rest.ensures.1, omega (arith, c.first_from-at.ensures.within, c.others_of-rest.ensures.1)); len_bound = room_left (edge_keys_of c.others_of-rest.result) (edge_keys_of c.args.x.edges) c.others_of-rest.ensures.0 c.requires.edges_limited }
 
 pub returns : goal.returns
 unfolding exchanged_program

@@ -10,7 +10,7 @@ more : (c : In-loop-at) → (c.loop-at.at < length c.args.marks.now) × (c.loop-
 more c = goes_on _ _ _ _ c.loop-at-test.true
 
 pub first_set-at-requires : goal.first_set-at-requires
-first_set-at-requires c = (c.requires.usable.3, omega (arith, c.requires.usable.2))
+first_set-at-requires c = record { none_below = c.requires.usable.3; words_len_bound = omega (arith, c.requires.usable.2) }
 
 pub loop-at-init : goal.loop-at-init
 loop-at-init c =
@@ -32,7 +32,7 @@ overflow_add-iterations c =
 pub first_set-at-requires-in-loop-at : goal.first_set-at-requires-in-loop-at
 first_set-at-requires-in-loop-at c =
     let t = c.take-low in
-    (t.ensures.lowest c.loop-at.invariant.1.first.below, omega (arith, t.auto.pending, c.loop-at.invariant.1.pending_length, c.requires.usable.2))
+    record { none_below = t.ensures.lowest c.loop-at.invariant.1.first.below; words_len_bound = omega (arith, t.auto.pending, c.loop-at.invariant.1.pending_length, c.requires.usable.2) }
 
 pub loop-at-smaller : goal.loop-at-smaller
 loop-at-smaller c = omega (arith, (more (goal.at.loop-at-smaller c).In-loop-at).1)

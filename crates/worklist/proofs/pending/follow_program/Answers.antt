@@ -53,7 +53,7 @@ begun c =
 
 pub follow_pending-requires : goal.follow_pending-requires
 follow_pending-requires c =
-    ((c.requires.1.usable, c.requires.1.admitted, c.requires.2, none_yet _), (program_of c.args.p, begun (goal.at.follow_pending-requires c).After-index_of-chained))
+    record { usable = (c.requires.1.usable, c.requires.1.admitted, c.requires.2, none_yet _); begun = (program_of c.args.p, begun (goal.at.follow_pending-requires c).After-index_of-chained) }
 
 pub returns : goal.returns
 returns c =

@@ -7,7 +7,7 @@ use native.Mathlib.Omega.{arith}
 use Rattle.worklist.proofs.run.is_done.Goals as goal
 
 pub first_set-requires : goal.first_set-requires
-first_set-requires c = (none_yet _, omega (arith, c.requires.0))
+first_set-requires c = record { none_below = none_yet _; words_len_bound = omega (arith, c.requires.0) }
 
 pub returns : goal.returns
 returns c =

@@ -41,12 +41,12 @@ put_keys-after_transitions-requires c =
 pub put_bytes-after_initial-requires : goal.put_bytes-after_initial-requires
 put_bytes-after_initial-requires c =
     let r = room (goal.at.put_bytes-after_initial-requires c).Start in
-    (omega arith, omega arith)
+    record { short = omega arith; room = omega arith }
 
 pub put_bytes-requires : goal.put_bytes-requires
 put_bytes-requires c =
     let r = room (goal.at.put_bytes-requires c).Start in
-    (omega arith, omega arith)
+    record { short = omega arith; room = omega arith }
 
 pub returns : goal.returns
 returns c =

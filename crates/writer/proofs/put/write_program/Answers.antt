@@ -33,7 +33,7 @@ put_line-after_header-requires c =
 pub put_bytes-after_nodes-requires : goal.put_bytes-after_nodes-requires
 put_bytes-after_nodes-requires c =
     let r = room (goal.at.put_bytes-after_nodes-requires c).After-header_line-header in
-    (omega (arith, routines (goal.at.put_bytes-after_nodes-requires c).Start), omega arith)
+    record { short = omega (arith, routines (goal.at.put_bytes-after_nodes-requires c).Start); room = omega arith }
 
 pub put_keys-after_edges-requires : goal.put_keys-after_edges-requires
 put_keys-after_edges-requires c =
@@ -44,7 +44,7 @@ pub put_automaton-after_automaton-requires : goal.put_automaton-after_automaton-
 put_automaton-after_automaton-requires c =
     let r = room (goal.at.put_automaton-after_automaton-requires c).After-header_line-header in
     let w = starts-within (program_of c.args.p) _ c.requires.fits in
-    (w, omega (arith, c.put_keys-after_edges.ensures.past, c.put_bytes-after_nodes.ensures.past, c.put_line-after_header.ensures.value))
+    record { within = w; room = omega (arith, c.put_keys-after_edges.ensures.past, c.put_bytes-after_nodes.ensures.past, c.put_line-after_header.ensures.value) }
 
 pub put_line-requires : goal.put_line-requires
 put_line-requires c =
