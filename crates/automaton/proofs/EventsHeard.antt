@@ -29,6 +29,7 @@ listed_in q l s (t ∷ ts) e =
 
 pub in_listed : (t : Transition) (ts : List Transition) → Memᴰ t ts → listed t.before t.label t.after ts ≡ true
 unfolding listed
+in_listed t [] x = elim x [ ]
 in_listed t (u ∷ ts) (Memᴰ.head e) =
     rw (← e, eq-eqb t.before t.before refl, eq-eqb t.label t.label refl, eq-eqb t.after t.after refl)
 in_listed t (u ∷ ts) (Memᴰ.tail m) = or_right (goes t.before t.label t.after u) _ (in_listed t ts m)
@@ -37,6 +38,7 @@ in_listed t (u ∷ ts) (Memᴰ.tail m) = or_right (goes t.before t.label t.after
 
 pub has_label : (t : Transition) (ts : List Transition) → Memᴰ t ts → heard t.label ts ≡ true
 unfolding heard
+has_label t [] x = elim x [ ]
 has_label t (u ∷ ts) (Memᴰ.head e) = rw (← e, eq-eqb t.label t.label refl)
 has_label t (u ∷ ts) (Memᴰ.tail m) = or_right (eqb u.label t.label) _ (has_label t ts m)
 

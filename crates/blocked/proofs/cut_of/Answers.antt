@@ -10,7 +10,7 @@ pub bounds-marks-i : goal.bounds-marks-i
 bounds-marks-i c = omega (arith, c.requires.2, c.requires.3)
 
 pub returns-then-marks-i-eq0 : goal.returns-then-marks-i-eq0
-returns-then-marks-i-eq0 c = (not_marked _ p _ _ c.if-marks-i-eq0.true, λ e. never e refl)
+returns-then-marks-i-eq0 c p t = (not_marked _ p _ _ c.if-marks-i-eq0.true, λ e. never e refl)
 
 pub parts_of-c-requires : goal.parts_of-c-requires
 parts_of-c-requires c = (c.requires.0, c.requires.2)
@@ -21,7 +21,7 @@ first_barred-first-requires c =
     (c.requires.4, omega (arith, r.routine, c.requires.1.routines), omega (arith, r.node, c.requires.1.nodes))
 
 pub returns-then-first-keys : goal.returns-then-first-keys
-returns-then-first-keys c =
+returns-then-first-keys c p t =
     let told = cut_by_edge c.requires.0 t c.parts_of-c.ensures _ c.if-marks-i-eq0.false c.first_barred-first.ensures (omega arith) in
     (told.0, λ e. told.1)
 
@@ -30,6 +30,6 @@ has_no_return-is_cut-requires c =
     omega (arith, c.parts_of-c.ensures.in_range.routine, c.requires.1.routines)
 
 pub returns : goal.returns
-returns c =
+returns c p t =
     let told = cut_by_return c.requires.0 t c.parts_of-c.ensures _ c.if-marks-i-eq0.false c.first_barred-first.ensures (omega arith) c.has_no_return-is_cut.ensures in
     (told.0, λ e. told.1)

@@ -25,7 +25,7 @@ use Rattle.blocked.proofs.search_marks.Goals.{In-loop-i}
 --       rw (le-ltb (seek (is_blocked Z p marks) (numbers Z - low) low) (numbers Z) (seek_out s h), le-ltb i (numbers Z) h) refl
 
 pub loop-i-init : goal.loop-i-init
-loop-i-init c = seek_start _ _ _
+loop-i-init c p t = seek_start _ _ _
 
 -- a number of the marks is one of a configuration
 numbered : (c : In-loop-i) → c.loop-i.i < numbers c.args.z
@@ -36,13 +36,13 @@ cut_of-cut-requires c =
     (c.requires.0, c.requires.1, numbered c, c.requires.2, c.requires.3)
 
 pub returns-then-cut : goal.returns-then-cut
-returns-then-cut c =
+returns-then-cut c p t =
     let told = c.cut_of-cut.ensures p t in
     block_here _ p _ (c.loop-i.invariant p t) (numbered (goal.at.returns-then-cut c).In-loop-i) (sym told.0 ∙ c.if-cut.true) (told.1 c.if-cut.true)
 
 pub loop-i-preserved : goal.loop-i-preserved
-loop-i-preserved c =
+loop-i-preserved c p t =
     seek_next (c.loop-i.invariant p t) (numbered (goal.at.loop-i-preserved c).In-loop-i) (sym (c.cut_of-cut.ensures p t).0 ∙ c.if-cut.false)
 
 pub returns : goal.returns
-returns c = let h = c.loop-i-test in block_nowhere _ p _ (c.loop-i.invariant p t) 0 (omega (arith, c.requires.2))
+returns c p t = let h = c.loop-i-test in block_nowhere _ p _ (c.loop-i.invariant p t) 0 (omega (arith, c.requires.2))

@@ -25,7 +25,7 @@ pub shape_of-kept : goal.shape_of-kept
 shape_of-kept c = c.loop-q.invariant.1 ∙ sym c.requires.marks_len.1
 
 pub returns : goal.returns
-returns c =
+returns c p e s =
     let l = c.loop-q in
     let a = c.args in
     let z : l.q ≡ a.z.states = omega arith in

@@ -29,6 +29,6 @@ keep_all-requires c =
     record { usable = (c.requires.usable.0, c.requires.usable.1, subst (λ (ks : List ℕ). Ascending 0 (map edge_key (map edge_of ks))) (sym same) c.requires.usable.2); marks_len = c.requires.marks_len }
 
 pub returns : goal.returns
-returns c =
+returns c p w sz e a s =
     let t = its_tables _ c.requires.usable.0 p w sz c.args.edges e a (edges_room (goal.at.returns c).Start) c.in_use-m.ensures in
     settled_shows _ c.requires.usable.0 t c.args.marks.now s c.keep_all.ensures

@@ -17,4 +17,4 @@ loop-i-preserved c =
     c.if-is_violation.branch
 
 pub returns : goal.returns
-returns c = counted_all (counts_violations _ p) (c.loop-i.invariant.1 p r) c.loop-i-test.false
+returns c p r = counted_all (counts_violations _ p) (c.loop-i.invariant.1 p r) c.loop-i-test.false

@@ -5,7 +5,7 @@ use Rattle.reach.proofs.Numbers.{state_small}
 use Rattle.violations.proofs.is_violation.Goals as goal
 
 pub returns : goal.returns
-returns c =
+returns c p r =
     let at = c.state_of.ensures.0 in
     let i = c.args.i in
     let z = c.args.z in

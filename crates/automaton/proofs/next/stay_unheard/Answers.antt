@@ -22,7 +22,7 @@ loop-i-preserved c =
     (filling_more w (omega arith) (stayed_value n.routines n.states n.actions c.args.heard.now c.args.sets.now c.loop-i.i _ c.loop-i.invariant.1 e), omega (arith, c.loop-i.invariant.1))
 
 pub returns : goal.returns
-returns c =
+returns c r states actions ranged heard listed =
     let n = c.args.n in
     stayed_all r n.routines ranged listed heard (rw (states, actions) (filling_all c.loop-i.invariant.0 (omega arith)))
 
