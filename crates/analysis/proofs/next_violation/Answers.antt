@@ -4,16 +4,16 @@ use Rattle.analysis.proofs.next_violation.Goals as goal
 
 pub search_own-requires : goal.search_own-requires
 search_own-requires c =
-    ready c.checked_program-r.ensures c.enum_told-1.given.1
+    ready c.checked_program-r.ensures c.in-Accepted.is
 
 pub returns-in-Refused : goal.returns-in-Refused
 returns-in-Refused c =
     let z = c.args in
-    next_answered z.file.now z.marks.now z.work.now c.checked_program-r.ensures c.v-1.given.1 z.low
+    next_answered z.file.now z.marks.now z.work.now c.checked_program-r.ensures c.in-Refused.is z.low
 
 pub returns-in-Accepted : goal.returns-in-Accepted
 returns-in-Accepted c =
     let z = c.args in
-    let w = next_answered z.file.now z.marks.now z.work.now c.checked_program-r.ensures c.enum_told-1.given.1 z.low in
+    let w = next_answered z.file.now z.marks.now z.work.now c.checked_program-r.ensures c.in-Accepted.is z.low in
     let a = c.search_own.ensures in
     (a.0 ∙ w.0, a.1 ∙ w.1)

@@ -15,7 +15,7 @@ use Rattle.analysis.proofs.search_own.Goals as goal
 pub returns-in-Refused : goal.returns-in-Refused
 returns-in-Refused c =
     let o = c.check_own-own.ensures in
-    (rw (sym o.0 ∙ c.own-1.given.1), o.1)
+    (rw (sym o.0 ∙ c.in-Refused.is), o.1)
 
 pub returns-in-Accepted : goal.returns-in-Accepted
 returns-in-Accepted c =
@@ -24,7 +24,7 @@ returns-in-Accepted c =
     let o = c.check_own-own.ensures in
     let i = c.first_violation-i in (
       c.found.ensures ∙ ap (λ (n : ℕ). found_of (within n i.result)) c.requires.marks_len.0
-          ∙ own_found p _ c.args.low i.result (sym o.0 ∙ c.enum_told-1.given.1)
+          ∙ own_found p _ c.args.low i.result (sym o.0 ∙ c.in-Accepted.is)
           (subst (λ (y : Sizes). first_from c.args.low (violations_from y p c.args.marks.now 0) ≡ within (numbers y) i.result) e
           (i.ensures p c.rejecting_flags-rejecting.ensures)),
       o.1,

@@ -2,4 +2,4 @@ use native.Mathlib.Omega.{arith}
 use Rattle.answers.proofs.verdict_numbers.Goals as goal
 
 pub overflow_cast-result-in-Refused : goal.overflow_cast-result-in-Refused
-overflow_cast-result-in-Refused c = omega (arith, rw c.v-1.given.1 at c.requires)
+overflow_cast-result-in-Refused c = omega (arith, rw c.in-Refused.is at c.requires)

@@ -16,7 +16,7 @@ first_blocked-b-requires c =
 pub returns-in-Refused : goal.returns-in-Refused
 returns-in-Refused c =
     let o = c.check_own-own.ensures in
-    (rw (sym o.0 ∙ c.own-1.given.1), o.1)
+    (rw (sym o.0 ∙ c.in-Refused.is), o.1)
 
 pub returns-in-Accepted : goal.returns-in-Accepted
 returns-in-Accepted c =
@@ -24,6 +24,6 @@ returns-in-Accepted c =
     let e = c.sizes_of-z.ensures in
     let o = c.check_own-own.ensures in (
       c.found.ensures ∙ ap (λ (n : ℕ). found_within n b.result.number b.result.edge) c.requires.marks_len.0
-          ∙ own_block (program_of c.args.p) _ c.args.low b.result.number b.result.edge e (sym o.0 ∙ c.enum_told-1.given.1) b.ensures,
+          ∙ own_block (program_of c.args.p) _ c.args.low b.result.number b.result.edge e (sym o.0 ∙ c.in-Accepted.is) b.ensures,
       o.1,
     )

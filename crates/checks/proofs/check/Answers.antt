@@ -1,7 +1,6 @@
-use Rattle.std.proofs.Common.{[]}
 use Rattle.program.specs.Checks.{row, first_met, verdict_of, followed_by}
 use Prim.Native.Nat.{ℕ}
-use mathlib.Core.List.{◌∷◌}
+use mathlib.Core.List.{[], ◌∷◌}
 use mathlib.Core.Path.{ap, ◌∙◌}
 use Rattle.checks.proofs.check.Goals as goal
 

@@ -1,4 +1,4 @@
 use Rattle.checks.proofs.under.Goals as goal
 
 pub returns-in-Of : goal.returns-in-Of
-returns-in-Of c = rw c.length-1.given.1
+returns-in-Of c = rw c.in-Of.is

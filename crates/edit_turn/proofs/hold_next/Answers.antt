@@ -16,10 +16,10 @@ hold-requires c =
 pub returns-in-Refused : goal.returns-in-Refused
 returns-in-Refused c =
     let a = c.args in
-    λ i. record { file = file_stays a.t2 (held_of a.held).file c.answer-1.given.1 i; marks = (held_of a.held).marks }
+    λ i. record { file = file_stays a.t2 (held_of a.held).file c.in-Refused.is i; marks = (held_of a.held).marks }
 
 pub returns-in-Written : goal.returns-in-Written
 returns-in-Written c =
     let a = c.args in
     c.hold.ensures
-    ∙ (λ i. record { file = file_wrote (held_of a.held).file c.answer-in-Written-1.given.1 c.within-written.ensures i; marks = (held_of a.held).marks })
+    ∙ (λ i. record { file = file_wrote (held_of a.held).file c.in-Written.is c.within-written.ensures i; marks = (held_of a.held).marks })

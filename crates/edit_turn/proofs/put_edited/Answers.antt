@@ -7,7 +7,7 @@ use Rattle.edit_turn.proofs.put_edited.Goals as goal
 pub returns-in-Refused : goal.returns-in-Refused
 returns-in-Refused c =
     let n : length c.args.out.now ≡ 180235 = search rules in
-    rw c.answer-1.given.1 (rw n at c.edit_refusal.ensures)
+    rw c.in-Refused.is (rw n at c.edit_refusal.ensures)
 
 pub returns-in-Written : goal.returns-in-Written
-returns-in-Written c = rw c.answer-in-Written-1.given.1 c.put_held.ensures
+returns-in-Written c = rw c.in-Written.is c.put_held.ensures

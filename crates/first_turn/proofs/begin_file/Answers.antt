@@ -42,7 +42,7 @@ returns-in-Refused c =
     let n : length a.out.now ≡ 180235 = search rules in
     gives_refusal a.input.now a.out.now c.file_size-end.ensures
     (analyze_refuses _ _ _ (λ e. sym (zeros_counted _ l.0) ∙ l.1 e) (λ e. sym (zeros_counted _ l.0) ∙ l.1 e)
-    (sym c.answer-1.given.1 ∙ x.0))
+    (sym c.in-Refused.is ∙ x.0))
     (rw n at c.file_refusal-size.ensures)
     c.nothing_more.ensures
 
@@ -52,6 +52,6 @@ returns-in-Counts c =
     let y = c.analyze_whole-answer in
     let x = y.ensures in
     let l = c.marks_length-length.ensures in
-    let v = analyze_accepts _ _ _ (λ e. sym (zeros_counted _ l.0) ∙ l.1 e) (λ e. sym (zeros_counted _ l.0) ∙ l.1 e) (sym c.answer-in-Counts-1.given.1 ∙ x.0) in
+    let v = analyze_accepts _ _ _ (λ e. sym (zeros_counted _ l.0) ∙ l.1 e) (λ e. sym (zeros_counted _ l.0) ∙ l.1 e) (sym c.in-Counts.is ∙ x.0) in
     let own = front_part _ _ (y.auto.marks ∙ sym (zeros_counted _ l.0)) ∙ x.1 ∙ fresh_after _ _ _ (λ e. sym (zeros_counted _ l.0) ∙ l.1 e) (λ e. sym (zeros_counted _ l.0) ∙ l.1 e) v in
     gives_block a.input.now a.out.now c.file_size-end.ensures v own c.hold-held.ensures c.put_held-size.ensures

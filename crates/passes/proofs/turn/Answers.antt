@@ -8,7 +8,6 @@ use Rattle.reach.proofs.Numbers.{first_number, routine_fits}
 use native.Mathlib.Omega.{arith}
 use mathlib.Core.Path.{◌≡◌, sym, ◌∙◌}
 use lib.ListN.{length}
-use borrow.Author.Tests.{not-true, not-false}
 use borrow.Author.Rules.{rules}
 use Rattle.passes.proofs.turn.Goals as goal
 use Rattle.passes.proofs.turn.Goals.{Start}
@@ -17,7 +16,7 @@ room : (c : Start) → length c.args.p.edges.keys ≡ max_edges
 room c = search rules
 
 pub returns-then-not-is_set : goal.returns-then-not-is_set
-returns-then-not-is_set c = no_turn c.requires.ready.0 _ (sym c.is_set.ensures ∙ not-true _ c.if-not-is_set.true)
+returns-then-not-is_set c = no_turn c.requires.ready.0 _ (sym c.is_set.ensures ∙ c.if-not-is_set.true)
 
 pub first_of-from-requires : goal.first_of-from-requires
 first_of-from-requires c =
@@ -53,7 +52,7 @@ pub returns : goal.returns
 returns c =
     let e = routine_edges c.args.p.edges.count (room (goal.at.returns c).Start) c.in_use-count.ensures c.first_of-from.ensures c.first_of-to.ensures c.requires.ready.0.well_formed.edges_ascend in
     let may = turn_followable c.args.f c.number_of-low.ensures.0 c.routine_span-span.ensures.0 c.requires.ready.0 e c.requires.ready.1 in
-    turn_shown c.requires.ready.0 _ (true_member c.args.members.now c.args.f (sym c.is_set.ensures ∙ not-false _ c.if-not-is_set.false)) (c.follow_part.ensures _ may)
+    turn_shown c.requires.ready.0 _ (true_member c.args.members.now c.args.f (sym c.is_set.ensures ∙ c.if-not-is_set.false)) (c.follow_part.ensures _ may)
 
 pub slice_bounds-first_of-end : goal.slice_bounds-first_of-end
 slice_bounds-first_of-end c = let h = room (goal.at.slice_bounds-first_of-end c).Start in search rules

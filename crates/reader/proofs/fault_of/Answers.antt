@@ -29,7 +29,7 @@ returns c = λ before h.
     let s = sizes (goal.at.returns c).Start in
     c.fault_by.ensures
     ∙ rw (
-      c.Limits-of.ensures,
+      c.limits_of.ensures,
       in_use_length p.nodes.count p.nodes.list s.0 c.in_use.ensures,
       counted edge_of p.edges.count p.edges.keys s.1 c.in_use-2.ensures,
       counted transition_of p.automaton.transitions.count p.automaton.transitions.keys s.2 c.in_use-3.ensures,

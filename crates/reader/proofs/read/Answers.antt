@@ -13,7 +13,7 @@ use Rattle.program.specs.Sizes.{max_frames}
 use Rattle.rows.specs.Rows.{TableRow}
 use Rattle.rows.specs.Decoded.{rows_of}
 use Rattle.reader.proofs.read.Goals as goal
-use Rattle.reader.proofs.read.Goals.{At-loop-at, Else-n-gt0}
+use Rattle.reader.proofs.read.Goals.{After-fault_of-n, At-loop-at, Else-n-gt0}
 
 pub loop-at-init : goal.loop-at-init
 loop-at-init c = rw c.no_rows-rows.ensures (begins _ _ c.start_reader-s.ensures)
@@ -28,20 +28,19 @@ some-frames : (p : At-loop-at) → p.loop-at.s.frames ≤ max_frames + 1
 some-frames p = few (file_of p) p.loop-at.s (rows_at p) p.loop-at.at p.loop-at.invariant
 
 -- what is known of the line that was judged
--- TODO
--- module _ (c : tie.After-fault-of invariant-loop decreases-loop) where
---   in-file : (turn c).loop.at < length (file_of (turn c))
---   in-file = omega arith
--- 
---   not-ended : (turn c).loop.s.ended ≡ false
---   not-ended = c.before.before.before.before.if1.false
--- 
---   judged : c.fault-of.result ≡ judge (progress_of (turn c).loop.s (rows_at (turn c))) (line_at (file_of (turn c)) (turn c).loop.at).line
---   judged = c.fault-of.ensures (rows_at (turn c)) c.before.row_count.ensures
---       ∙ ap (λ (x : ReadLine). judge (progress_of (turn c).loop.s (rows_at (turn c))) x.line) c.before.before.before.read-line.ensures
+module _ (c : After-fault_of-n) where
+  in-file : c.loop-at.at < length (file_of (goal.at.After-fault_of-n c).At-loop-at)
+  in-file = omega arith
+
+  not-ended : c.loop-at.s.ended ≡ false
+  not-ended = c.if-s.false
+
+  judged : c.fault_of-n.result ≡ judge (progress_of c.loop-at.s (rows_at (goal.at.After-fault_of-n c).At-loop-at)) (line_at (file_of (goal.at.After-fault_of-n c).At-loop-at) c.loop-at.at).line
+  judged = c.fault_of-n.ensures (rows_at (goal.at.After-fault_of-n c).At-loop-at) c.row_count.ensures
+      ∙ ap (λ (x : ReadLine). judge (progress_of c.loop-at.s (rows_at (goal.at.After-fault_of-n c).At-loop-at)) x.line) c.read_line-next.ensures
 
 no_fault : (c : Else-n-gt0) → judge (progress_of c.loop-at.s (rows_at (goal.at.Else-n-gt0 c).At-loop-at)) (line_at (file_of (goal.at.Else-n-gt0 c).At-loop-at) c.loop-at.at).line ≡ 0
-no_fault c = omega (arith, judged c)
+no_fault c = omega (arith, judged (goal.at.Else-n-gt0 c).After-fault_of-n)
 
 pub overflow_add-s : goal.overflow_add-s
 overflow_add-s c = omega (arith, some-frames (goal.at.overflow_add-s c).At-loop-at)
@@ -57,30 +56,30 @@ overflow_add-s-then-n-gt0 c = omega (arith, some-frames (goal.at.overflow_add-s-
 pub returns-then-n-gt0 : goal.returns-then-n-gt0
 returns-then-n-gt0 c =
     c.refuse-then-n-gt0.ensures
-    ∙ rw (judged c)
-    (sym (faulty (file_of (goal.at.returns-then-n-gt0 c).At-loop-at) c.loop-at.s (rows_at (goal.at.returns-then-n-gt0 c).At-loop-at) c.loop-at.at c.loop-at.invariant (in-file c) (not-ended c) (rw (judged c) at c.if-n-gt0.true)))
+    ∙ rw (judged (goal.at.returns-then-n-gt0 c).After-fault_of-n)
+    (sym (faulty (file_of (goal.at.returns-then-n-gt0 c).At-loop-at) c.loop-at.s (rows_at (goal.at.returns-then-n-gt0 c).At-loop-at) c.loop-at.at c.loop-at.invariant (in-file (goal.at.returns-then-n-gt0 c).After-fault_of-n) (not-ended (goal.at.returns-then-n-gt0 c).After-fault_of-n) (rw (judged (goal.at.returns-then-n-gt0 c).After-fault_of-n) at c.if-n-gt0.true)))
 
 pub after_frame-s-requires : goal.after_frame-s-requires
 after_frame-s-requires c =
     (
-      rw c.read_line-next.ensures (has_room (file_of (goal.at.after_frame-s-requires c).At-loop-at) c.loop-at.s (rows_at (goal.at.after_frame-s-requires c).At-loop-at) c.loop-at.at c.loop-at.invariant (not-ended c) (no_fault (goal.at.after_frame-s-requires c).Else-n-gt0)),
+      rw c.read_line-next.ensures (has_room (file_of (goal.at.after_frame-s-requires c).At-loop-at) c.loop-at.s (rows_at (goal.at.after_frame-s-requires c).At-loop-at) c.loop-at.at c.loop-at.invariant (not-ended (goal.at.after_frame-s-requires c).After-fault_of-n) (no_fault (goal.at.after_frame-s-requires c).Else-n-gt0)),
       omega (arith, some-frames (goal.at.after_frame-s-requires c).At-loop-at),
     )
 
 pub rows_after-rows-requires : goal.rows_after-rows-requires
 rows_after-rows-requires c =
-    rw c.read_line-next.ensures (has_room_for_row (file_of (goal.at.rows_after-rows-requires c).At-loop-at) c.loop-at.s (rows_at (goal.at.rows_after-rows-requires c).At-loop-at) c.loop-at.at c.loop-at.invariant (not-ended c) (no_fault c))
+    rw c.read_line-next.ensures (has_room_for_row (file_of (goal.at.rows_after-rows-requires c).At-loop-at) c.loop-at.s (rows_at (goal.at.rows_after-rows-requires c).At-loop-at) c.loop-at.at c.loop-at.invariant (not-ended (goal.at.rows_after-rows-requires c).After-fault_of-n) (no_fault c))
 
 pub loop-at-smaller : goal.loop-at-smaller
 loop-at-smaller c =
-    let m = proceeds (file_of (goal.at.loop-at-smaller c).At-loop-at) c.loop-at.s (rows_at (goal.at.loop-at-smaller c).At-loop-at) c.loop-at.at c.loop-at.invariant (not-ended c) (no_fault (goal.at.loop-at-smaller c).Else-n-gt0) (in-file c) in
-    rw c.read_line-next.ensures (omega (arith, in-file c))
+    let m = proceeds (file_of (goal.at.loop-at-smaller c).At-loop-at) c.loop-at.s (rows_at (goal.at.loop-at-smaller c).At-loop-at) c.loop-at.at c.loop-at.invariant (not-ended (goal.at.loop-at-smaller c).After-fault_of-n) (no_fault (goal.at.loop-at-smaller c).Else-n-gt0) (in-file (goal.at.loop-at-smaller c).After-fault_of-n) in
+    rw c.read_line-next.ensures (omega (arith, in-file (goal.at.loop-at-smaller c).After-fault_of-n))
 
 pub loop-at-preserved : goal.loop-at-preserved
 loop-at-preserved c =
     let l = c.read_line-next.ensures in
-    let known = c.After-frame in
-    rw l (continues (file_of (goal.at.loop-at-preserved c).At-loop-at) c.loop-at.s (rows_at (goal.at.loop-at-preserved c).At-loop-at) c.loop-at.at c.loop-at.invariant (not-ended c) (no_fault (goal.at.loop-at-preserved c).Else-n-gt0) (in-file c) _ _
+    let known = c.after_frame-s in
+    rw l (continues (file_of (goal.at.loop-at-preserved c).At-loop-at) c.loop-at.s (rows_at (goal.at.loop-at-preserved c).At-loop-at) c.loop-at.at c.loop-at.invariant (not-ended (goal.at.loop-at-preserved c).After-fault_of-n) (no_fault (goal.at.loop-at-preserved c).Else-n-gt0) (in-file (goal.at.loop-at-preserved c).After-fault_of-n) _ _
     (ap (progress_of known.result) c.rows_after-rows.ensures ∙ known.ensures (rows_at (goal.at.loop-at-preserved c).At-loop-at) ∙ ap (λ (x : ReadLine). after (progress_of c.loop-at.s (rows_at (goal.at.loop-at-preserved c).At-loop-at)) x.line) l))
 
 pub finish-requires : goal.finish-requires

@@ -19,7 +19,7 @@ use Rattle.repair.proofs.repair_own.Goals.{In-Accepted}
 own_marks : (t : In-Accepted) {z : Sizes} → z ≡ sizes_of (program_of t.args.p) → t.args.marks.now ≡ fresh_at z (program_of t.args.p)
 own_marks t i =
     let p = program_of t.args.p in
-    accepted_own p t.args.marks.now (sym t.check_own-own.ensures.0 ∙ t.enum_told-1.given.1) ∙ ap (λ (y : Sizes). fresh_at y p) (sym i)
+    accepted_own p t.args.marks.now (sym t.check_own-own.ensures.0 ∙ t.in-Accepted.is) ∙ ap (λ (y : Sizes). fresh_at y p) (sym i)
 
 pub mend-mended-requires : goal.mend-mended-requires
 mend-mended-requires c =
@@ -39,12 +39,12 @@ pub returns-in-Refused : goal.returns-in-Refused
 returns-in-Refused c =
     let p = program_of c.args.p in
     let o = c.check_own-own.ensures in
-    let h = sym o.0 ∙ c.own-1.given.1 in
+    let h = sym o.0 ∙ c.in-Refused.is in
     (foreign_answer c.args.e p c.args.marks.now c.args.output.now c.args.work.now c.requires.marks_len.2 h o.1, λ i. number_foreign p c.args.marks.now (step c.args.e) h)
 
 pub returns-in-Accepted : goal.returns-in-Accepted
 returns-in-Accepted c =
-    let h = sym c.check_own-own.ensures.0 ∙ c.enum_told-1.given.1 in
+    let h = sym c.check_own-own.ensures.0 ∙ c.in-Accepted.is in
     let r = c.mend-mended.ensures in
     let k = mended_own c.args.inward c.args.e (program_of c.args.p) (own_marks (goal.at.returns-in-Accepted c).In-Accepted c.sizes_of-z.ensures) _ _ _ r.0 in (
       own_answer c.args.e (program_of c.args.p) c.args.marks.now c.args.output.now c.args.work.now c.requires.marks_len.2 c.sizes_of-z.ensures h k c.write_program-size.ensures,

@@ -13,13 +13,13 @@ wanted_edit-wanted-requires c = c.requires.well_formed
 
 pub repair_own-requires : goal.repair_own-requires
 repair_own-requires c =
-    let h = sym c.wanted_edit-wanted.ensures ∙ c.wanted-in-Read-1.given.1 in
+    let h = sym c.wanted_edit-wanted.ensures ∙ c.in-Read.is in
     record { well_formed = (c.requires.well_formed, wanted_applies (program_of c.args.p) c.args.text.now _ h); marks_len = c.requires.marks_len }
 
 pub returns-in-Refused : goal.returns-in-Refused
 returns-in-Refused c =
     let a = c.args in
-    let h = sym c.wanted_edit-wanted.ensures ∙ c.wanted-1.given.1 in (
+    let h = sym c.wanted_edit-wanted.ensures ∙ c.in-Refused.is in (
       wanted_refused (program_of a.p) a.marks.now a.text.now a.output.now a.work.now _ h,
       λ i. number_unwanted (program_of a.p) a.text.now _ h,
     )
@@ -27,7 +27,7 @@ returns-in-Refused c =
 pub returns-in-Read : goal.returns-in-Read
 returns-in-Read c =
     let a = c.args in
-    let h = sym c.wanted_edit-wanted.ensures ∙ c.wanted-in-Read-1.given.1 in
+    let h = sym c.wanted_edit-wanted.ensures ∙ c.in-Read.is in
     let o = c.repair_own in (
       o.ensures.0 ∙ wanted_read (program_of a.p) a.marks.now a.text.now a.output.now a.work.now _ h,
       λ i. number_wanted (program_of a.p) a.text.now _ h (eqb (refusal (plain o.result)) 0) (reanalyzed o.result) (o.ensures.1 i),

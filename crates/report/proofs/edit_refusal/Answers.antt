@@ -1,7 +1,6 @@
 -- `report::edit_refusal` meets its contract.
-use Rattle.std.proofs.Common.{[]}
 use mathlib.Core.Path.{◌≡◌, ap}
-use mathlib.Core.List.{◌∷◌}
+use mathlib.Core.List.{[], ◌∷◌}
 use native.Mathlib.Omega.{arith}
 use lib.ListN.{take}
 use Rattle.text.specs.declared.Line.{Line}

@@ -1,7 +1,6 @@
 -- `report::file_refusal` meets its contract.
-use Rattle.std.proofs.Common.{[]}
 use mathlib.Core.Path.{◌≡◌, ap}
-use mathlib.Core.List.{◌∷◌}
+use mathlib.Core.List.{[], ◌∷◌}
 use Prim.Native.Nat.{◌/◌, ◌%◌}
 use native.Mathlib.Omega.{arith}
 use lib.ListN.{take}

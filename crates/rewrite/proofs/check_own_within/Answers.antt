@@ -18,4 +18,4 @@ check_own-own-requires c =
 
 pub returns : goal.returns
 returns c =
-    (c.check_own-own.ensures.0, c.Clear-whole.ensures ∙ ap (λ (n : ℕ). replicate n 0) (same_length c))
+    (c.check_own-own.ensures.0, c.clear_whole.ensures ∙ ap (λ (n : ℕ). replicate n 0) (same_length c))

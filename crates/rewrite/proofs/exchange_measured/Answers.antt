@@ -9,41 +9,34 @@ use Rattle.exchange.specs.declared.lengths.Lengths.{Lengths}
 use lib.ListN.{length}
 use mathlib.Core.Path.{◌≡◌, ap, sym, ◌∙◌}
 use Rattle.rewrite.proofs.exchange_measured.Goals as goal
+use Rattle.rewrite.proofs.exchange_measured.Goals.{After-lengths_refusal-n}
 
 -- the places before
--- TODO
--- module _ (b : tie.After-lengths-refusal) where
---   abbrev sizes : tie.After-sizes-after
---   sizes = b.before.before
--- 
---   abbrev start : tie.Start
---   start = sizes.before.before.before.before.before.before
--- 
---   -- what the lengths meet, by the sizes before and after
---   met : b.lengths-refusal.result
---       ≡ first_met (length_rows (lengths_of sizes.before.sizes-of.result sizes.sizes-after.result) (length start.args.second.now) (length start.args.work.now))
---   met = b.lengths-refusal.ensures
---       ∙ ap (λ (l : Lengths). first_met (length_rows l (length start.args.second.now) (length start.args.work.now))) b.before.lengths-of.ensures
+module _ (b : After-lengths_refusal-n) where
+  -- what the lengths meet, by the sizes before and after
+  met : b.lengths_refusal-n.result
+      ≡ first_met (length_rows (lengths_of b.sizes_of-before.result b.sizes_after-after.result) (length b.args.second.now) (length b.args.work.now))
+  met = b.lengths_refusal-n.ensures
+      ∙ ap (λ (l : Lengths). first_met (length_rows l (length b.args.second.now) (length b.args.work.now))) b.lengths_of.ensures
 
 pub exchange_own-requires : goal.exchange_own-requires
 exchange_own-requires c =
-    let z = start c in
-    let i = (sizes c).before.sizes-of.ensures in record { well_formed = (z.pre.0.0, z.pre.0.1, i, (sizes c).sizes-after.ensures); measured = lengths_hold _ _ z.args.marks.now z.args.output.now z.args.work.now z.args.second.now (z.pre.1.0 ∙ ap numbers (sym i)) z.pre.1.1 (sym (met c) ∙ c.if-n-eq0.true) }
+    let i = c.sizes_of-before.ensures in record { well_formed = (c.requires.well_formed.0, c.requires.well_formed.1, i, c.sizes_after-after.ensures); measured = lengths_hold _ _ c.args.marks.now c.args.output.now c.args.work.now c.args.second.now (c.requires.marks_len.0 ∙ ap numbers (sym i)) c.requires.marks_len.1 (sym (met (goal.at.exchange_own-requires c).After-lengths_refusal-n) ∙ c.if-n-eq0.true) }
 
 pub returns-then-n-eq0 : goal.returns-then-n-eq0
 returns-then-n-eq0 c =
-    let z = (start c).args in
+    let z = c.args in
     let x = exchange_of z.exchange in
     let r = c.exchange_own.ensures in (
       r.0
-          ∙ measured_answer x (program_of z.p) z.marks.now z.output.now z.work.now z.second.now (sizes c).before.sizes-of.ensures (sizes c).sizes-after.ensures (met c) c.if-n-eq0.true,
+          ∙ measured_answer x (program_of z.p) z.marks.now z.output.now z.work.now z.second.now c.sizes_of-before.ensures c.sizes_after-after.ensures (met (goal.at.returns-then-n-eq0 c).After-lengths_refusal-n) c.if-n-eq0.true,
       r.1,
     )
 
 pub returns : goal.returns
 returns c =
-    let z = (start c).args in
+    let z = c.args in
     let x = exchange_of z.exchange in (
-      unmeasured_answer x (program_of z.p) z.marks.now z.output.now z.work.now z.second.now (sizes c).before.sizes-of.ensures (sizes c).sizes-after.ensures (met c) c.if-n-eq0.false,
+      unmeasured_answer x (program_of z.p) z.marks.now z.output.now z.work.now z.second.now c.sizes_of-before.ensures c.sizes_after-after.ensures (met (goal.at.returns c).After-lengths_refusal-n) c.if-n-eq0.false,
       λ i. number_none (Read (whole x)) (program_of z.p) c.if-n-eq0.false,
     )

@@ -31,7 +31,7 @@ mend_exchange-mended-requires c =
     let m = c.requires.measured in
     let o = c.check_own_within-own.ensures in
     let l = ap length o.1 ∙ length-replicate {A = ℕ} (length c.args.work.now) 0 in record { exchanges = exchanges (exchange_in (goal.at.mend_exchange-mended-requires c).Start) p q.0 q.1 q.2 q.3; buffers = record {
-        own = accepted_own p c.args.marks.now (sym o.0 ∙ c.enum_told-1.given.1) ∙ ap (λ (y : Sizes). fresh_at y p) (sym q.2);
+        own = accepted_own p c.args.marks.now (sym o.0 ∙ c.in-Accepted.is) ∙ ap (λ (y : Sizes). fresh_at y p) (sym q.2);
         room = m.second_length;
         before = omega (arith, m.work_before, l);
         after = omega (arith, m.work-after, l);
@@ -46,12 +46,12 @@ pub returns-in-Refused : goal.returns-in-Refused
 returns-in-Refused c =
     let p = program_of c.args.p in
     let o = c.check_own_within-own.ensures in
-    let h = sym o.0 ∙ c.own-1.given.1 in
+    let h = sym o.0 ∙ c.in-Refused.is in
     (foreign_answer (exchange_in (goal.at.returns-in-Refused c).Start) p c.args.marks.now c.args.output.now c.args.work.now c.args.second.now h o.1, λ i. number_foreign p c.args.marks.now (whole (exchange_in (goal.at.returns-in-Refused c).Start)) h)
 
 pub returns-in-Accepted : goal.returns-in-Accepted
 returns-in-Accepted c =
-    let h = sym c.check_own_within-own.ensures.0 ∙ c.enum_told-1.given.1 in
+    let h = sym c.check_own_within-own.ensures.0 ∙ c.in-Accepted.is in
     let r = c.mend_exchange-mended.ensures in (
       own_answer (exchange_in (goal.at.returns-in-Accepted c).Start) (program_of c.args.p) c.args.marks.now c.args.output.now c.args.work.now c.args.second.now c.requires.well_formed.3 h r.0 (same-length-3 c) c.write_program-size.ensures,
       λ i. bits_told (whole (exchange_in (goal.at.returns-in-Accepted c).Start)) (program_of c.args.p) i r.1 c.bits_of-bits.ensures,

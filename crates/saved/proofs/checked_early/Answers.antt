@@ -1,8 +1,7 @@
 -- `saved::checked_early` meets its contract.
-use Rattle.std.proofs.Common.{[]}
 use mathlib.Core.Path.{◌≡◌, refl, sym, ap, subst, ◌∙◌}
 use mathlib.Core.Bool.{Bool, false}
-use mathlib.Core.List.{List, ◌∷◌}
+use mathlib.Core.List.{List, [], ◌∷◌}
 use Prim.Native.Nat.{ℕ}
 use Rattle.program.specs.Chosen.{sizes_of, numbers}
 use Rattle.program.specs.Program.{Program}

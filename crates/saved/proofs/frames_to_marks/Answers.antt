@@ -10,19 +10,19 @@ use Rattle.saved.proofs.frames_to_marks.Goals as goal
 pub move_back-requires : goal.move_back-requires
 move_back-requires c =
     let k = c.checked_early-r.ensures in
-    let h = c.enum_told-1.given.1 in
+    let h = c.in-Accepted.is in
     (k.well_formed h, k.of_old h)
 
 pub returns-in-Refused : goal.returns-in-Refused
 returns-in-Refused c =
     let z = c.args in
-    move_answered back z.file.now z.frames.now z.output.now z.work.now c.checked_early-r.ensures c.v-1.given.1
+    move_answered back z.file.now z.frames.now z.output.now z.work.now c.checked_early-r.ensures c.in-Refused.is
 
 pub returns-in-Accepted : goal.returns-in-Accepted
 returns-in-Accepted c =
     let z = c.args in
     let k = c.checked_early-r.ensures in
-    let h = c.enum_told-1.given.1 in
+    let h = c.in-Accepted.is in
     let w = move_answered back z.file.now z.frames.now z.output.now z.work.now k h in
     let m = c.move_back.ensures in
     (m.0.answer ∙ w.0, m.0.output ∙ w.1, cleared_is (sizes_of (program_of c.checked_early-r.result.program)) m.1 (k.work_length h) ∙ w.2)

@@ -27,4 +27,4 @@ add_routine-added-requires c =
     let p = program_of c.args.p in record { well_formed = (c.requires.exchanges.well_formed, c.requires.exchanges.fits, left_after x p c.requires.exchanges, exchanged_after x p c.requires.exchanges); marks_value = (left_resized x p c.requires.exchanges c.requires.own_value.0 c.resize.ensures, sym (room (goal.at.add_routine-added-requires c).Start) ∙ c.requires.own_value.1) }
 
 pub returns : goal.returns
-returns c = cleared c.add_routine-added.ensures c.Clear-whole.ensures
+returns c = cleared c.add_routine-added.ensures c.clear_whole.ensures

@@ -5,5 +5,5 @@ use Rattle.edit.proofs.judge.has_step.Goals as goal
 
 pub returns : goal.returns
 returns c =
-    let t = c.args.t1 in
-    c.has_key_lem.ensures ∙ edges_member c.step_key.result (edge_keys_of t) ∙ rw c.step_key.ensures
+    let t = c.args.t in
+    c.has_key.ensures ∙ edges_member c.step_key.result (edge_keys_of t) ∙ rw c.step_key.ensures

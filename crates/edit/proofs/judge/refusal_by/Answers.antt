@@ -2,7 +2,7 @@ use borrow.Author.Tests.{not-true, not-false}
 use Rattle.edit.proofs.judge.refusal_by.Goals as goal
 
 pub returns-then-not-old : goal.returns-then-not-old
-returns-then-not-old c = rw (c.enum_told-in-Drop-1.given.1, not-true c.args.old c.if-not-old.true)
+returns-then-not-old c = rw (c.in-Drop.is, c.if-not-old.true)
 
 pub returns-else-not-old : goal.returns-else-not-old
-returns-else-not-old c = rw (c.enum_told-in-Drop-1.given.1, not-false c.args.old c.if-not-old.false)
+returns-else-not-old c = rw (c.in-Drop.is, c.if-not-old.false)

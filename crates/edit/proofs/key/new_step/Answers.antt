@@ -1,4 +1,4 @@
 use Rattle.edit.proofs.key.new_step.Goals as goal
 
 pub returns-in-Replace : goal.returns-in-Replace
-returns-in-Replace c = rw c.e-in-Replace-1.given.1 c.relabelled.ensures
+returns-in-Replace c = rw c.in-Replace.is c.relabelled.ensures

@@ -7,7 +7,7 @@ use Rattle.reach.specs.Parts.{root_start}
 use Rattle.reach.proofs.PartsCounted.{node_span_some, routine_span_some, routine_in_range, above, numbers_fit}
 use borrow.Author.Rules.{rules}
 use Rattle.reach.proofs.parts.parts_above.Goals as goal
-use Rattle.reach.proofs.parts.parts_above.Goals.{Start}
+use Rattle.reach.proofs.parts.parts_above.Goals.{After-take_off-node, After-take_off-root, After-take_off-roots, Start}
 
 pub take_off-routines-requires : goal.take_off-routines-requires
 take_off-routines-requires c = rw c.requires.1.routine (routine_span_some c.args.z c.requires.0)
@@ -22,95 +22,78 @@ more-small s =
     omega (arith, h, s.requires.2)
 
 -- spans are taken off what is left, so that there are few of them
--- TODO
--- module _ (c : tie.After-take-off3) where
---   abbrev start : tie.Start
---   start = c.before.before.before.before
--- 
---   few : (c.take-off3.result.times < 2 ^ 32) × (c.before.before.take-off2.result.times < 2 ^ 32)
---       × (c.before.before.before.take-off.result.times < 2 ^ 32)
---   few =
---       let m = more-small start in
---       let a = c.before.before.before.take-off.ensures in
---       let b = c.before.before.take-off2.ensures in
---       let d = c.take-off3.ensures in
---       (omega (arith, m, a.is, b.is, d.few), omega (arith, m, a.is, b.few), omega (arith, m, a.few))
+module _ (c : After-take_off-roots) where
+  few : (c.take_off-roots.result.times < 2 ^ 32) × (c.take_off-nodes.result.times < 2 ^ 32)
+      × (c.take_off-routines.result.times < 2 ^ 32)
+  few =
+      let m = more-small (goal.at.After-take_off-roots c).Start in
+      let a = c.take_off-routines.ensures in
+      let b = c.take_off-nodes.ensures in
+      let d = c.take_off-roots.ensures in
+      (omega (arith, m, a.is, b.is, d.few), omega (arith, m, a.is, b.few), omega (arith, m, a.few))
 
 pub overflow_add-c : goal.overflow_add-c
-overflow_add-c c = let byte : (start c).args.c.root < 256 = search rules in omega (arith, byte, (few c).0)
+overflow_add-c c = let byte : c.args.c.root < 256 = search rules in omega (arith, byte, (few (goal.at.overflow_add-c c).After-take_off-roots).0)
 
 -- and so are those that are carried
--- TODO
--- module _ (c : tie.After-take-off4) where
---   abbrev third : tie.After-take-off3
---   third = c.before.before.before.before
--- 
---   carried-few : c.take-off4.result.times < 2 ^ 33
---   carried-few =
---       let byte : (start third).args.c.root < 256 = search rules in
---       omega (arith, byte, (few third).0, c.take-off4.ensures.few)
--- 
---   bytes : ((start third).args.c.node < 256) × ((start third).args.c.routine < 256)
---   bytes = (search rules, search rules)
+module _ (c : After-take_off-root) where
+  carried-few : c.take_off-root.result.times < 2 ^ 33
+  carried-few =
+      let byte : c.args.c.root < 256 = search rules in
+      omega (arith, byte, (few (goal.at.After-take_off-root c).After-take_off-roots).0, c.take_off-root.ensures.few)
+
+  bytes : (c.args.c.node < 256) × (c.args.c.routine < 256)
+  bytes = (search rules, search rules)
 
 pub overflow_add-c-2 : goal.overflow_add-c-2
-overflow_add-c-2 c = omega (arith, (bytes c).0, (few (third c)).1)
+overflow_add-c-2 c = omega (arith, (bytes (goal.at.overflow_add-c-2 c).After-take_off-root).0, (few (goal.at.overflow_add-c-2 c).After-take_off-roots).1)
 
 pub overflow_add-c-3 : goal.overflow_add-c-3
-overflow_add-c-3 c = omega (arith, (bytes c).0, (few (third c)).1, carried-few c)
+overflow_add-c-3 c = omega (arith, (bytes (goal.at.overflow_add-c-3 c).After-take_off-root).0, (few (goal.at.overflow_add-c-3 c).After-take_off-roots).1, carried-few (goal.at.overflow_add-c-3 c).After-take_off-root)
 
 -- the parts are those of the number
--- TODO
--- module _ (c : tie.After-take-off5) where
---   abbrev fourth : tie.After-take-off4
---   fourth = c.before.before.before.before.before
--- 
---   routine-few : c.take-off5.result.times < 2 ^ 34
---   routine-few = let k = fourth in omega (arith, (bytes k).0, (few (third k)).1, carried-few k, c.take-off5.ensures.few)
--- 
---   abbrev routine : ℕ
---   routine = let k = third fourth in (start k).args.c.routine + k.before.before.before.take-off.result.times + c.take-off5.result.times
--- 
---   sum : let s = start (third fourth) in
---       number s.args.z routine c.take-off5.result.left fourth.take-off4.result.left (third fourth).take-off3.result.left
---       ≡ root_start s.args.z s.args.c + s.args.more
---   sum =
---       let k = third fourth in
---       let s = start k in
---       above s.args.z s.pre.0 s.args.by s.pre.1 s.args.c.routine s.args.c.node s.args.c.root s.args.more _ _ _ _ _ _ _ _ _ _
---       k.before.before.before.take-off.ensures
---       k.before.before.take-off2.ensures
---       k.take-off3.ensures
---       fourth.take-off4.ensures
---       c.take-off5.ensures
--- 
---   routine_fits : routine < (start (third fourth)).args.z.routines
---   routine_fits =
---       let s = start (third fourth) in
---       routine_in_range s.args.z s.pre.0 routine c.take-off5.result.left fourth.take-off4.result.left (third fourth).take-off3.result.left (omega (arith, sum, s.pre.2))
+module _ (c : After-take_off-node) where
+  routine-few : c.take_off-node.result.times < 2 ^ 34
+  routine-few = omega (arith, (bytes (goal.at.After-take_off-node c).After-take_off-root).0, (few (goal.at.After-take_off-node c).After-take_off-roots).1, carried-few (goal.at.After-take_off-node c).After-take_off-root, c.take_off-node.ensures.few)
+
+  abbrev routine : ℕ
+  routine = c.args.c.routine + c.take_off-routines.result.times + c.take_off-node.result.times
+
+  sum : number c.args.z routine c.take_off-node.result.left c.take_off-root.result.left c.take_off-roots.result.left
+      ≡ root_start c.args.z c.args.c + c.args.more
+  sum =
+      above c.args.z c.requires.0 c.args.by c.requires.1 c.args.c.routine c.args.c.node c.args.c.root c.args.more _ _ _ _ _ _ _ _ _ _
+      c.take_off-routines.ensures
+      c.take_off-nodes.ensures
+      c.take_off-roots.ensures
+      c.take_off-root.ensures
+      c.take_off-node.ensures
+
+  routine_fits : routine < c.args.z.routines
+  routine_fits =
+      routine_in_range c.args.z c.requires.0 routine c.take_off-node.result.left c.take_off-root.result.left c.take_off-roots.result.left (omega (arith, sum, c.requires.2))
 
 pub overflow_add-result : goal.overflow_add-result
-overflow_add-result c = let k = fourth c in omega (arith, (bytes k).1, (few (third k)).2)
+overflow_add-result c = omega (arith, (bytes (goal.at.overflow_add-result c).After-take_off-root).1, (few (goal.at.overflow_add-result c).After-take_off-roots).2)
 
 pub overflow_add-result-2 : goal.overflow_add-result-2
 overflow_add-result-2 c =
-    let k = fourth c in
-    omega (arith, (bytes k).1, (few (third k)).2, routine-few c)
+    omega (arith, (bytes (goal.at.overflow_add-result-2 c).After-take_off-root).1, (few (goal.at.overflow_add-result-2 c).After-take_off-roots).2, routine-few (goal.at.overflow_add-result-2 c).After-take_off-node)
 
 pub overflow_cast-result-2 : goal.overflow_cast-result-2
 overflow_cast-result-2 c =
-    let byte : (start (third (fourth c))).args.z.routines < 256 = search rules in
-    omega (arith, byte, routine_fits c)
+    let byte : c.args.z.routines < 256 = search rules in
+    omega (arith, byte, routine_fits (goal.at.overflow_cast-result-2 c).After-take_off-node)
 
 pub returns : goal.returns
 returns c =
     record {
       in_range =
           record {
-            routine = routine_fits c;
+            routine = routine_fits (goal.at.returns c).After-take_off-node;
             node = c.take_off-node.ensures.less;
-            root = (fourth c).take-off4.ensures.less;
-            state = (third (fourth c)).take-off3.ensures.less;
+            root = c.take_off-root.ensures.less;
+            state = c.take_off-roots.ensures.less;
           };
-      is = sum c;
+      is = sum (goal.at.returns c).After-take_off-node;
     }

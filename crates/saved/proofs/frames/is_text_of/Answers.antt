@@ -5,7 +5,7 @@ use native.Mathlib.Omega.{arith}
 use mathlib.Core.List.{List}
 use lib.ListN.{length, take, drop, length-drop}
 use lib.Seq.{take_all}
-use borrow.Author.Tests.{not-true, not-false}
+use borrow.Author.Tests.{not-false}
 use Rattle.text.specs.declared.Line.{Line}
 use Rattle.text.specs.Hex.{hex_line}
 use Rattle.program.specs.Frames.{end_frame}
@@ -24,11 +24,11 @@ has_frame-requires c =
 
 pub returns-then-not-has_frame : goal.returns-then-not-has_frame
 returns-then-not-has_frame c =
-    sym (walk_stops c.loop-i.invariant (omega arith) c.if-marks-i-ne0.true (sym c.has_frame.ensures ∙ not-true _ c.if-not-has_frame.true))
+    sym (walk_stops c.loop-i.invariant (omega arith) c.if-marks-i-ne0.true (sym c.has_frame.ensures ∙ c.if-not-has_frame.true))
 
 pub overflow_add-at : goal.overflow_add-at
 overflow_add-at c =
-    let w = walk_on c.loop-i.invariant (omega arith) c.if-marks-i-ne0.true (sym c.has_frame.ensures ∙ not-false _ c.if-not-has_frame.false) in
+    let w = walk_on c.loop-i.invariant (omega arith) c.if-marks-i-ne0.true (sym c.has_frame.ensures ∙ c.if-not-has_frame.false) in
     omega (arith, w.inside)
 
 pub loop-i-preserved : goal.loop-i-preserved
