@@ -3,6 +3,7 @@ use Rattle.marking.proofs.StepsChosen.{step_taken, step_left}
 use mathlib.Core.Logic.{⊎_elim}
 use mathlib.Core.Path.{refl, sym, ◌∙◌}
 use native.Mathlib.Omega.{arith}
+use Rattle.callers.proofs.wake_states.Goals.{then-has_bit, else-has_bit}
 use Rattle.callers.proofs.wake_states.Goals as goal
 
 pub loop-x-init : goal.loop-x-init
@@ -15,14 +16,15 @@ wake_roots-lowest-requires c =
 pub loop-x-preserved : goal.loop-x-preserved
 loop-x-preserved c =
     let e = rw c.next_after-roots.ensures at c.has_bit.ensures in
-    ⊎_elim
-    (λ w.
-    let k = w.3 in
-    rw (w.6, w.7)
-    (loop_turn c.loop-x.invariant (omega arith) (step_taken _ (sym e ∙ w.0.taken) (rw w.1.ensures.0 at k.ensures.0)) k.ensures.1
-    refl k.kept.1.1.0))
-    (λ w. rw (w.1, w.2) (loop_turn c.loop-x.invariant (omega arith) (step_left _ (sym e ∙ w.0.left)) (λ h. h) refl refl))
-    c.if-has_bit.branch
+    elim c.if-has_bit.branch [
+      | then-has_bit w ↦
+        let k = w.wake_roots-lowest in
+        rw (w.pending-is, w.lowest-is)
+        (loop_turn c.loop-x.invariant (omega arith) (step_taken _ (sym e ∙ w.if-has_bit.true) (rw w.number_of-base.ensures.0 at k.ensures.0)) k.ensures.1
+        refl k.auto.pending)
+      | else-has_bit w ↦
+        rw (w.pending-is, w.lowest-is) (loop_turn c.loop-x.invariant (omega arith) (step_left _ (sym e ∙ w.if-has_bit.false)) (λ h. h) refl refl)
+    ]
 
 pub shape_of-pending : goal.shape_of-pending
 shape_of-pending c =

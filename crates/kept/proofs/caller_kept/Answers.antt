@@ -2,6 +2,7 @@ use mathlib.Core.Path.{sym, ◌∙◌}
 use mathlib.Core.Logic.{⊎_elim}
 use Rattle.kept.specs.Parts.{root_kept, caller_kept}
 use Rattle.base.proofs.SearchesAsk.{both_met, first_fails, second_fails, try_all, try_found, try_next, try_none}
+use Rattle.kept.proofs.caller_kept.Goals.{else-may_go-via-then-may_go+else-root_kept, else-may_go-via-else-may_go}
 use Rattle.kept.proofs.caller_kept.Goals as goal
 
 pub loop-x-init : goal.loop-x-init
@@ -18,8 +19,11 @@ pub loop-x-preserved : goal.loop-x-preserved
 loop-x-preserved c =
     let may = sym c.may_go.ensures in
     try_next c.loop-x.invariant c.loop-x-test.true
-    (⊎_elim (λ w. second_fails (may ∙ w.0.taken) (sym (rw w.1.ensures.0 at w.2.ensures) ∙ w.3.left))
-    (λ w. first_fails _ (may ∙ w.left)) c.if-may_go.branch)
+    (elim c.else-may_go.branch [
+      | else-may_go-via-then-may_go+else-root_kept w ↦
+        second_fails (may ∙ w.if-may_go.true) (sym (rw w.number_of.ensures.0 at w.root_kept.ensures) ∙ w.if-root_kept.false)
+      | else-may_go-via-else-may_go w ↦ first_fails _ (may ∙ w.if-may_go.false)
+    ])
 
 pub returns : goal.returns
 unfolding caller_kept

@@ -4,6 +4,7 @@ use borrow.Author.Tests.{lt-ltb, le-ltb}
 use Rattle.base.specs.Flags.{is_set}
 use Rattle.kept.specs.Parts.{root_returns, return_kept}
 use Rattle.base.proofs.SearchesAsk.{both_met, first_fails, second_fails, try_all, try_found, try_next, try_none}
+use Rattle.kept.proofs.return_kept.Goals.{else-is_set-via-then-is_set+else-root_returns, else-is_set-via-else-is_set}
 use Rattle.kept.proofs.return_kept.Goals as goal
 
 pub returns-then-g-ge-MAX_ROUTINES : goal.returns-then-g-ge-MAX_ROUTINES
@@ -24,7 +25,11 @@ pub loop-y-preserved : goal.loop-y-preserved
 loop-y-preserved c =
     let on = sym c.is_set.ensures in
     try_next c.loop-y.invariant c.loop-y-test.true
-    (⊎_elim (λ w. second_fails (on ∙ w.0.taken) (sym w.1.ensures ∙ w.2.left)) (λ w. first_fails _ (on ∙ w.left)) c.if-is_set.branch)
+    (elim c.else-is_set.branch [
+      | else-is_set-via-then-is_set+else-root_returns w ↦
+        second_fails (on ∙ w.if-is_set.true) (sym w.root_returns.ensures ∙ w.if-root_returns.false)
+      | else-is_set-via-else-is_set w ↦ first_fails _ (on ∙ w.if-is_set.false)
+    ])
 
 pub returns : goal.returns
 unfolding return_kept

@@ -2,6 +2,7 @@ use mathlib.Core.Path.{sym, ◌∙◌}
 use mathlib.Core.Logic.{⊎_elim}
 use Rattle.kept.specs.Parts.{exit_kept, root_returns}
 use Rattle.base.proofs.SearchesAsk.{both_met, first_fails, second_fails, try_all, try_found, try_next, try_none}
+use Rattle.kept.proofs.root_returns.Goals.{else-has_bit-via-then-has_bit+else-exit_kept, else-has_bit-via-else-has_bit}
 use Rattle.kept.proofs.root_returns.Goals as goal
 
 pub loop-s-init : goal.loop-s-init
@@ -20,8 +21,11 @@ loop-s-preserved c =
     let looked = c.next_after-roots in
     let may = sym (rw looked.ensures at c.has_bit.ensures) in
     try_next c.loop-s.invariant c.loop-s-test.true
-    (⊎_elim (λ w. second_fails (may ∙ w.0.taken) (sym (rw w.1.ensures.0 at w.2.ensures) ∙ w.3.left))
-    (λ w. first_fails _ (may ∙ w.left)) c.if-has_bit.branch)
+    (elim c.else-has_bit.branch [
+      | else-has_bit-via-then-has_bit+else-exit_kept w ↦
+        second_fails (may ∙ w.if-has_bit.true) (sym (rw w.number_of.ensures.0 at w.exit_kept.ensures) ∙ w.if-exit_kept.false)
+      | else-has_bit-via-else-has_bit w ↦ first_fails _ (may ∙ w.if-has_bit.false)
+    ])
 
 pub returns : goal.returns
 unfolding root_returns

@@ -4,6 +4,7 @@ use Rattle.marking.proofs.StepsChosen.{step_taken, step_left}
 use mathlib.Core.Logic.{⊎_elim}
 use mathlib.Core.Path.{refl}
 use native.Mathlib.Omega.{arith}
+use Rattle.successors.proofs.follow_call.Goals.{then-left-eq1, else-left-eq1}
 use Rattle.successors.proofs.follow_call.Goals as goal
 
 pub loop-y-init : goal.loop-y-init
@@ -26,18 +27,18 @@ follow_entry-lowest-requires c =
 pub loop-y-preserved : goal.loop-y-preserved
 loop-y-preserved c =
     let l = c.loop-y.invariant.1 in
-    ⊎_elim
-    (λ w.
-    let k = w.3 in
-    rw (w.8, w.9, w.10) (
-      loop_turn c.loop-y.invariant.0 (omega arith) (step_taken _ (leaving_here l w.0.taken) k.ensures.0)
-          k.ensures.1 k.kept.1.1.1.0 k.kept.1.1.1.1.0,
-      leaving_half l,
-    ))
-    (λ w.
-    rw (w.1, w.2, w.3)
-    (loop_turn c.loop-y.invariant.0 (omega arith) (step_left _ (leaving_other l w.0.left)) (λ h. h) refl refl, leaving_half l))
-    c.if-left-eq1.branch
+    elim c.if-left-eq1.branch [
+      | then-left-eq1 w ↦
+        let k = w.follow_entry-lowest in
+        rw (w.marks-is, w.pending-is, w.lowest-is) (
+          loop_turn c.loop-y.invariant.0 (omega arith) (step_taken _ (leaving_here l w.if-left-eq1.true) k.ensures.0)
+              k.ensures.1 k.auto.marks k.auto.pending,
+          leaving_half l,
+        )
+      | else-left-eq1 w ↦
+        rw (w.marks-is, w.pending-is, w.lowest-is)
+        (loop_turn c.loop-y.invariant.0 (omega arith) (step_left _ (leaving_other l w.if-left-eq1.false)) (λ h. h) refl refl, leaving_half l)
+    ]
 
 pub shape_of-marks : goal.shape_of-marks
 shape_of-marks c = c.loop-y.invariant.0.marks-length

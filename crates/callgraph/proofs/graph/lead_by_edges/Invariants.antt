@@ -8,7 +8,7 @@ use lib.ListN.{get_or}
 use Rattle.callgraph.proofs.graph.lead_by_edges.Given as goal
 
 abbrev pub invariant-loop-i : goal.invariant-loop-i
-invariant-loop-i l = Turning (λ l.i. leads_by_edge (edge_of (get_or l.keys l.i 0))) l.count l.initial.leads l.i l.leads
+invariant-loop-i l = Turning (λ j. leads_by_edge (edge_of (get_or l.keys j 0))) l.count l.initial.leads l.i l.leads
 
 abbrev pub decreases-loop-i : goal.decreases-loop-i
 decreases-loop-i l = l.count - l.i

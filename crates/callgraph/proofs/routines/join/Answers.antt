@@ -6,6 +6,7 @@ use Rattle.program.specs.Sizes.{max_routines}
 use Rattle.base.proofs.BytesFilled.{filling_none, filling_more, filling_kept, filling_all}
 use borrow.Author.Rules.{rules}
 use native.Mathlib.Omega.{arith}
+use Rattle.callgraph.proofs.routines.join.Goals.{then-more-f-ne0, else-more-f-ne0}
 use Rattle.callgraph.proofs.routines.join.Goals as goal
 
 pub loop-f-init : goal.loop-f-init
@@ -19,7 +20,10 @@ bounds-flags-f c = omega (arith, c.loop-f.invariant.len)
 pub loop-f-preserved : goal.loop-f-preserved
 loop-f-preserved c =
     let j = c.loop-f.invariant in
-    ⊎_elim (λ w. rw w.1 (filling_more j (omega arith) (rw (ne_eqb _ _ w.0.taken)))) (λ w. rw w.1 (filling_kept j (rw (eq-eqb _ _ w.0.left)))) c.if-more-f-ne0.branch
+    elim c.if-more-f-ne0.branch [
+      | then-more-f-ne0 w ↦ rw w.flags-is (filling_more j (omega arith) (rw (ne_eqb _ _ w.if-more-f-ne0.true)))
+      | else-more-f-ne0 w ↦ rw w.flags-is (filling_kept j (rw (eq-eqb _ _ w.if-more-f-ne0.false)))
+    ]
 
 pub returns : goal.returns
 returns c = filling_all c.loop-f.invariant (omega arith)

@@ -8,7 +8,7 @@ use lib.ListN.{get_or}
 use Rattle.roots.proofs.live.roots_by_edges.Given as goal
 
 abbrev pub invariant-loop-i : goal.invariant-loop-i
-invariant-loop-i l = Turning (λ l.i. roots_by_edge l.z l.marks l.next (edge_of (get_or l.keys l.i 0))) l.count l.initial.live l.i l.live
+invariant-loop-i l = Turning (λ j. roots_by_edge l.z l.marks l.next (edge_of (get_or l.keys j 0))) l.count l.initial.live l.i l.live
 
 abbrev pub decreases-loop-i : goal.decreases-loop-i
 decreases-loop-i l = l.count - l.i

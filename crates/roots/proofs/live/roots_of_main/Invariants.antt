@@ -7,7 +7,7 @@ use lib.ListN.{get_or, set}
 use Rattle.roots.proofs.live.roots_of_main.Given as goal
 
 abbrev pub invariant-loop-i : goal.invariant-loop-i
-invariant-loop-i v = Turning (λ v.i. λ l. set l (root_place 0 (get_or v.list v.i 0)) 1) v.count v.initial.live v.i v.live
+invariant-loop-i v = Turning (λ j. λ l. set l (root_place 0 (get_or v.list j 0)) 1) v.count v.initial.live v.i v.live
 
 abbrev pub decreases-loop-i : goal.decreases-loop-i
 decreases-loop-i l = l.count - l.i

@@ -8,7 +8,7 @@ use Rattle.worklist.proofs.run.open_initial.Given as goal
 
 abbrev pub invariant-loop-i : goal.invariant-loop-i
 invariant-loop-i l =
-    Looping (λ l.i. marked (number l.z 0 0 (get_or l.list l.i 0) (get_or l.list l.i 0))) l.count l.initial.marks l.initial.pending 0 l.i l.marks l.pending l.low
+    Looping (λ j. marked (number l.z 0 0 (get_or l.list j 0) (get_or l.list j 0))) l.count l.initial.marks l.initial.pending 0 l.i l.marks l.pending l.low
 
 abbrev pub decreases-loop-i : goal.decreases-loop-i
 decreases-loop-i l = l.count - l.i

@@ -55,9 +55,9 @@ put_line-requires c =
 pub returns : goal.returns
 returns c =
     file_put (program_of c.args.p)
-    (put_one _ _ c.header_line-header.ensures (omega arith) c.put_line-after_header.ensures)
+    (put_one _ _ c.header_line-header.ensures (omega arith) (c.put_line-after_header.ensures.value, c.put_line-after_header.ensures.out_after))
     c.put_bytes-after_nodes.ensures
     (rw edge_frames at c.put_keys-after_edges.ensures)
     c.put_automaton-after_automaton.ensures
-    (put_one _ _ (rw c.frame_count.ensures.0 at c.end_line-end.ensures) (omega arith) c.put_line.ensures)
+    (put_one _ _ (rw c.frame_count.ensures.0 at c.end_line-end.ensures) (omega arith) (c.put_line.ensures.value, c.put_line.ensures.out_after))
     c.requires.room
