@@ -24,7 +24,7 @@ put_line-requires c =
 
 pub returns-then-is_listed : goal.returns-then-is_listed
 returns-then-is_listed c =
-    rw (listed (goal.at.returns-then-is_listed c).After-frame_line-l) (put_one c.frame_line-l.result _ c.frame_line-l.ensures (omega arith) c.put_line.ensures)
+    rw (listed (goal.at.returns-then-is_listed c).After-frame_line-l) (put_one c.frame_line-l.result _ c.frame_line-l.ensures (omega arith) (c.put_line.ensures.value, c.put_line.ensures.out_after))
 
 pub returns : goal.returns
 returns c =

@@ -21,4 +21,4 @@ returns c =
     let e = c.file_refusal_line-l.ensures in
     let a = c.args in
     line_printed a.output.now c.file_refusal_line-l.result (0x21 ∷ a.n ∷ a.line % 65536 / 256 ∷ a.line % 65536 % 256 ∷ [])
-    (ap (λ (x : Line). x.count) e) (ap (λ (x : Line). take x.count x.numbers) e) (omega arith) c.if-output-lt-LINE_SIZE.false c.put_line.ensures
+    (ap (λ (x : Line). x.count) e) (ap (λ (x : Line). take x.count x.numbers) e) (omega arith) c.if-output-lt-LINE_SIZE.false (c.put_line.ensures.value, c.put_line.ensures.out_after)

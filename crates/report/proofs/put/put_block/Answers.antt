@@ -53,4 +53,4 @@ returns c =
     block_put c.args.z c.requires.0 c.requires.1 p marks c.requires.2 c.requires.3 c.count_set-configurations.ensures (c.count_violations-violations.ensures p rejects)
     (rw (listed_violations c.requires.0 c.requires.1 p rejects marks 0) at c.put_listing-at.ensures)
     (put_one c.count_line-l.result (count_frame c.count_set-configurations.result c.count_violations-violations.result) c.count_line-l.ensures (omega arith)
-    c.put_line.ensures)
+    (c.put_line.ensures.value, c.put_line.ensures.out_after))

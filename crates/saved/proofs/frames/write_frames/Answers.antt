@@ -55,4 +55,4 @@ pub returns : goal.returns
 returns c =
     let z = c.args in
     frames_written z.marks.now z.output.now (omega (arith, c.if-output-count.false, text_long z.marks.now, c.count_set-count.ensures)) c.count_set-count.ensures (listed (goal.at.returns c).After-put_listing-at)
-    (put_one c.end_line.result (end_frame c.count_set-count.result) c.end_line.ensures (omega arith) c.put_line.ensures)
+    (put_one c.end_line.result (end_frame c.count_set-count.result) c.end_line.ensures (omega arith) (c.put_line.ensures.value, c.put_line.ensures.out_after))
