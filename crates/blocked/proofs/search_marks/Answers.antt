@@ -13,16 +13,15 @@ use Rattle.blocked.proofs.EdgesSought.{Seeking, seek_start, seek_next, seek_here
 use Rattle.blocked.proofs.search_marks.Goals as goal
 use Rattle.blocked.proofs.search_marks.Goals.{In-loop-i}
 
--- TODO
--- module _ (Z : Sizes) (p : Program) (marks : List ℕ) {low i : ℕ} (s : Seeking (is_blocked Z p marks) (numbers Z) low i) where
---   block_here : {k : ℕ} → i < numbers Z → is_blocked Z p marks i ≡ true → k ≡ blocked_by Z p i → block_from Z p marks low ≡ block_in Z i k
---   unfolding block_from
---   block_here h t e = rw (seek_here s h t, e) refl
--- 
---   block_nowhere : (k : ℕ) → numbers Z ≤ i → block_from Z p marks low ≡ block_in Z i k
---   unfolding block_from
---   block_nowhere k h =
---       rw (le-ltb (seek (is_blocked Z p marks) (numbers Z - low) low) (numbers Z) (seek_out s h), le-ltb i (numbers Z) h) refl
+module _ (Z : Sizes) (p : Program) (marks : List ℕ) {low i : ℕ} (s : Seeking (is_blocked Z p marks) (numbers Z) low i) where
+  block_here : {k : ℕ} → i < numbers Z → is_blocked Z p marks i ≡ true → k ≡ blocked_by Z p i → block_from Z p marks low ≡ block_in Z i k
+  unfolding block_from
+  block_here h t e = rw (seek_here s h t, e) refl
+
+  block_nowhere : (k : ℕ) → numbers Z ≤ i → block_from Z p marks low ≡ block_in Z i k
+  unfolding block_from
+  block_nowhere k h =
+      rw (le-ltb (seek (is_blocked Z p marks) (numbers Z - low) low) (numbers Z) (seek_out s h), le-ltb i (numbers Z) h) refl
 
 pub loop-i-init : goal.loop-i-init
 loop-i-init c p t = seek_start _ _ _
@@ -33,7 +32,7 @@ numbered c = let h = c.loop-i-test in omega (arith, c.requires.2)
 
 pub cut_of-cut-requires : goal.cut_of-cut-requires
 cut_of-cut-requires c =
-    (c.requires.0, c.requires.1, numbered c, c.requires.2, c.requires.3)
+    (c.requires.0, c.requires.1, numbered (goal.at.cut_of-cut-requires c).In-loop-i, c.requires.2, c.requires.3)
 
 pub returns-then-cut : goal.returns-then-cut
 returns-then-cut c p t =

@@ -1,8 +1,8 @@
-use mathlib.Core.Logic.{⊎_elim}
 use Rattle.gained.proofs.RoutinesGained.{gaining_start, gaining_on, gaining_off, gaining_end, more_yes, more_no}
 use Rattle.program.specs.Chosen.{numbers}
 use native.Mathlib.Omega.{arith}
 use Prim.Native.Nat.{◌<◌}
+use Rattle.gained.proofs.gained.Goals.{then-was-is, else-was-is}
 use Rattle.gained.proofs.gained.Goals as goal
 use Rattle.gained.proofs.gained.Goals.{After-shared_slice_known-in-loop-i-2-1}
 
@@ -24,9 +24,12 @@ pub loop-i-preserved : goal.loop-i-preserved
 loop-i-preserved c =
     let l = c.loop-i in
     let b = inside (goal.at.loop-i-preserved c).After-shared_slice_known-in-loop-i-2-1 in
-    ⊎_elim (λ w. let m = more_yes _ _ w.0.taken in rw (w.2, w.1.ensures.0) (gaining_on c.requires.0 c.requires.1 l.invariant b m.0 m.1))
-    (λ w. rw w.1 (gaining_off c.requires.0 c.requires.1 l.invariant b (more_no _ _ w.0.left)))
-    c.if-was-is.branch
+    elim c.if-was-is.branch [
+      | then-was-is w ↦
+        let m = more_yes _ _ w.if-was-is.true in
+        rw (w.flags-is, w.routine_of-f.ensures.0) (gaining_on c.requires.0 c.requires.1 l.invariant b m.0 m.1)
+      | else-was-is w ↦ rw w.flags-is (gaining_off c.requires.0 c.requires.1 l.invariant b (more_no _ _ w.if-was-is.false))
+    ]
 
 pub returns : goal.returns
 returns c =

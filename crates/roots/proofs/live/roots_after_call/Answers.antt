@@ -15,4 +15,4 @@ shape_of-live c = c.loop-s.invariant.size
 
 pub returns : goal.returns
 returns c =
-    rw (c.next_after-set.ensures, c.called_by-g.ensures) c (turning_end c.loop-s.invariant (omega arith))
+    rw (c.next_after-set.ensures, c.called_by-g.ensures) at (turning_end c.loop-s.invariant (omega arith))

@@ -27,7 +27,7 @@ take-low-requires c =
 
 pub overflow_add-iterations : goal.overflow_add-iterations
 overflow_add-iterations c =
-    omega (arith, (more (goal.at.overflow_add-iterations c).In-loop-at).1, c.fits)
+    omega (arith, (more (goal.at.overflow_add-iterations c).In-loop-at).1, c.ranges.limit)
 
 pub first_set-at-requires-in-loop-at : goal.first_set-at-requires-in-loop-at
 first_set-at-requires-in-loop-at c =

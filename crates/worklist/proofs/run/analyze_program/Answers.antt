@@ -9,13 +9,13 @@ use Rattle.worklist.proofs.run.analyze_program.Goals as goal
 pub follow_program-iterations-requires : goal.follow_program-iterations-requires
 follow_program-iterations-requires c =
     let b = c.begin in
-    (c.requires.0, c.requires.1, b.kept.1.1.1.0, start_shape c.args.z c.requires.1.usable c.requires.1.admitted (program_of c.args.p) _ _ b.ensures)
+    (c.requires.0, c.requires.1, b.auto.pending, start_shape c.args.z c.requires.1.usable c.requires.1.admitted (program_of c.args.p) _ _ b.ensures)
 
 pub is_done-ended-requires : goal.is_done-ended-requires
 is_done-ended-requires c =
     let b = c.begin in (
-      c.follow_program-iterations.auto.pending ∙ b.kept.1.1.1.0,
-      omega (arith, c.follow_program-iterations.auto.marks, b.kept.1.1.0, c.requires.2, c.requires.1.admitted.product),
+      c.follow_program-iterations.auto.pending ∙ b.auto.pending,
+      omega (arith, c.follow_program-iterations.auto.marks, b.auto.marks, c.requires.2, c.requires.1.admitted.product),
     )
 
 pub returns : goal.returns
