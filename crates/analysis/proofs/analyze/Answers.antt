@@ -4,7 +4,8 @@ use Rattle.analysis.proofs.analyze.Goals as goal
 
 pub analyze_counts-requires : goal.analyze_counts-requires
 analyze_counts-requires c =
-    ready c.checked_program-r.ensures c.in-Accepted.is
+    let r = ready c.checked_program-r.ensures c.in-Accepted.is in
+    record { well_formed = r.0; marks_len = r.1 }
 
 pub returns-in-Refused : goal.returns-in-Refused
 returns-in-Refused c =

@@ -6,7 +6,8 @@ use Rattle.block_list.proofs.next_blocked.Goals as goal
 
 pub search_own-requires : goal.search_own-requires
 search_own-requires c =
-    ready c.checked_program-r.ensures c.in-Accepted.is
+    let r = ready c.checked_program-r.ensures c.in-Accepted.is in
+    record { well_formed = r.0; marks_len = r.1 }
 
 pub returns-in-Refused : goal.returns-in-Refused
 returns-in-Refused c =

@@ -1,4 +1,5 @@
 -- `analysis::own::is_own` meets its contract.
+use lib.Pointwise.{bytes_decides}
 use Rattle.program.specs.Decoded.{program_of}
 use Rattle.reach.proofs.MarksCopied.{cleared_is}
 use Rattle.analysis.specs.Answers.{same}
@@ -14,7 +15,7 @@ pub returns : goal.returns
 returns c =
     let e = c.sizes_of-z.ensures in
     let own = own_marks (program_of c.args.p) c.requires.0 e c.enough_iterations.ensures c.analyze_program-stop.ensures in (
-      same_decides _ _ _ c.same.ensures ∙ ap (λ (l : List ℕ). same c.args.marks.now l) own,
+      c.eq-own.ensures ∙ same_decides _ _ _ (bytes_decides c.args.marks.now _) ∙ ap (λ (l : List ℕ). same c.args.marks.now l) own,
       cleared_is (sizes_of (program_of c.args.p)) c.clear.ensures (c.analyze_program-stop.auto.marks ∙ c.requires.1),
     )
 

@@ -5,8 +5,8 @@ use Rattle.closure.proofs.FlagsSet.{setting_none, setting_here, setting_other, s
 use borrow.Author.Tests.{eq-eqb, ne_eqb}
 use native.Mathlib.Omega.{arith}
 use mathlib.Core.Bool.{not}
-use mathlib.Core.Logic.{⊎_elim}
 use mathlib.Core.Path.{sym, ap}
+use Rattle.closure.proofs.exits.summaries_of.Goals.{then-marks-exit-ne0, else-marks-exit-ne0}
 use Rattle.closure.proofs.exits.summaries_of.Goals as goal
 
 pub loop-i-init : goal.loop-i-init
@@ -20,10 +20,12 @@ loop-i-preserved c =
     let few = summaries_few c.requires.1 in
     let count = c.summary_count-count.ensures.0 in
     let e = c.exit_at-exit.ensures.0 in
-    ⊎_elim
-    (λ w. rw w.4 (setting_here c.loop-i.invariant _ (omega (arith, few, count)) (ap not (ne_eqb _ _ (rw e at w.0.taken))) w.2.ensures w.2.kept.0))
-    (λ w. rw w.1 (setting_other c.loop-i.invariant (ap not (eq-eqb _ _ (rw e at w.0.left)))))
-    c.if-marks-exit-ne0.branch
+    elim c.if-marks-exit-ne0.branch [
+      | then-marks-exit-ne0 w ↦
+        rw w.words-is (setting_here c.loop-i.invariant _ (omega (arith, few, count)) (ap not (ne_eqb _ _ (rw e at w.if-marks-exit-ne0.true))) w.set_at.ensures w.set_at.auto.words)
+      | else-marks-exit-ne0 w ↦
+        rw w.words-is (setting_other c.loop-i.invariant (ap not (eq-eqb _ _ (rw e at w.if-marks-exit-ne0.false))))
+    ]
 
 pub returns : goal.returns
 returns c =

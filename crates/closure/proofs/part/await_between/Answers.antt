@@ -2,9 +2,9 @@ use Rattle.closure.proofs.FlagsSet.{setting_here, setting_other}
 use Rattle.closure.proofs.PartAwaited.{first_inside, await_start, await_end}
 use Rattle.closure.specs.Parts.{is_first}
 use native.Mathlib.Omega.{arith}
-use mathlib.Core.Logic.{⊎_elim}
 use mathlib.Core.Path.{sym, ◌∙◌}
 use lib.ListN.{get_or}
+use Rattle.closure.proofs.part.await_between.Goals.{then-is_first, else-is_first}
 use Rattle.closure.proofs.part.await_between.Goals as goal
 
 pub loop-i-init : goal.loop-i-init
@@ -18,10 +18,11 @@ loop-i-preserved c =
     let i = c.loop-i.i in
     let s = c.loop-i.invariant in
     let f = first_inside c.args.z c.requires.0 c.args.low c.args.high (get_or c.args.marks.now i 0) i s.0 (omega arith) ∙ sym c.is_first.ensures in
-    ⊎_elim
-    (λ w. rw w.4 (omega arith, setting_here s.1 _ (omega (arith, c.requires.3, c.requires.1.product)) (f ∙ w.0.taken) w.2.ensures w.2.kept.0))
-    (λ w. rw w.1 (omega arith, setting_other s.1 (f ∙ w.0.left)))
-    c.if-is_first.branch
+    elim c.if-is_first.branch [
+      | then-is_first w ↦
+        rw w.words-is (omega arith, setting_here s.1 _ (omega (arith, c.requires.3, c.requires.1.product)) (f ∙ w.if-is_first.true) w.set_at.ensures w.set_at.auto.words)
+      | else-is_first w ↦ rw w.words-is (omega arith, setting_other s.1 (f ∙ w.if-is_first.false))
+    ]
 
 pub returns : goal.returns
 returns c =
