@@ -9,9 +9,9 @@ next_states-table-requires c = ranged _ c.requires.well_formed.0
 pub rounds-requires : goal.rounds-requires
 rounds-requires c =
     let z = c.requires in
-    (first_ready z.0.0 z.0.1 z.1 c.reset.ensures, c.next_states-table.ensures)
+    (first_ready z.well_formed.0 z.well_formed.1 z.passable c.reset.ensures, c.next_states-table.ensures)
 
 pub returns : goal.returns
 returns c =
     let z = c.requires in
-    passed z.0.0 z.0.1 z.1 c.reset.ensures c.rounds.ensures
+    passed z.well_formed.0 z.well_formed.1 z.passable c.reset.ensures c.rounds.ensures

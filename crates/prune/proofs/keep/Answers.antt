@@ -12,7 +12,7 @@ next_states-answers-requires c =
 pub keep_supported-requires : goal.keep_supported-requires
 keep_supported-requires c =
     let z = c.requires in
-    record { usable = (z.0.1.usable, z.0.1.admitted, z.0.0.edges_ascend); marks_len = (z.1.0, c.keep_starts.auto.kept ∙ c.clear.auto.flags ∙ z.1.1) }
+    record { usable = (z.well_formed.1.usable, z.well_formed.1.admitted, z.well_formed.0.edges_ascend); marks_len = (z.marks_len.0, c.keep_starts.auto.kept ∙ c.clear.auto.flags ∙ z.marks_len.1) }
 
 pub returns : goal.returns
 returns c =

@@ -8,12 +8,12 @@ loop-more-init c = let u = c.requires.usable.0 in (u, passing_none _ u _ _)
 pub keep_pass-more-requires : goal.keep_pass-more-requires
 keep_pass-more-requires c =
     let z = c.requires in
-    record { usable = z.0; marks_len = (z.1.0, c.loop-more.invariant.1.len ∙ z.1.1) }
+    record { usable = z.usable; marks_len = (z.marks_len.0, c.loop-more.invariant.1.len ∙ z.marks_len.1) }
 
 pub loop-more-smaller : goal.loop-more-smaller
 loop-more-smaller c =
     let z = c.requires in
-    left_less _ z.0.0 _ _ c.keep_pass-more.ensures (c.loop-more.invariant.1.len ∙ z.1.1) c.loop-more-test.true
+    left_less _ z.usable.0 _ _ c.keep_pass-more.ensures (c.loop-more.invariant.1.len ∙ z.marks_len.1) c.loop-more-test.true
 
 pub loop-more-preserved : goal.loop-more-preserved
 loop-more-preserved c =

@@ -23,9 +23,9 @@ keep_at-one-requires c =
     let z = c.requires in
     let h = c.loop-i-test in
     let span = c.routine_span-span.ensures.0 in
-    let fits = routine_fits a.z a.f z.0.2 in
-    let e = in_routine a.z z.0.0 a.f c.loop-i.i (omega (arith, first (goal.at.keep_at-one-requires c).At-loop-i, c.loop-i.invariant.0)) (omega (arith, first (goal.at.keep_at-one-requires c).At-loop-i, h, span)) in
-    record { usable = (z.0.0, z.0.1, omega (arith, first (goal.at.keep_at-one-requires c).At-loop-i, h, span, fits), rw e z.0.3); marks_len = (z.1.0, c.loop-i.invariant.2.len ∙ z.1.1) }
+    let fits = routine_fits a.z a.f z.usable.2 in
+    let e = in_routine a.z z.usable.0 a.f c.loop-i.i (omega (arith, first (goal.at.keep_at-one-requires c).At-loop-i, c.loop-i.invariant.0)) (omega (arith, first (goal.at.keep_at-one-requires c).At-loop-i, h, span)) in
+    record { usable = (z.usable.0, z.usable.1, omega (arith, first (goal.at.keep_at-one-requires c).At-loop-i, h, span, fits), rw e z.usable.3); marks_len = (z.marks_len.0, c.loop-i.invariant.2.len ∙ z.marks_len.1) }
 
 pub loop-i-preserved : goal.loop-i-preserved
 loop-i-preserved c =
@@ -33,12 +33,12 @@ loop-i-preserved c =
     let z = c.requires in
     let h = c.loop-i-test in
     let span = c.routine_span-span.ensures.0 in
-    let fits = routine_fits a.z a.f z.0.2 in
+    let fits = routine_fits a.z a.f z.usable.2 in
     let n = c.loop-i.invariant.2.len in
     let e = c.keep_at-one.ensures in (
       omega (arith, c.loop-i.invariant.0),
       omega (arith, h, span),
-      pass_turn _ z.0.0 _ c.loop-i.invariant.2 (omega (arith, first (goal.at.loop-i-preserved c).At-loop-i, h, span, fits)) (omega (arith, first (goal.at.loop-i-preserved c).At-loop-i, h, span, fits, n, z.1.1)) (keeps_free _ z.0.0 _ _ _ _ _) _ e.0 e.1,
+      pass_turn _ z.usable.0 _ c.loop-i.invariant.2 (omega (arith, first (goal.at.loop-i-preserved c).At-loop-i, h, span, fits)) (omega (arith, first (goal.at.loop-i-preserved c).At-loop-i, h, span, fits, n, z.marks_len.1)) (keeps_free _ z.usable.0 _ _ _ _ _) _ e.0 e.1,
     )
 
 pub shape_of-kept : goal.shape_of-kept
@@ -49,4 +49,4 @@ returns c =
     let a = c.args in
     let span = c.routine_span-span.ensures.0 in
     let e : c.loop-i.i ≡ a.f * routine_span a.z + routine_span a.z = omega (arith, first (goal.at.returns c).At-loop-i, span, c.loop-i-test, c.loop-i.invariant.1) in
-    subst₂ (λ (lo hi : ℕ). Passed a.z (keeps_at a.z a.keys.now a.next.now a.marks.now) a.kept.now c.loop-i.auto c.loop-i.more lo hi) (first (goal.at.returns c).At-loop-i) e c.loop-i.invariant.2
+    subst₂ (λ (lo hi : ℕ). Passed a.z (keeps_at a.z a.keys.now a.next.now a.marks.now) a.kept.now c.loop-i.kept c.loop-i.more lo hi) (first (goal.at.returns c).At-loop-i) e c.loop-i.invariant.2

@@ -25,7 +25,7 @@ loop-f-init c =
 pub keep_routine-another-requires : goal.keep_routine-another-requires
 keep_routine-another-requires c =
     let z = c.requires in
-    record { usable = (z.0.0, z.0.1, omega arith, z.0.2); marks_len = (z.1.0, c.loop-f.invariant.1.len ∙ z.1.1) }
+    record { usable = (z.usable.0, z.usable.1, omega arith, z.usable.2); marks_len = (z.marks_len.0, c.loop-f.invariant.1.len ∙ z.marks_len.1) }
 
 pub loop-f-preserved : goal.loop-f-preserved
 loop-f-preserved c =

@@ -13,4 +13,4 @@ slice_bounds-keep_numbers-start c = let x = part_starts c.first_of-from.ensures 
 pub keep_numbers-requires : goal.keep_numbers-requires
 keep_numbers-requires c =
     let z = c.requires in
-    record { usable = (z.0.0, z.0.1, z.0.2, its_part c.first_of-from.ensures c.first_of-to.ensures z.0.3); marks_len = z.1 }
+    record { usable = (z.usable.0, z.usable.1, z.usable.2, its_part c.first_of-from.ensures c.first_of-to.ensures z.usable.3); marks_len = z.marks_len }

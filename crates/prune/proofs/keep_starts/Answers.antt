@@ -29,4 +29,4 @@ returns c p e s =
     let l = c.loop-q in
     let a = c.args in
     let z : l.q ≡ a.z.states = omega arith in
-    subst (λ (x : ℕ). Started a.z p a.marks.now l.auto x) z (l.invariant.2 p e s)
+    subst (λ (x : ℕ). Started a.z p a.marks.now l.kept x) z (l.invariant.2 p e s)

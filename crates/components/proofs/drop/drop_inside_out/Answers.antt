@@ -14,7 +14,7 @@ summaries_of-exits-requires c =
 pub visit_all-end-requires : goal.visit_all-end-requires
 visit_all-end-requires c =
     let z = c.requires in
-    (z.1.0, turning_start z.1.1 z.1.2 c.call_graph-graph.ensures c.old_roots-entries.ensures c.summaries_of-exits.ensures)
+    (z.drop_of.0, turning_start z.drop_of.1 z.drop_of.2 c.call_graph-graph.ensures c.old_roots-entries.ensures c.summaries_of-exits.ensures)
 
 pub cut_to_live-requires : goal.cut_to_live-requires
 cut_to_live-requires c =

@@ -21,11 +21,11 @@ use Rattle.report.proofs.put.put_block.Goals.{After-count_violations-violations}
 pub count_line-l-requires : goal.count_line-l-requires
 count_line-l-requires c =
     let p = program_of c.args.p in
-    let c = c.count_set-configurations.ensures in
+    let m = c.count_set-configurations.ensures in
     let f = c.count_violations-violations.ensures p c.rejecting_flags-rejecting.ensures in
     let few = count_small c.args.marks.now in
     let fewer = violations_limited c.args.z c.requires.0 p c.args.marks.now in
-    (omega (arith, c, f, few, fewer, c.requires.2, c.requires.1.product), omega (arith, c, f, few, fewer, c.requires.2, c.requires.1.product))
+    (omega (arith, m, f, few, fewer, c.requires.2, c.requires.1.product), omega (arith, m, f, few, fewer, c.requires.2, c.requires.1.product))
 
 -- after the violations there is room for the counts
 short : (v : After-count_violations-violations) → length (text (listing 0x58 v.args.z v.rejecting_flags-rejecting.result.flags v.args.marks.now)) ≤ line_size * marks_most

@@ -1,5 +1,4 @@
 use mathlib.Core.Path.{◌≡◌, sym, ap, ◌∙◌}
-use mathlib.Core.Logic.{⊎_elim}
 use Prim.Native.Nat.{ℕ, ◌-◌}
 use native.Mathlib.Omega.{arith}
 use mathlib.Core.List.{List}
@@ -13,6 +12,7 @@ use Rattle.reach.proofs.MarksShown.{count_small}
 use Rattle.analysis.specs.Answers.{same}
 use Rattle.saved.proofs.OldSizes.{old_numbers}
 use Rattle.saved.proofs.TextCompared.{walk_start, walk_past, walk_on, walk_stops, walk_end}
+use Rattle.saved.proofs.frames.is_text_of.Goals.{then-marks-i-ne0+else-not-has_frame, else-marks-i-ne0}
 use Rattle.saved.proofs.frames.is_text_of.Goals as goal
 
 pub loop-i-init : goal.loop-i-init
@@ -33,8 +33,11 @@ overflow_add-at c =
 
 pub loop-i-preserved : goal.loop-i-preserved
 loop-i-preserved c =
-    ⊎_elim (λ w. rw w.3 (walk_on c.loop-i.invariant (omega arith) w.0.taken (sym w.1.ensures ∙ not-false _ w.2.left)))
-    (λ w. rw w.1 (walk_past c.loop-i.invariant (omega arith) w.0.left)) c.if-marks-i-ne0.branch
+    elim c.if-marks-i-ne0.branch [
+      | then-marks-i-ne0+else-not-has_frame w ↦
+        rw w.at-is (walk_on c.loop-i.invariant (omega arith) w.if-marks-i-ne0.true (sym w.has_frame.ensures ∙ w.if-not-has_frame.false))
+      | else-marks-i-ne0 w ↦ rw w.at-is (walk_past c.loop-i.invariant (omega arith) w.if-marks-i-ne0.false)
+    ]
 
 pub end_line-requires : goal.end_line-requires
 end_line-requires c =
