@@ -7,7 +7,8 @@ use Rattle.forward.proofs.add_step.Goals as goal
 
 pub with_step-added-requires : goal.with_step-added-requires
 with_step-added-requires c =
-    add_ready c.args.s (program_of c.args.p) c.requires.well_formed.0 c.requires.well_formed.1
+    let r = add_ready c.args.s (program_of c.args.p) c.requires.well_formed.0 c.requires.well_formed.1 in
+    record { bytes = r.0; p_len_bound = r.1 }
 
 -- where a step leads to is in range as well as where it leads from: which of the two is taken up is for what is marked to tell
 pub follow_added-requires : goal.follow_added-requires
