@@ -10,13 +10,13 @@ use Rattle.edit_turn.proofs.hold_next.Goals as goal
 pub hold-requires : goal.hold-requires
 hold-requires c =
     let w = c.within-written.ensures in
-    let n : length c.args.t2 ≡ 7712 = search rules in
+    let n : length c.args.output ≡ 7712 = search rules in
     omega (arith, w.inside, w.counted)
 
 pub returns-in-Refused : goal.returns-in-Refused
 returns-in-Refused c =
     let a = c.args in
-    λ i. record { file = file_stays a.t2 (held_of a.held).file c.in-Refused.is i; marks = (held_of a.held).marks }
+    λ i. record { file = file_stays a.output (held_of a.held).file c.in-Refused.is i; marks = (held_of a.held).marks }
 
 pub returns-in-Written : goal.returns-in-Written
 returns-in-Written c =

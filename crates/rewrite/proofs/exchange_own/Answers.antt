@@ -9,6 +9,7 @@ use Rattle.exchange.specs.Decoded.{exchange_of}
 use Rattle.reach.specs.Marks.{fresh_at}
 use lib.ListN.{length, length-replicate}
 use Prim.Native.Nat.{ℕ}
+use borrow.Author.Rules.{rules}
 use native.Mathlib.Omega.{arith}
 use mathlib.Core.Path.{ap, sym, ◌∙◌}
 use Rattle.rewrite.proofs.exchange_own.Goals as goal
@@ -49,10 +50,13 @@ returns-in-Refused c =
     let h = sym o.0 ∙ c.in-Refused.is in
     (foreign_answer (exchange_in (goal.at.returns-in-Refused c).Start) p c.args.marks.now c.args.output.now c.args.work.now c.args.second.now h o.1, λ i. number_foreign p c.args.marks.now (whole (exchange_in (goal.at.returns-in-Refused c).Start)) h)
 
+pub shape_of-work-in-Accepted : goal.shape_of-work-in-Accepted
+shape_of-work-in-Accepted c = search rules
+
 pub returns-in-Accepted : goal.returns-in-Accepted
 returns-in-Accepted c =
     let h = sym c.check_own_within-own.ensures.0 ∙ c.in-Accepted.is in
     let r = c.mend_exchange-mended.ensures in (
-      own_answer (exchange_in (goal.at.returns-in-Accepted c).Start) (program_of c.args.p) c.args.marks.now c.args.output.now c.args.work.now c.args.second.now c.requires.well_formed.3 h r.0 (same-length-3 c) c.write_program-size.ensures,
+      own_answer (exchange_in (goal.at.returns-in-Accepted c).Start) (program_of c.args.p) c.args.marks.now c.args.output.now c.args.work.now c.args.second.now c.requires.well_formed.3 h r.0 (shape_of-work-in-Accepted c) c.write_program-size.ensures,
       λ i. bits_told (whole (exchange_in (goal.at.returns-in-Accepted c).Start)) (program_of c.args.p) i r.1 c.bits_of-bits.ensures,
     )
