@@ -2,69 +2,66 @@
 // chooses the repair; what is printed is the same with either.
 #![tactic(auto)]
 
-ghost use Rattle.std.specs.Prelude.{◌≤◌, length};
+ghost use Rattle.std.specs.Prelude.{◌≤◌, IfOk, length};
 
 use input::INPUT_SIZE;
-use libc::{STDERR_FILENO, STDIN_FILENO, STDOUT_FILENO};
 use report::BLOCK_SIZE;
+use std::env::{Env, FillError};
+use std::io;
+use std::io::Read;
 
-// Prints the first n bytes, and answers whether that went well. What is to be printed lies within the output: hence the
-// `requires`.
-fn print(out: &[u8], n: usize) -> bool
+// Prints the first n bytes. What is to be printed lies within the output: hence the `requires`.
+fn print(rt: &impl Print, out: &[u8], n: usize) -> io::Result<()>
     requires { n ≤ length out.now }
 {
-    let is_written = io::write_all(STDOUT_FILENO, &out[..n]);
-    if !is_written {
-        os::fail(&[b'w', b'r', b'i', b't', b'e']);
-    }
-    is_written
+    rt.write_all(&out[..n])
 }
 
 // Turn by turn, until the input is at its end or printing fails.
-fn print_turns(inside_out: bool, input: &[u8]) {
+fn print_turns(rt: &impl Print, inside_out: bool, input: &[u8]) -> io::Result<()> {
     let mut out = [0u8; BLOCK_SIZE];
     let mut turn = first_turn::begin(input, &mut out);
     while turn.next < input.len() {
-        if !print(&out, turn.size) {
-            return;
-        }
+        print(rt, &out, turn.size)?;
         let at = turn.next;
         let held = turn.held;
         turn = edit_turn::edit_line(inside_out, input, at, held, &mut out);
     }
-    print(&out, turn.size);
+    print(rt, &out, turn.size)
+}
+
+// Reads until the bytes are full or the reader is at its end, and answers how many bytes it put at their start.
+fn read_full(reader: &mut impl Read, bytes: &mut [u8]) -> io::Result<usize>
+    ensures { IfOk result (λ n. n ≤ length bytes.new) }
+{
+    let mut size = 0;
+    while size < bytes.len() {
+        let n = reader.read(&mut bytes[size..])?;
+        if n == 0 {
+            break;
+        }
+        size += n;
+    }
+    Ok(size)
 }
 
 // Everything that standard input holds, and of a longer input enough to see that it is too long.
-fn print_all(inside_out: bool) {
+fn print_all(rt: &(impl Input + Print), inside_out: bool) -> io::Result<()> {
     let mut input = [0u8; INPUT_SIZE + 1];
-    let size = io::read_full(STDIN_FILENO, &mut input);
-    print_turns(inside_out, &input[..size]);
+    let size = read_full(&mut rt.reader(), &mut input)?;
+    print_turns(rt, inside_out, &input[..size])
 }
 
-fn main() {
-    let forward = [b'f', b'o', b'r', b'w', b'a', b'r', b'd'];
-    let inside_out = [b'i', b'n', b's', b'i', b'd', b'e', b'-', b'o', b'u', b't'];
-    if os::arg_count() < 2 {
-        print_all(false);
-        return;
-    }
+fn main(rt: HostRuntime) -> io::Result<()> {
     let mut name = [0u8; 10];
-    let size = os::arg(1, &mut name);
-    if check::same(&name[..size], &forward) {
-        print_all(false);
-        return;
+    let size = match rt.arg(1, &mut name) {
+        Ok(size) => size,
+        Err(FillError::TooLong) => 0,
+        Err(FillError::NotPresent) => return print_all(&rt, false),
+    };
+    match &name[..size] {
+        b"forward" => print_all(&rt, false),
+        b"inside-out" => print_all(&rt, true),
+        _ => eprintln!(rt; "forward or inside-out"),
     }
-    if check::same(&name[..size], &inside_out) {
-        print_all(true);
-        return;
-    }
-    io::write_all(
-        STDERR_FILENO,
-        &[
-            b'f', b'o', b'r', b'w', b'a', b'r', b'd', b' ', b'o', b'r', b' ',
-        ],
-    );
-    io::write_all(STDERR_FILENO, &inside_out);
-    io::write_all(STDERR_FILENO, &[b'\n']);
 }

@@ -1,4 +1,5 @@
-// The functions for C: bytes are handed over, and numbers come back. Every number is set on every call.
+// The functions for C: bytes are handed over, and numbers come back. Every number is set on every call. `desk_c` exports
+// them.
 #![tactic(auto)]
 
 ghost use Rattle.std.specs.Prelude.{[]};
@@ -14,8 +15,7 @@ use answers::{
 use program::chosen::sizes_of;
 
 // Is this file accepted? The line of its refusal is set.
-#[unsafe(no_mangle)]
-pub extern "C" fn palthrenni_read(file: &[u8], line: &mut u32) -> u32
+pub fn palthrenni_read(file: &[u8], line: &mut u32) -> u32
     ensures { Gives read (record {
       file = file.entry.now;
       marks = [];
@@ -45,8 +45,7 @@ pub extern "C" fn palthrenni_read(file: &[u8], line: &mut u32) -> u32
 
 // How large is an accepted file's program? The line of a refusal, the counts of routines and states, the largest count
 // of nodes and the length of the marks are set.
-#[unsafe(no_mangle)]
-pub extern "C" fn palthrenni_sizes(
+pub fn palthrenni_sizes(
     file: &[u8],
     line: &mut u32,
     routines: &mut u32,
@@ -89,13 +88,7 @@ pub extern "C" fn palthrenni_sizes(
 
 // By which pair is the table of a file with rows refused? The line of a refusal is set, and where that is 19 or 20 the
 // state and the action of the first faulty pair, else 0 and 0.
-#[unsafe(no_mangle)]
-pub extern "C" fn palthrenni_faulty_pair(
-    file: &[u8],
-    line: &mut u32,
-    state: &mut u32,
-    action: &mut u32,
-) -> u32
+pub fn palthrenni_faulty_pair(file: &[u8], line: &mut u32, state: &mut u32, action: &mut u32) -> u32
     ensures { Gives faulty-pair (record {
       file = file.entry.now;
       marks = [];
@@ -129,13 +122,7 @@ pub extern "C" fn palthrenni_faulty_pair(
 
 // Writes the program of a file at the start of the output. The line of a refusal and the count of bytes written are
 // set.
-#[unsafe(no_mangle)]
-pub extern "C" fn palthrenni_write(
-    file: &[u8],
-    output: &mut [u8],
-    line: &mut u32,
-    written: &mut u32,
-) -> u32
+pub fn palthrenni_write(file: &[u8], output: &mut [u8], line: &mut u32, written: &mut u32) -> u32
     ensures { Gives write (record {
       file = file.entry.now;
       marks = [];
@@ -165,8 +152,7 @@ pub extern "C" fn palthrenni_write(
 
 // Sets the marks of all reachable configurations of a file's program, or gives up where the limit is not enough. The
 // line of a refusal and the three counts are set.
-#[unsafe(no_mangle)]
-pub extern "C" fn palthrenni_analyze(
+pub fn palthrenni_analyze(
     file: &[u8],
     marks: &mut [u8],
     work: &mut [u8],
@@ -206,8 +192,7 @@ pub extern "C" fn palthrenni_analyze(
 }
 
 // The first violation not below the number. The line of a refusal and the number found are set.
-#[unsafe(no_mangle)]
-pub extern "C" fn palthrenni_next_violation(
+pub fn palthrenni_next_violation(
     file: &[u8],
     marks: &[u8],
     work: &mut [u8],
@@ -244,8 +229,7 @@ pub extern "C" fn palthrenni_next_violation(
 
 // The first configuration not below the number at which runs are cut off. The line of a refusal, the number found and
 // the place of the edge that is not allowed are set.
-#[unsafe(no_mangle)]
-pub extern "C" fn palthrenni_next_blocked(
+pub fn palthrenni_next_blocked(
     file: &[u8],
     marks: &[u8],
     work: &mut [u8],
@@ -284,13 +268,7 @@ pub extern "C" fn palthrenni_next_blocked(
 
 // Of the marks those stay that have support back to a start through marked configurations. The line of a refusal is
 // set.
-#[unsafe(no_mangle)]
-pub extern "C" fn palthrenni_prune(
-    file: &[u8],
-    marks: &mut [u8],
-    work: &mut [u8],
-    line: &mut u32,
-) -> u32
+pub fn palthrenni_prune(file: &[u8], marks: &mut [u8], work: &mut [u8], line: &mut u32) -> u32
     ensures { Gives prune (record {
       file = file.entry.now;
       marks = marks.old;
@@ -318,8 +296,7 @@ pub extern "C" fn palthrenni_prune(
 }
 
 // Moves the old marks of a file's program to frames. The line of a refusal and the count of bytes written are set.
-#[unsafe(no_mangle)]
-pub extern "C" fn palthrenni_marks_to_frames(
+pub fn palthrenni_marks_to_frames(
     file: &[u8],
     old_marks: &[u8],
     output: &mut [u8],
@@ -340,8 +317,7 @@ pub extern "C" fn palthrenni_marks_to_frames(
 }
 
 // Moves the frames of a file's program back to old marks. The line of a refusal and the count of bytes written are set.
-#[unsafe(no_mangle)]
-pub extern "C" fn palthrenni_frames_to_marks(
+pub fn palthrenni_frames_to_marks(
     file: &[u8],
     frames: &[u8],
     output: &mut [u8],
@@ -362,8 +338,7 @@ pub extern "C" fn palthrenni_frames_to_marks(
 
 // The forward repair by an edit line: the marks become those of the edited program, which is written. The line of a
 // refusal and the count of bytes written are set.
-#[unsafe(no_mangle)]
-pub extern "C" fn palthrenni_repair_forward(
+pub fn palthrenni_repair_forward(
     file: &[u8],
     marks: &mut [u8],
     edit: &[u8],
@@ -387,8 +362,7 @@ pub extern "C" fn palthrenni_repair_forward(
 
 // The inside-out repair by an edit line: as the forward one, and the set of the reanalyzed routines is set too, bit f
 // for routine f.
-#[unsafe(no_mangle)]
-pub extern "C" fn palthrenni_repair_inside_out(
+pub fn palthrenni_repair_inside_out(
     file: &[u8],
     marks: &mut [u8],
     edit: &[u8],
@@ -414,8 +388,7 @@ pub extern "C" fn palthrenni_repair_inside_out(
 
 // What an exchange by this text has to be lent: the line of a refusal, the largest count of nodes of the new program,
 // the length of its marks and that of the working buffer are set.
-#[unsafe(no_mangle)]
-pub extern "C" fn palthrenni_exchange_sizes(
+pub fn palthrenni_exchange_sizes(
     file: &[u8],
     text: &[u8],
     line: &mut u32,
@@ -454,8 +427,7 @@ pub extern "C" fn palthrenni_exchange_sizes(
 
 // The forward exchange of a routine by a text: the marks of the new program go to the new marks, and the program is
 // written. The old marks are only read. The line of a refusal and the count of bytes written are set.
-#[unsafe(no_mangle)]
-pub extern "C" fn palthrenni_exchange_forward(
+pub fn palthrenni_exchange_forward(
     file: &[u8],
     marks: &[u8],
     text: &[u8],
@@ -479,8 +451,7 @@ pub extern "C" fn palthrenni_exchange_forward(
 }
 
 // The inside-out exchange: as the forward one, and the set of the reanalyzed routines is set too.
-#[unsafe(no_mangle)]
-pub extern "C" fn palthrenni_exchange_inside_out(
+pub fn palthrenni_exchange_inside_out(
     file: &[u8],
     marks: &[u8],
     text: &[u8],
