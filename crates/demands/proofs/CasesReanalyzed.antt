@@ -98,6 +98,7 @@ uncalled_silent f g c = go c.edge
     go : {f g n m : ℕ} → HasStep uncalled f n (Call g) m → ⊥
     go (Memᴰ.head e) = no_action (ap (λ (s : Step). s.label) e)
     go (Memᴰ.tail (Memᴰ.head e)) = no_action (ap (λ (s : Step). s.label) e)
+    go (Memᴰ.tail (Memᴰ.tail x)) = elim x [ ]
 
 called_silent : Silent (with_steps (called ∷ []))
 called_silent f g c = uncalled_silent f g (record { source = c.source; target = c.target; edge = Memᴰ.tail c.edge })
@@ -109,12 +110,14 @@ whole_calls f g c = go c.edge
     go (Memᴰ.head e) = let l = ap (λ (s : Step). s.label) e in (ap (λ (s : Step). s.routine) e, cc)
     go (Memᴰ.tail (Memᴰ.head e)) = absurd (no_action (ap (λ (s : Step). s.label) e))
     go (Memᴰ.tail (Memᴰ.tail (Memᴰ.head e))) = absurd (no_action (ap (λ (s : Step). s.label) e))
+    go (Memᴰ.tail (Memᴰ.tail (Memᴰ.tail x))) = elim x [ ]
 
 call_calls : MainCalls (with_steps (call ∷ []))
 call_calls f g c = go c.edge
   where
     go : {f g n m : ℕ} → HasStep (with_steps (call ∷ [])) f n (Call g) m → (f ≡ 0) × (g ≡ 1)
     go (Memᴰ.head e) = whole_calls _ _ (record { source = _; target = _; edge = Memᴰ.head e })
+    go (Memᴰ.tail x) = elim x [ ]
 
 call_only_calls : MainCalls call_only
 call_only_calls f g c = go c.edge
@@ -122,6 +125,7 @@ call_only_calls f g c = go c.edge
     go : {f g n m : ℕ} → HasStep call_only f n (Call g) m → (f ≡ 0) × (g ≡ 1)
     go (Memᴰ.head e) = whole_calls _ _ (record { source = _; target = _; edge = Memᴰ.head e })
     go (Memᴰ.tail (Memᴰ.head e)) = absurd (no_action (ap (λ (s : Step). s.label) e))
+    go (Memᴰ.tail (Memᴰ.tail x)) = elim x [ ]
 
 -- ---- which routines have configurations
 
@@ -195,6 +199,7 @@ caller_only {old} {p} {f} h o = let e = alone h o.together in go e o.reason
 main_steps : {f n m : ℕ} {l : Event} → HasStep call_only f n l m → f ≡ 0
 main_steps (Memᴰ.head e) = ap (λ (s : Step). s.routine) e
 main_steps (Memᴰ.tail (Memᴰ.head e)) = ap (λ (s : Step). s.routine) e
+main_steps (Memᴰ.tail (Memᴰ.tail x)) = elim x [ ]
 
 -- from no old roots is the exit of routine 1 derived
 no_exit : {p : Program} {f n r q : ℕ} → Anew p call_only f n r q → f ≡ 1 → n ≡ 1 → ⊥
@@ -245,6 +250,7 @@ no_first : {f n m : ℕ} {l : Event} → HasStep uncalled_more f n l m → f ≡
 no_first (Memᴰ.head e) f n = let z = ap (λ (s : Step). s.source) e in absurd (omega arith)
 no_first (Memᴰ.tail (Memᴰ.head e)) f n = let z = ap (λ (s : Step). s.routine) e in absurd (omega arith)
 no_first (Memᴰ.tail (Memᴰ.tail (Memᴰ.head e))) f n = let z = ap (λ (s : Step). s.routine) e in absurd (omega arith)
+no_first (Memᴰ.tail (Memᴰ.tail (Memᴰ.tail x))) f n = elim x [ ]
 
 -- so nothing but main's entry is there
 entry_only : {f n r q : ℕ} → Reachable uncalled_more f n r q → (f ≡ 0) × (n ≡ 0)
