@@ -38,7 +38,7 @@ use Rattle.analysis.specs.Answers.{limited, analyze_by, analyze_answer, owned, f
 use Rattle.analysis.proofs.AnswersByChecks.{by_marks}
 use Rattle.analysis.proofs.LimitDecides.{by_limit}
 use Rattle.base.specs.Searches.{seek}
-use Rattle.blocked.specs.Blocks.{Block, is_blocked, blocked_by, block_from, next_block}
+use Rattle.blocked.specs.Blocks.{is_blocked, blocked_by, block_from, next_block}
 use Rattle.blocked.proofs.RunsCutOff.{edge_small}
 use Rattle.block_list.specs.Answers.{block_of, block_by, block_answer}
 use Rattle.exchange.specs.Changes.{Exchange, Change, step, whole, ChangeRead, Read, Refused as Denied, Form, ExchangeText}

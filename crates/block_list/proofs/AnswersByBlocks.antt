@@ -2,7 +2,7 @@
 use Prim.Native.Nat.{ℕ}
 use mathlib.Core.Path.{◌≡◌, refl, sym, ap, ◌∙◌}
 use mathlib.Core.Bool.{Bool, true, false, cond}
-use mathlib.Core.Option.{Option, some, none}
+use mathlib.Core.Option.{some, none}
 use mathlib.Core.List.{List}
 use lib.Dec.{ltb}
 use lib.ListN.{length}
@@ -19,7 +19,7 @@ use Rattle.reach.specs.Configurations.{none_set}
 use Rattle.program.specs.Checks.{followed_by}
 use Rattle.analysis.specs.Answers.{on_success, work_after, owned}
 use Rattle.analysis.proofs.AnswersByChecks.{accepted_own}
-use Rattle.blocked.specs.Blocks.{Block, block_in, block_from, next_block}
+use Rattle.blocked.specs.Blocks.{block_in, block_from, next_block}
 use Rattle.block_list.specs.declared.BlockAnswer.TheVariants as block
 use Rattle.block_list.specs.Answers.{block_of, block_by, block_answer, found_within}
 

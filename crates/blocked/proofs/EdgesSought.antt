@@ -1,10 +1,9 @@
 -- Loops that search: over a chained list of the index for the first edge that meets a second test too, and over all
 -- numbers from one on.
-use Prim.Native.Nat.{ℕ, zero, suc, ◌+◌, ◌-◌, ◌≤◌, ◌<◌}
+use Prim.Native.Nat.{ℕ, ◌+◌, ◌-◌, ◌≤◌, ◌<◌}
 use mathlib.Core.Path.{◌≡◌, refl, sym, ◌∙◌}
 use mathlib.Core.Bool.{Bool, true, false, ◌&&◌}
 use native.Mathlib.Omega.{arith}
-use native.Mathlib.Numerals.{add-one}
 use Rattle.base.specs.Searches.{seek}
 use Rattle.base.proofs.NumbersSought.{seek_none, seek_met, seek_on, seek_past, seek_at_least, seek_at_most, seek_meets, seek_passes}
 use Rattle.base.proofs.SearchesAsk.{both_met, first_fails, second_fails}

@@ -1,9 +1,9 @@
 -- What the tests on a program mean: an event is allowed, an edge is barred, a routine is called with a root.
 use Prim.Native.Nat.{ℕ, ◌<◌}
-use mathlib.Core.Path.{◌≡◌, refl, sym, ap, subst, ◌∙◌}
+use mathlib.Core.Path.{◌≡◌, sym, ap, ◌∙◌}
 use mathlib.Core.Logic.{◌↔◌}
-use mathlib.Core.Bool.{Bool, true, false, ◌&&◌, not}
-use mathlib.Core.List.{List, Memᴰ}
+use mathlib.Core.Bool.{Bool, true, ◌&&◌, not}
+use mathlib.Core.List.{List}
 use native.Mathlib.Omega.{arith}
 use lib.Dec.{eqb}
 use lib.ListN.{length}
@@ -18,7 +18,7 @@ use Rattle.automaton.specs.declared.Event.TheVariants.{Call}
 use Rattle.program.specs.declared.sizes.Sizes.{Sizes}
 use Rattle.program.specs.Program.{Edge, Program}
 use Rattle.reach.specs.Configurations.{Set, number}
-use Rattle.reach.specs.Runs.{event_of, Step, step_of, HasStep, Moves}
+use Rattle.reach.specs.Runs.{event_of, Step, step_of, HasStep}
 use Rattle.reach.specs.Ranged.{Ranged}
 use Rattle.reach.specs.Reachable.{Calls}
 use Rattle.reach.specs.Marks.{Marked}

@@ -1,10 +1,9 @@
 -- What the searches over the keys of a program's edges and its sets of next states find is what its definition says.
-use Prim.Native.Nat.{ℕ, zero, suc, ◌+◌, ◌/◌, ◌%◌, ◌^◌, ◌≤◌, ◌<◌}
+use Prim.Native.Nat.{ℕ, zero, suc, ◌/◌, ◌%◌, ◌^◌, ◌≤◌, ◌<◌}
 use mathlib.Core.Path.{◌≡◌, refl, sym, ap, subst, ◌∙◌}
 use mathlib.Core.Bool.{Bool, true, false, cond, ◌&&◌, not}
 use mathlib.Core.Logic.{◌≢◌}
-use mathlib.Core.List.{List, map}
-use native.Mathlib.Numerals.{add-one}
+use mathlib.Core.List.{List}
 use native.Mathlib.Omega.{arith}
 use native.Mathlib.Nat.{zero-div, two-pow-succ}
 use native.Mathlib.Decide.{ℕ_discrete}
@@ -13,7 +12,6 @@ use lib.Dec.{eqb}
 use lib.ListN.{length, get_or, length-map, get_or-map}
 use borrow.Author.Tests.{eqb-true, eq-eqb, ne_eqb, ltb-false, leb-true, lt-ltb, le-ltb}
 use Rattle.base.specs.Bits.{bit}
-use Rattle.base.specs.Flags.{is_set}
 use Rattle.base.proofs.Bools.{both, never, and-false, same_test}
 use Rattle.base.proofs.NumbersSought.{seek_same}
 use Rattle.base.proofs.SetFlags.{set_byte, byte_set}
@@ -29,13 +27,11 @@ use Rattle.program.specs.Program.{Edge, Program, is_action, called_by}
 use Rattle.program.specs.Decoded.{edge_of}
 use Rattle.program.proofs.ProgramRanged.{ranged}
 use Rattle.reach.specs.Configurations.{Usable, PartsOf}
-use Rattle.reach.specs.Runs.{event_of, HasStep, Moves}
+use Rattle.reach.specs.Runs.{event_of, HasStep}
 use Rattle.reach.specs.Marks.{Marked}
 use Rattle.reach.proofs.Numbers.{parts_routine, parts_node, parts_root, parts_state}
 use Rattle.reach.proofs.Labels.{label_calls, step_event}
 use Rattle.base.specs.Searches.{seek}
-use Rattle.index.specs.Index.{leaves}
-use Rattle.base.specs.Searches.{any_from}
 use Rattle.kept.specs.Parts.{caller_kept}
 use Rattle.base.proofs.SearchesAsk.{found_from, any-from, both_met}
 use Rattle.kept.proofs.CallsFound.{CallerAt, caller_found, caller_there}

@@ -1,14 +1,13 @@
 -- Where the program's own marks say so, and nowhere else, runs are cut off; and the search finds the first of these.
 use Prim.Native.Nat.{ℕ, ◌-◌, ◌≤◌, ◌<◌}
-use mathlib.Core.Path.{◌≡◌, refl, sym, subst, ◌∙◌}
-use mathlib.Core.Logic.{◌≢◌, ◌⊎◌, inl, inr}
+use mathlib.Core.Path.{◌≡◌, refl, ◌∙◌}
+use mathlib.Core.Logic.{inl, inr}
 use mathlib.Core.Bool.{Bool, true, false, cond, ◌&&◌, ◌||◌, not}
 use mathlib.Core.List.{List, ◌∷◌}
 use native.Mathlib.Omega.{arith}
-use native.Mathlib.Decide.{ℕ_discrete}
 use lib.Dec.{eqb, ltb}
-use lib.ListN.{length, get_or}
-use borrow.Author.Tests.{eqb-true, eq-eqb, ltb-true, ltb-false, lt-ltb, le-ltb, not-true}
+use lib.ListN.{length}
+use borrow.Author.Tests.{eqb-true, eq-eqb, ltb-true, ltb-false, lt-ltb, not-true}
 use Rattle.base.specs.Flags.{is_set}
 use Rattle.base.proofs.Bools.{both, never, or_left, or_right, not-false, false_not, or_cases}
 use Rattle.base.proofs.SetFlags.{set_byte, byte_set}
@@ -17,17 +16,16 @@ use Rattle.program.specs.declared.sizes.Sizes.{Sizes}
 use Rattle.program.specs.Sizes.{max_edges}
 use Rattle.program.specs.Chosen.{numbers}
 use Rattle.program.specs.Program.{Program}
-use Rattle.reach.specs.Configurations.{Set, Usable, At, routine_of, node_of, root_of, state_of}
-use Rattle.reach.specs.Runs.{Occurs, HasStep}
+use Rattle.reach.specs.Configurations.{Usable, At, routine_of, node_of, root_of, state_of}
+use Rattle.reach.specs.Runs.{Occurs}
 use Rattle.reach.specs.Ranged.{Ranged}
-use Rattle.reach.specs.Reachable.{Reachable, Calls}
 use Rattle.reach.specs.Marks.{Marked, Shows}
 use Rattle.reach.proofs.RunsReach.{occurs_iff, CalledWith, was_called, run_called}
 use Rattle.reach.proofs.MarksShown.{shown_at, one_of, occurs_in_range}
 use Rattle.base.specs.Searches.{seek}
 use Rattle.base.proofs.NumbersSought.{seek_at_least, seek_at_most, seek_meets, seek_passes}
 use Rattle.base.proofs.SearchesAsk.{both_met}
-use Rattle.reach.specs.Blocked.{Allows, edge_at, Barred, Unreturned, no_edge, Blocked, by_edge, by_return}
+use Rattle.reach.specs.Blocked.{Barred, Unreturned, no_edge, Blocked, by_edge, by_return}
 use Rattle.blocked.specs.Blocks.{allows, bars, first_barred, any_barred, is_called, no_return, is_blocked, blocked_by}
 use Rattle.blocked.proofs.EventsAllowed.{step_at, allows_iff, barred, bars_there, CallsOne, called_found, called_there}
 

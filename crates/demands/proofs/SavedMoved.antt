@@ -2,7 +2,7 @@
 use mathlib.Core.Path.{◌≡◌, refl, sym, ap, subst, ◌∙◌}
 use mathlib.Core.Logic.{◌↔◌, ◌≢◌, ◌⊎◌, inl, inr, ⊎_elim}
 use mathlib.Core.Bool.{Bool, true, false, cond, not}
-use mathlib.Core.List.{List, [], ◌∷◌, ◌++◌}
+use mathlib.Core.List.{List}
 use Prim.Native.Nat.{ℕ, ◌≤◌, ◌<◌}
 use native.Mathlib.Omega.{arith}
 use lib.Dec.{ltb}
@@ -28,12 +28,11 @@ use Rattle.analysis.proofs.AnswersByChecks.{same_self, same_equal}
 use Rattle.writer.specs.Answers.{refusal as writeRefusal, written_length}
 use Rattle.saved.specs.Saved.{old_sizes, too_large, old_marks, saved_text}
 use Rattle.saved.specs.Rules.{Saves}
-use Rattle.saved.specs.Answers.{Way, over, back, own, moved, given_marks, early_rows, late_rows, move_checked, written_by, at_start, move_answer, move_output, move_work}
+use Rattle.saved.specs.Answers.{Way, over, back, own, moved, given_marks, early_rows, late_rows, move_checked, written_by, at_start, move_answer, move_output}
 use Rattle.saved.proofs.OldSizes.{old_sized, old_numbers}
 use Rattle.saved.proofs.FramesByRules.{by_rules}
 use Rattle.saved.proofs.FramesWritten.{old_long}
-use Rattle.saved.proofs.MovesAnswered.{early_passed}
-use Rattle.desk.specs.Entries.{marks_to_frames, frames_to_marks, Lent, Back, move_back, program_in, MoveGives, Gives}
+use Rattle.desk.specs.Entries.{marks_to_frames, frames_to_marks, Lent, Back, program_in, MoveGives, Gives}
 use Rattle.demands.specs.Refusals.{marks_length}
 use Rattle.demands.specs.Lists.{wrote}
 use Rattle.demands.specs.Demands.{TooLarge, by_nodes, by_states, by_transitions, Reaches25, MovedOver, MovedBack}

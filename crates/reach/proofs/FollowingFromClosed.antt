@@ -21,7 +21,7 @@ use Rattle.reach.proofs.AnalysisExact.{follow_exact_ended}
 use Rattle.reach.proofs.MarksShown.{shows_marked}
 use Rattle.program.specs.declared.sizes.Sizes.{Sizes}
 use Rattle.program.specs.Chosen.{numbers}
-use Rattle.reach.specs.Sizes.{summaries, enough_iterations}
+use Rattle.reach.specs.Sizes.{enough_iterations}
 use Rattle.reach.specs.Configurations.{Usable}
 use Rattle.reach.specs.Ranged.{Ranged}
 

@@ -19,7 +19,6 @@ use Rattle.reach.proofs.LeastSetLaws.{Within, grows, flat}
 use Rattle.reach.proofs.AnalysisExact.{analysis_exact}
 use Rattle.reach.proofs.MarksShown.{shows_same, one_list, reachable_shown}
 use Rattle.program.specs.declared.sizes.Sizes.{Sizes}
-use Rattle.program.specs.Chosen.{numbers}
 use Rattle.reach.specs.Sizes.{node_span, routine_span}
 use Rattle.reach.specs.Configurations.{Usable}
 use Rattle.reach.specs.Ranged.{Ranged}

@@ -6,7 +6,6 @@ use Rattle.program.specs.Sizes.{max_routines, max_nodes}
 use Rattle.program.specs.declared.sizes.Sizes.{Sizes}
 use Rattle.program.specs.Program.{Program}
 use Rattle.program.specs.WellFormed.{WellFormed}
-use Rattle.program.specs.Chosen.{sizes_of}
 use Rattle.program.proofs.ChosenSizes.{admitted}
 use Rattle.reach.specs.Ranged.{Ranged}
 use Rattle.reach.proofs.ProgramInSizes.{ranged}

@@ -6,7 +6,7 @@ use mathlib.Core.List.{List}
 use Prim.Native.Nat.{ℕ}
 use lib.Dec.{eqb}
 use Rattle.program.specs.Program.{Program}
-use Rattle.program.specs.Checks.{first_met, verdict_of}
+use Rattle.program.specs.Checks.{first_met}
 use Rattle.program.specs.Reading.{read_file}
 use Rattle.program.specs.declared.Verdict.{Verdict}
 use Rattle.program.specs.declared.Verdict.TheVariants as verdict
@@ -16,7 +16,7 @@ use Rattle.exchange.specs.Changes.{Exchange, Change, step, whole, ChangeRead, Re
 use Rattle.exchange.specs.Changing.{changed_program, exchanged_program}
 use Rattle.exchange_text.specs.ExchangeText.{text_lines, exchange_rows, exchange_in, exchange_from, wanted_exchange}
 use Rattle.exchange_text.specs.Wanted.{wanted_change}
-use Rattle.repair.specs.Repairs.{After, repaired_to, checked_repair, owned_by, measured, measured_by, wanted_by, repaired_by, repaired}
+use Rattle.repair.specs.Repairs.{After, checked_repair, owned_by, measured, measured_by, wanted_by, repaired_by, repaired}
 
 module _ (marks output work second : List ℕ) where
   -- ---- the marks, by an exchange

@@ -3,11 +3,11 @@ use mathlib.Core.Path.{◌≡◌, refl, sym, ap, subst, ◌∙◌}
 use mathlib.Core.Logic.{◌≢◌}
 use mathlib.Core.Bool.{Bool, true, false, cond, not}
 use mathlib.Core.List.{List, [], ◌∷◌, ◌++◌}
-use Prim.Native.Nat.{ℕ, ◌≤◌, ◌<◌}
+use Prim.Native.Nat.{ℕ, ◌≤◌}
 use native.Mathlib.Omega.{arith}
 use lib.Dec.{eqb, leb}
 use lib.ListN.{length, drop, replicate}
-use borrow.Author.Tests.{leb-true, leb-false, eqb-true, eq-eqb, ne_eqb}
+use borrow.Author.Tests.{leb-true, leb-false, eqb-true, ne_eqb}
 use Rattle.program.specs.Sizes.{output_size}
 use Rattle.program.specs.declared.sizes.Sizes.{Sizes}
 use Rattle.program.specs.Chosen.{sizes_of, numbers}
@@ -21,14 +21,14 @@ use Rattle.program.proofs.Theorems.{written_limited}
 use Rattle.writer.specs.declared.WriteAnswer.TheVariants.{Written, Refused}
 use Rattle.reach.specs.Marks.{fresh_at}
 use Rattle.analysis.specs.Answers.{owned}
-use Rattle.exchange.specs.Changes.{Exchange, whole, ChangeRead, Read, Refused as Denied, ExchangeText}
+use Rattle.exchange.specs.Changes.{Exchange, whole, ChangeRead, Read, Refused as Denied}
 use Rattle.exchange.specs.Changing.{exchanged_program}
 use Rattle.exchange_text.specs.ExchangeText.{exchange_unless}
 use Rattle.exchange.specs.Lengths.{sizes_after, longer, lengths_of, length_rows}
 use Rattle.exchange.specs.Wanted.{Fits}
 use Rattle.exchange.proofs.Theorems.{exchanged_well_formed}
 use Rattle.stages.specs.Parts.{Exchanges, Exchanged}
-use Rattle.repair.specs.Repairs.{After, afterwards, zeroed, owned_by, changed_by, measured, measured_by, wanted_by, InsideOutNumber}
+use Rattle.repair.specs.Repairs.{afterwards, zeroed, owned_by, changed_by, measured, measured_by, InsideOutNumber}
 use Rattle.repair.proofs.RepairsAnswer.{same_after}
 use Rattle.repair.proofs.InsideOutNumbers.{number_refused}
 use Rattle.rewrite.specs.Parts.{Measured}

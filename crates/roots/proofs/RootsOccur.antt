@@ -1,5 +1,5 @@
 -- The roots on a sheet of marks, the roots that occur, and the cut to these.
-use Prim.Native.Nat.{ℕ, min, ◌+◌, ◌*◌, ◌/◌, ◌%◌, ◌≤◌, ◌<◌}
+use Prim.Native.Nat.{ℕ, min, ◌/◌, ◌%◌, ◌≤◌, ◌<◌}
 use mathlib.Core.Path.{◌≡◌, refl, sym, ap, subst, ◌∙◌}
 use mathlib.Core.Logic.{◌↔◌, ◌≢◌}
 use mathlib.Core.Bool.{Bool, true, false, cond, ◌&&◌, not}
@@ -42,7 +42,7 @@ use Rattle.callgraph.proofs.FlagsClosed.{Obeys, Copy, One, obeys_set, obeys_copy
 use Rattle.callgraph.proofs.ComponentsFromFlags.{bit_small}
 use Rattle.callgraph.proofs.CallsByKey.{edge_at, at_in, place_of, KeysOf, key_step, step_key}
 use Rattle.roots.specs.Roots.{Live, begun, called, LiveMarked}
-use Rattle.roots.specs.Parts.{RootFlags, roots_after_call, roots_when_marked, roots_by_root, roots_by_call, roots_by_edge, roots_by_edges, roots_of_main, kept_byte_of, entry_byte}
+use Rattle.roots.specs.Parts.{RootFlags, roots_after_call, roots_when_marked, roots_by_call, roots_by_edge, roots_by_edges, roots_of_main, kept_byte_of, entry_byte}
 
 -- the table answers by the label of an edge that calls
 call_answer : {p : Program} {next : List ℕ} → WellFormed p → Answers p.automaton p.routines next

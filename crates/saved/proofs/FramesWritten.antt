@@ -1,21 +1,19 @@
 -- The text of old marks: how long it is, and that it is what is put.
-use mathlib.Core.Path.{◌≡◌, refl, sym, ap, ◌∙◌}
-use mathlib.Core.Bool.{Bool, true, false, cond, ◌&&◌, not}
-use mathlib.Core.List.{List, [], ◌∷◌, ◌++◌, map}
-use Prim.Native.Nat.{ℕ, suc, ◌+◌, ◌*◌, ◌<◌, ◌≤◌}
+use mathlib.Core.Path.{◌≡◌, refl, ap, ◌∙◌}
+use mathlib.Core.Bool.{Bool, true, false, ◌&&◌, not}
+use mathlib.Core.List.{List, [], ◌∷◌, map}
+use Prim.Native.Nat.{ℕ, ◌+◌, ◌*◌, ◌≤◌}
 use native.Mathlib.Nat.{zero-add}
 use native.Mathlib.Omega.{arith}
-use lib.Dec.{eqb, ltb}
-use lib.ListN.{length, get_or, replicate, drop, get_or-replicate}
+use lib.Dec.{eqb}
+use lib.ListN.{length, replicate, get_or-replicate}
 use lib.Seq.{sets-eq}
 use Rattle.base.specs.Flags.{is_set, count_set}
 use Rattle.automaton.specs.Sizes.{max_states}
 use Rattle.program.specs.Program.{Program}
-use Rattle.program.specs.Chosen.{numbers}
 use Rattle.program.specs.Frames.{end_frame}
 use Rattle.program.specs.Writing.{text}
 use Rattle.reach.specs.Configurations.{state_of}
-use Rattle.reach.specs.Marks.{front_when}
 use Rattle.reach.proofs.Numbers.{state_small}
 use Rattle.reach.proofs.ShapeKept.{marks-length}
 use Rattle.reach.proofs.MarksShown.{count_small}

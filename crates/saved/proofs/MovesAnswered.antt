@@ -18,7 +18,7 @@ use Rattle.analysis.specs.Answers.{same, on_success}
 use Rattle.writer.specs.declared.WriteAnswer.{WriteAnswer}
 use Rattle.writer.specs.declared.WriteAnswer.TheVariants.{Written, Refused}
 use Rattle.saved.specs.Answers.{Way, own, moved, given_marks, late_rows, written_by, at_start, move_answer, move_output, move_work}
-use Rattle.saved.specs.Parts.{WroteBy, Wrote, Moved, CheckedEarly}
+use Rattle.saved.specs.Parts.{Wrote, Moved, CheckedEarly}
 
 -- ---- there is room for what is written, or not
 

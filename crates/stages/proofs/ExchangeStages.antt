@@ -1,5 +1,5 @@
 -- The stages of an exchange: the drop in the sizes before, the same marks in the sizes after, and the add there.
-use mathlib.Core.Path.{◌≡◌, refl, sym, ap, ◌∙◌}
+use mathlib.Core.Path.{◌≡◌, sym, ap, ◌∙◌}
 use mathlib.Core.List.{List, ◌++◌}
 use Prim.Native.Nat.{ℕ, ◌≤◌}
 use lib.ListN.{length, take, drop, replicate, length-replicate}
@@ -7,7 +7,7 @@ use lib.Seq.{length-take-le}
 use Rattle.base.specs.Filled.{Filled}
 use Rattle.automaton.specs.declared.Event.{Event}
 use Rattle.program.specs.declared.sizes.Sizes.{Sizes}
-use Rattle.program.specs.Chosen.{sizes_of, numbers}
+use Rattle.program.specs.Chosen.{numbers}
 use Rattle.program.specs.Program.{Program}
 use Rattle.reach.specs.Runs.{step_of, HasStep}
 use Rattle.reach.specs.Ranged.{Ranged, Sized}

@@ -1,7 +1,6 @@
 -- `blocked::cut_of` meets its contract, whichever program has these tables.
 use native.Mathlib.Omega.{arith}
 use mathlib.Core.Path.{refl}
-use mathlib.Core.Bool.{true, false}
 use Rattle.base.proofs.Bools.{never}
 use Rattle.blocked.proofs.KeysSearched.{cut_by_edge, cut_by_return, not_marked}
 use Rattle.blocked.proofs.cut_of.Goals as goal

@@ -7,7 +7,6 @@ use lib.ListN.{length}
 use Rattle.text.specs.Lines.{line_at}
 use Rattle.text.specs.declared.ReadLine.{ReadLine}
 use Rattle.program.specs.Decoded.{program_of}
-use Rattle.ranges.specs.Limits.{limits_of}
 use Rattle.exchange_text.specs.ExchangeText.{bad_frame}
 use Rattle.exchange_text.proofs.TextLoop.{begins_bad, reached, moves, meets_bad, continues, ends}
 use Rattle.exchange_text.proofs.wanted_exchange.Goals as goal

@@ -26,8 +26,8 @@ loop-i-preserved c =
     let b = inside (goal.at.loop-i-preserved c).After-shared_slice_known-in-loop-i-2-1 in
     elim c.if-was-is.branch [
       | then-was-is w ↦
-        let m = more_yes _ _ w.if-was-is.true in
-        rw (w.flags-is, w.routine_of-f.ensures.0) (gaining_on c.requires.0 c.requires.1 l.invariant b m.0 m.1)
+          let m = more_yes _ _ w.if-was-is.true in
+          rw (w.flags-is, w.routine_of-f.ensures.0) (gaining_on c.requires.0 c.requires.1 l.invariant b m.0 m.1)
       | else-was-is w ↦ rw w.flags-is (gaining_off c.requires.0 c.requires.1 l.invariant b (more_no _ _ w.if-was-is.false))
     ]
 

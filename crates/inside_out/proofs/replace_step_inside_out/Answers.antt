@@ -17,11 +17,14 @@ pub add_step_inside_out-added-requires : goal.add_step_inside_out-added-requires
 add_step_inside_out-added-requires c =
     let p = program_of c.args.p in
     let x = c.drop_step_inside_out-dropped.ensures.0 in
-    let a = between_applies c.args.s c.args.l p _ p c.requires.well_formed.0 c.requires.well_formed.1 x in record { well_formed = (
+    let a = between_applies c.args.s c.args.l p _ p c.requires.well_formed.0 c.requires.well_formed.1 x in record {
+      well_formed = (
         between_well_formed c.args.s c.args.l p _ p c.requires.well_formed.0 c.requires.well_formed.1 x,
         rw c.relabelled-new.ensures a,
         between_sizes c.args.s c.args.l p _ p c.requires.well_formed.0 c.requires.well_formed.1 x c.requires.well_formed.2,
-      ); marks_value = (x.own, ap length x.clear ∙ none_length _ (own_sized _ c.requires.well_formed.2 c.requires.well_formed.0).usable) }
+      );
+      marks_value = (x.own, ap length x.clear ∙ none_length _ (own_sized _ c.requires.well_formed.2 c.requires.well_formed.0).usable);
+    }
 
 pub returns : goal.returns
 returns c =

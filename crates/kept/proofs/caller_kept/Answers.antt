@@ -1,6 +1,5 @@
 use mathlib.Core.Path.{sym, ◌∙◌}
-use mathlib.Core.Logic.{⊎_elim}
-use Rattle.kept.specs.Parts.{root_kept, caller_kept}
+use Rattle.kept.specs.Parts.{caller_kept}
 use Rattle.base.proofs.SearchesAsk.{both_met, first_fails, second_fails, try_all, try_found, try_next, try_none}
 use Rattle.kept.proofs.caller_kept.Goals.{else-may_go-via-then-may_go+else-root_kept, else-may_go-via-else-may_go}
 use Rattle.kept.proofs.caller_kept.Goals as goal
@@ -21,7 +20,7 @@ loop-x-preserved c =
     try_next c.loop-x.invariant c.loop-x-test.true
     (elim c.else-may_go.branch [
       | else-may_go-via-then-may_go+else-root_kept w ↦
-        second_fails (may ∙ w.if-may_go.true) (sym (rw w.number_of.ensures.0 at w.root_kept.ensures) ∙ w.if-root_kept.false)
+          second_fails (may ∙ w.if-may_go.true) (sym (rw w.number_of.ensures.0 at w.root_kept.ensures) ∙ w.if-root_kept.false)
       | else-may_go-via-else-may_go w ↦ first_fails _ (may ∙ w.if-may_go.false)
     ])
 

@@ -1,5 +1,5 @@
 use mathlib.Core.Path.{sym, ◌∙◌}
-use Rattle.kept.specs.Parts.{move_kept, exit_kept}
+use Rattle.kept.specs.Parts.{exit_kept}
 use Rattle.base.proofs.SearchesAsk.{try_all, try_found, try_next, try_none}
 use Rattle.kept.proofs.exit_kept.Goals as goal
 

@@ -1,8 +1,6 @@
 use mathlib.Core.Path.{refl, sym, ◌∙◌}
-use mathlib.Core.Logic.{⊎_elim}
 use borrow.Author.Tests.{lt-ltb, le-ltb}
-use Rattle.base.specs.Flags.{is_set}
-use Rattle.kept.specs.Parts.{root_returns, return_kept}
+use Rattle.kept.specs.Parts.{return_kept}
 use Rattle.base.proofs.SearchesAsk.{both_met, first_fails, second_fails, try_all, try_found, try_next, try_none}
 use Rattle.kept.proofs.return_kept.Goals.{else-is_set-via-then-is_set+else-root_returns, else-is_set-via-else-is_set}
 use Rattle.kept.proofs.return_kept.Goals as goal
@@ -27,7 +25,7 @@ loop-y-preserved c =
     try_next c.loop-y.invariant c.loop-y-test.true
     (elim c.else-is_set.branch [
       | else-is_set-via-then-is_set+else-root_returns w ↦
-        second_fails (on ∙ w.if-is_set.true) (sym w.root_returns.ensures ∙ w.if-root_returns.false)
+          second_fails (on ∙ w.if-is_set.true) (sym w.root_returns.ensures ∙ w.if-root_returns.false)
       | else-is_set-via-else-is_set w ↦ first_fails _ (on ∙ w.if-is_set.false)
     ])
 

@@ -1,7 +1,6 @@
 use mathlib.Core.Path.{sym, ◌∙◌}
 use native.Mathlib.Omega.{arith}
 use Prim.Native.Nat.{◌≤◌}
-use Rattle.base.specs.Flags.{is_set}
 use Rattle.kept.specs.Parts.{root_kept}
 use Rattle.base.proofs.SearchesAsk.{try_all, try_found, try_next, try_none}
 use borrow.Author.Rules.{rules}

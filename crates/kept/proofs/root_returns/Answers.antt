@@ -1,6 +1,5 @@
 use mathlib.Core.Path.{sym, ◌∙◌}
-use mathlib.Core.Logic.{⊎_elim}
-use Rattle.kept.specs.Parts.{exit_kept, root_returns}
+use Rattle.kept.specs.Parts.{root_returns}
 use Rattle.base.proofs.SearchesAsk.{both_met, first_fails, second_fails, try_all, try_found, try_next, try_none}
 use Rattle.kept.proofs.root_returns.Goals.{else-has_bit-via-then-has_bit+else-exit_kept, else-has_bit-via-else-has_bit}
 use Rattle.kept.proofs.root_returns.Goals as goal
@@ -23,7 +22,7 @@ loop-s-preserved c =
     try_next c.loop-s.invariant c.loop-s-test.true
     (elim c.else-has_bit.branch [
       | else-has_bit-via-then-has_bit+else-exit_kept w ↦
-        second_fails (may ∙ w.if-has_bit.true) (sym (rw w.number_of.ensures.0 at w.exit_kept.ensures) ∙ w.if-exit_kept.false)
+          second_fails (may ∙ w.if-has_bit.true) (sym (rw w.number_of.ensures.0 at w.exit_kept.ensures) ∙ w.if-exit_kept.false)
       | else-has_bit-via-else-has_bit w ↦ first_fails _ (may ∙ w.if-has_bit.false)
     ])
 

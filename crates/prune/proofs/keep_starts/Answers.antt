@@ -14,8 +14,7 @@ keep_when-requires c =
 
 pub loop-q-preserved : goal.loop-q-preserved
 loop-q-preserved c =
-    let w = c.keep_when in
-    (
+    let w = c.keep_when in (
       omega arith,
       w.auto.kept ∙ c.loop-q.invariant.1,
       λ q e s. start_turn _ c.requires.usable.0 _ (c.loop-q.invariant.2 q e s) (omega arith) c.requires.usable.2 (e.starts c.loop-q.q (omega (arith, c.requires.usable.1.states))) c.entry_of-at.ensures.0 w.ensures,

@@ -60,11 +60,10 @@ returns-then-n-gt0 c =
     (sym (faulty (file_of (goal.at.returns-then-n-gt0 c).At-loop-at) c.loop-at.s (rows_at (goal.at.returns-then-n-gt0 c).At-loop-at) c.loop-at.at c.loop-at.invariant (in-file (goal.at.returns-then-n-gt0 c).After-fault_of-n) (not-ended (goal.at.returns-then-n-gt0 c).After-fault_of-n) (rw (judged (goal.at.returns-then-n-gt0 c).After-fault_of-n) at c.if-n-gt0.true)))
 
 pub after_frame-s-requires : goal.after_frame-s-requires
-after_frame-s-requires c =
-    (
-      rw c.read_line-next.ensures (has_room (file_of (goal.at.after_frame-s-requires c).At-loop-at) c.loop-at.s (rows_at (goal.at.after_frame-s-requires c).At-loop-at) c.loop-at.at c.loop-at.invariant (not-ended (goal.at.after_frame-s-requires c).After-fault_of-n) (no_fault (goal.at.after_frame-s-requires c).Else-n-gt0)),
-      omega (arith, some-frames (goal.at.after_frame-s-requires c).At-loop-at),
-    )
+after_frame-s-requires c = (
+  rw c.read_line-next.ensures (has_room (file_of (goal.at.after_frame-s-requires c).At-loop-at) c.loop-at.s (rows_at (goal.at.after_frame-s-requires c).At-loop-at) c.loop-at.at c.loop-at.invariant (not-ended (goal.at.after_frame-s-requires c).After-fault_of-n) (no_fault (goal.at.after_frame-s-requires c).Else-n-gt0)),
+  omega (arith, some-frames (goal.at.after_frame-s-requires c).At-loop-at),
+)
 
 pub rows_after-rows-requires : goal.rows_after-rows-requires
 rows_after-rows-requires c =

@@ -13,11 +13,10 @@ room : (c : Start) → length c.args.p.edges.keys ≡ max_edges
 room c = search rules
 
 pub some_differ-requires : goal.some_differ-requires
-some_differ-requires c =
-    (
-      c.requires.1.usable,
-      omega (arith, room (goal.at.some_differ-requires c).Start, c.in_use-count.ensures),
-    )
+some_differ-requires c = (
+  c.requires.1.usable,
+  omega (arith, room (goal.at.some_differ-requires c).Start, c.in_use-count.ensures),
+)
 
 pub returns : goal.returns
 returns c =

@@ -31,12 +31,15 @@ mend_exchange-mended-requires c =
     let q = c.requires.well_formed in
     let m = c.requires.measured in
     let o = c.check_own_within-own.ensures in
-    let l = ap length o.1 ∙ length-replicate {A = ℕ} (length c.args.work.now) 0 in record { exchanges = exchanges (exchange_in (goal.at.mend_exchange-mended-requires c).Start) p q.0 q.1 q.2 q.3; buffers = record {
+    let l = ap length o.1 ∙ length-replicate {A = ℕ} (length c.args.work.now) 0 in record {
+      exchanges = exchanges (exchange_in (goal.at.mend_exchange-mended-requires c).Start) p q.0 q.1 q.2 q.3;
+      buffers = record {
         own = accepted_own p c.args.marks.now (sym o.0 ∙ c.in-Accepted.is) ∙ ap (λ (y : Sizes). fresh_at y p) (sym q.2);
         room = m.second_length;
         before = omega (arith, m.work_before, l);
         after = omega (arith, m.work-after, l);
-      } }
+      };
+    }
 
 pub write_program-size-requires : goal.write_program-size-requires
 write_program-size-requires c =

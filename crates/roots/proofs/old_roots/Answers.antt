@@ -1,6 +1,5 @@
 use Rattle.reach.specs.Sizes.{roots_size}
 use Rattle.base.proofs.BytesFilled.{filling_none, filling_more, filling_all}
-use Rattle.roots.specs.Parts.{entry_byte}
 use Rattle.roots.proofs.RootsOccur.{entries_flagged}
 use native.Mathlib.Omega.{arith}
 use mathlib.Core.Path.{refl}

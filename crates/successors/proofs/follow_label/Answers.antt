@@ -15,12 +15,11 @@ returns-then-g c =
     )
 
 pub returns-then-is_call : goal.returns-then-is_call
-returns-then-is_call c =
-    (
-      label_past _ _ _ _ _ _ (sym c.is_call.ensures ∙ c.if-is_call.true)
-          (rw c.called_by-g.ensures at c.if-g.false),
-      λ h. h,
-    )
+returns-then-is_call c = (
+  label_past _ _ _ _ _ _ (sym c.is_call.ensures ∙ c.if-is_call.true)
+      (rw c.called_by-g.ensures at c.if-g.false),
+  λ h. h,
+)
 
 pub returns : goal.returns
 returns c =

@@ -1,10 +1,8 @@
 use mathlib.Core.Path.{◌≡◌, refl, sym, ap, ◌∙◌}
-use mathlib.Core.Bool.{false}
 use native.Mathlib.Omega.{arith}
 use Rattle.base.proofs.EntriesInUse.{found, passed, none_left}
 use Rattle.program.specs.Program.{Edge}
 use Rattle.support.specs.Parts.{edge_supports, supports}
-use Rattle.kept.specs.Parts.{move_kept}
 use Rattle.base.proofs.SearchesAsk.{try_all, try_found, try_next, try_none}
 use Rattle.support.proofs.KeysAsked.{asks_key, all_keys}
 use Rattle.support.proofs.EdgeScanned.{edge_calls, edge_is}

@@ -4,7 +4,7 @@ use mathlib.Core.Path.{◌≡◌}
 use mathlib.Core.Bool.{false}
 use Prim.Native.Nat.{◌-◌}
 use lib.ListN.{length}
-use Rattle.base.proofs.EntriesInUse.{Left, found}
+use Rattle.base.proofs.EntriesInUse.{Left}
 use Rattle.program.specs.Decoded.{edge_of}
 use Rattle.support.specs.Parts.{any_key, edge_supports}
 use Rattle.kept.specs.Parts.{move_kept}

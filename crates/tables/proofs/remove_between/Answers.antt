@@ -1,6 +1,5 @@
 use mathlib.Core.Path.{sym, ◌∙◌}
 use native.Mathlib.Omega.{arith}
-use borrow.Author.Tests.{not-true, not-false}
 use Rattle.tables.proofs.TableChanged.{keep_start, keep_not, keep_one, keep_end}
 use Rattle.tables.proofs.remove_between.Goals.{then-not-is_between, else-not-is_between}
 use Rattle.tables.proofs.remove_between.Goals as goal
@@ -12,9 +11,9 @@ pub loop-i-preserved : goal.loop-i-preserved
 loop-i-preserved c =
     elim c.if-not-is_between.branch [
       | then-not-is_between w ↦
-        rw (w.keys-is, w.kept-is) (keep_one c.loop-i.invariant (omega arith) (omega arith) (sym c.is_between.ensures ∙ w.if-not-is_between.true))
+          rw (w.keys-is, w.kept-is) (keep_one c.loop-i.invariant (omega arith) (omega arith) (sym c.is_between.ensures ∙ w.if-not-is_between.true))
       | else-not-is_between w ↦
-        rw (w.keys-is, w.kept-is) (keep_not c.loop-i.invariant (omega arith) (omega arith) (sym c.is_between.ensures ∙ w.if-not-is_between.false))
+          rw (w.keys-is, w.kept-is) (keep_not c.loop-i.invariant (omega arith) (omega arith) (sym c.is_between.ensures ∙ w.if-not-is_between.false))
     ]
 
 pub returns : goal.returns

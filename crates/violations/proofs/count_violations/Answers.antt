@@ -1,5 +1,4 @@
 use mathlib.Core.Path.{sym, ◌∙◌}
-use mathlib.Core.Logic.{⊎_elim}
 use native.Mathlib.Omega.{arith}
 use Rattle.violations.proofs.ViolationsCounted.{counts_violations}
 use Rattle.base.proofs.BytesCounted.{counted_one, counted_none, counted_all}
@@ -14,9 +13,9 @@ loop-i-preserved c =
     let told = c.is_violation.ensures in
     elim c.if-is_violation.branch [
       | then-is_violation w ↦
-        rw w.n-is (omega arith, λ q r. counted_one (counts_violations _ q) (c.loop-i.invariant.1 q r) (omega arith) (sym (told q r) ∙ w.if-is_violation.true))
+          rw w.n-is (omega arith, λ q r. counted_one (counts_violations _ q) (c.loop-i.invariant.1 q r) (omega arith) (sym (told q r) ∙ w.if-is_violation.true))
       | else-is_violation w ↦
-        rw w.n-is (omega arith, λ q r. counted_none (counts_violations _ q) (c.loop-i.invariant.1 q r) (omega arith) (sym (told q r) ∙ w.if-is_violation.false))
+          rw w.n-is (omega arith, λ q r. counted_none (counts_violations _ q) (c.loop-i.invariant.1 q r) (omega arith) (sym (told q r) ∙ w.if-is_violation.false))
     ]
 
 pub returns : goal.returns

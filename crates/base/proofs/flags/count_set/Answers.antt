@@ -13,9 +13,9 @@ pub loop-i-preserved : goal.loop-i-preserved
 loop-i-preserved c =
     elim c.if-flags-i-ne0.branch [
       | then-flags-i-ne0 w ↦
-        rw w.n-is (omega arith, counted_one counts_set c.loop-i.invariant.1 (omega arith) (ap not (ne_eqb _ _ w.if-flags-i-ne0.true)))
+          rw w.n-is (omega arith, counted_one counts_set c.loop-i.invariant.1 (omega arith) (ap not (ne_eqb _ _ w.if-flags-i-ne0.true)))
       | else-flags-i-ne0 w ↦
-        rw w.n-is (omega arith, counted_none counts_set c.loop-i.invariant.1 (omega arith) (ap not (eq-eqb _ _ w.if-flags-i-ne0.false)))
+          rw w.n-is (omega arith, counted_none counts_set c.loop-i.invariant.1 (omega arith) (ap not (eq-eqb _ _ w.if-flags-i-ne0.false)))
     ]
 
 pub returns : goal.returns

@@ -22,9 +22,9 @@ loop-i-preserved c =
     let e = c.exit_at-exit.ensures.0 in
     elim c.if-marks-exit-ne0.branch [
       | then-marks-exit-ne0 w ↦
-        rw w.words-is (setting_here c.loop-i.invariant _ (omega (arith, few, count)) (ap not (ne_eqb _ _ (rw e at w.if-marks-exit-ne0.true))) w.set_at.ensures w.set_at.auto.words)
+          rw w.words-is (setting_here c.loop-i.invariant _ (omega (arith, few, count)) (ap not (ne_eqb _ _ (rw e at w.if-marks-exit-ne0.true))) w.set_at.ensures w.set_at.auto.words)
       | else-marks-exit-ne0 w ↦
-        rw w.words-is (setting_other c.loop-i.invariant (ap not (eq-eqb _ _ (rw e at w.if-marks-exit-ne0.false))))
+          rw w.words-is (setting_other c.loop-i.invariant (ap not (eq-eqb _ _ (rw e at w.if-marks-exit-ne0.false))))
     ]
 
 pub returns : goal.returns

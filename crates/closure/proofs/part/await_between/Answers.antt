@@ -1,6 +1,5 @@
 use Rattle.closure.proofs.FlagsSet.{setting_here, setting_other}
 use Rattle.closure.proofs.PartAwaited.{first_inside, await_start, await_end}
-use Rattle.closure.specs.Parts.{is_first}
 use native.Mathlib.Omega.{arith}
 use mathlib.Core.Path.{sym, ◌∙◌}
 use lib.ListN.{get_or}
@@ -20,7 +19,7 @@ loop-i-preserved c =
     let f = first_inside c.args.z c.requires.0 c.args.low c.args.high (get_or c.args.marks.now i 0) i s.0 (omega arith) ∙ sym c.is_first.ensures in
     elim c.if-is_first.branch [
       | then-is_first w ↦
-        rw w.words-is (omega arith, setting_here s.1 _ (omega (arith, c.requires.3, c.requires.1.product)) (f ∙ w.if-is_first.true) w.set_at.ensures w.set_at.auto.words)
+          rw w.words-is (omega arith, setting_here s.1 _ (omega (arith, c.requires.3, c.requires.1.product)) (f ∙ w.if-is_first.true) w.set_at.ensures w.set_at.auto.words)
       | else-is_first w ↦ rw w.words-is (omega arith, setting_other s.1 (f ∙ w.if-is_first.false))
     ]
 

@@ -1,4 +1,3 @@
-use borrow.Author.Tests.{not-true, not-false}
 use Rattle.edit.proofs.judge.refusal_by.Goals as goal
 
 pub returns-then-not-old : goal.returns-then-not-old

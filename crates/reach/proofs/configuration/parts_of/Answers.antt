@@ -15,12 +15,12 @@ narrow-routine-requires c = let h = routine_small c.args.z c.requires.0 c.args.i
 pub returns : goal.returns
 unfolding routine_of node_of root_of state_of
 returns c = rw (
-      c.low_digit-state.ensures,
-      c.low_digit-root.ensures,
-      c.low_digit-node.ensures,
-      c.narrow-routine.ensures,
-      c.high_digits.ensures,
-      c.high_digits-b.ensures,
-      c.high_digits-a.ensures,
-    )
+  c.low_digit-state.ensures,
+  c.low_digit-root.ensures,
+  c.low_digit-node.ensures,
+  c.narrow-routine.ensures,
+  c.high_digits.ensures,
+  c.high_digits-b.ensures,
+  c.high_digits-a.ensures,
+)
     (divided_parts c.args.z c.requires.0 c.args.i c.requires.1)

@@ -1,4 +1,3 @@
-use Rattle.roots.specs.Parts.{roots_by_edge}
 use Rattle.callgraph.proofs.FlagsClosed.{turning_start, turning_turn, turning_end}
 use native.Mathlib.Omega.{arith}
 use Rattle.roots.proofs.live.roots_by_edges.Goals as goal

@@ -1,5 +1,4 @@
 use Rattle.automaton.specs.Sizes.{max_states}
-use Rattle.reach.specs.Configurations.{root_place}
 use Rattle.callgraph.proofs.FlagsClosed.{turning_start, turning_turn, turning_end}
 use borrow.Author.Rules.{rules}
 use native.Mathlib.Omega.{arith}

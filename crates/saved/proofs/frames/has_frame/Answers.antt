@@ -7,7 +7,7 @@ use Rattle.text.specs.declared.Line.{Line}
 use Rattle.text.specs.Hex.{hex_line}
 use Rattle.listing.specs.Listing.{frame_at}
 use Rattle.analysis.specs.Answers.{same}
-use Rattle.saved.specs.Saved.{old_sizes, saved_kind}
+use Rattle.saved.specs.Saved.{saved_kind}
 use Rattle.saved.proofs.OldSizes.{old_usable}
 use Rattle.saved.proofs.TextCompared.{none_left}
 use Rattle.saved.proofs.frames.has_frame.Goals as goal

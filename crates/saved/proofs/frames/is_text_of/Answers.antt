@@ -4,7 +4,6 @@ use native.Mathlib.Omega.{arith}
 use mathlib.Core.List.{List}
 use lib.ListN.{length, take, drop, length-drop}
 use lib.Seq.{take_all}
-use borrow.Author.Tests.{not-false}
 use Rattle.text.specs.declared.Line.{Line}
 use Rattle.text.specs.Hex.{hex_line}
 use Rattle.program.specs.Frames.{end_frame}
@@ -35,7 +34,7 @@ pub loop-i-preserved : goal.loop-i-preserved
 loop-i-preserved c =
     elim c.if-marks-i-ne0.branch [
       | then-marks-i-ne0+else-not-has_frame w ↦
-        rw w.at-is (walk_on c.loop-i.invariant (omega arith) w.if-marks-i-ne0.true (sym w.has_frame.ensures ∙ w.if-not-has_frame.false))
+          rw w.at-is (walk_on c.loop-i.invariant (omega arith) w.if-marks-i-ne0.true (sym w.has_frame.ensures ∙ w.if-not-has_frame.false))
       | else-marks-i-ne0 w ↦ rw w.at-is (walk_past c.loop-i.invariant (omega arith) w.if-marks-i-ne0.false)
     ]
 

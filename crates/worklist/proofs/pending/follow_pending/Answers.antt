@@ -13,12 +13,11 @@ pub first_set-at-requires : goal.first_set-at-requires
 first_set-at-requires c = record { none_below = c.requires.usable.3; words_len_bound = omega (arith, c.requires.usable.2) }
 
 pub loop-at-init : goal.loop-at-init
-loop-at-init c =
-    (
-      c.requires.usable.0,
-      going_start c.args.z c.requires.usable.0 _
-          (omega (arith, c.requires.begun.1.shape.marks-length, c.requires.usable.1.product, c.requires.usable.2)) c.first_set-at.ensures,
-    )
+loop-at-init c = (
+  c.requires.usable.0,
+  going_start c.args.z c.requires.usable.0 _
+      (omega (arith, c.requires.begun.1.shape.marks-length, c.requires.usable.1.product, c.requires.usable.2)) c.first_set-at.ensures,
+)
 
 pub take-low-requires : goal.take-low-requires
 take-low-requires c =
