@@ -169,8 +169,10 @@
  * PALTHRENNI_STACK is the largest of them, for whoever gives a thread its
  * stack. These bounds are measured, and not proved: include/stack.c calls each
  * function on a painted stack, with the largest programs and with what is
- * refused, and no byte that a call touched was as deep as its bound. Nothing in
- * the archive calls itself, so that a longer input does not go deeper.
+ * refused, and no byte that a call touched was as deep as its bound. They are
+ * as they were set by what was measured with the older kit (before the move to
+ * today's Rattle). Nothing in the archive calls itself, so that a longer input
+ * does not go deeper.
  *
  * Platforms. Tried on Linux on x86_64 (Debian 12), as C11 with gcc 12.2 and
  * clang 14.0 and as C++17 with g++ 12.2 and clang++ 14.0; on nothing else.
