@@ -1,4 +1,4 @@
--- What is proved of a block, besides that it is printed: none is longer than blockSize.
+-- What is proved of a block, besides that it is printed: none is longer than block_size.
 use mathlib.Core.Path.{◌≡◌}
 use mathlib.Core.List.{List, [], ◌∷◌, map}
 use Prim.Native.Nat.{ℕ, ◌≤◌}

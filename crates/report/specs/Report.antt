@@ -78,7 +78,7 @@ bench_text input = cond (ltb input_size (length input)) too_long_text (input_tex
 
 -- ---- the text of a block, as it is asked for: for a file and marks, into an output
 
--- no block is longer: a line for each configuration, and the counts, each of lineSize bytes
+-- no block is longer: a line for each configuration, and the counts, each of line_size bytes
 abbrev pub block_size : ℕ
 block_size = line_size * marks_most + line_size
 
