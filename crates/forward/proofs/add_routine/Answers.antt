@@ -1,5 +1,5 @@
--- `forward::add_routine` meets its contract. No need is named, so that another call in the place of the following is refused
--- for what it asks and cannot have.
+-- `forward::add_routine` meets its contract. A call that follows the edges of another routine is refused for what it
+-- asks and cannot have.
 use Rattle.forward.proofs.ExchangedMarks.{routine_small, exchanged_fits, exchanged_closed, exchanged_own}
 use Rattle.program.specs.Decoded.{program_of}
 use Rattle.reach.proofs.MarksCopied.{cleared_is}

@@ -1,5 +1,4 @@
--- `forward::drop_routine` meets its contract. No need is named, so that another call in the place of the keeping is refused
--- for what it fails to promise.
+-- `forward::drop_routine` meets its contract.
 use Rattle.forward.proofs.ExchangedMarks.{emptied_fits}
 use Rattle.program.specs.Decoded.{program_of}
 use borrow.Author.Rules.{rules}
