@@ -1,7 +1,7 @@
 // Saved marks: old ones, of before a program chose its sizes, are moved to frames, and frames back to old marks.
 #![tactic(auto)]
 
-mod frames;
+mod mark_frames;
 mod old;
 
 ghost use Rattle.std.specs.Prelude.{◌≡◌, false, [], ◌∷◌, length, replicate};
@@ -15,7 +15,7 @@ ghost use Rattle.saved.specs.Parts.{Moved, Wrote, CheckedEarly};
 
 use base::flags::clear;
 use checks::{followed_by, other_than};
-use frames::{is_text_of, write_frames};
+use mark_frames::{is_text_of, write_frames};
 use old::{OLD_MARKS_SIZE, analyze_old, is_too_large};
 use program::chosen::sizes_of;
 use program::sizes::length_of;

@@ -1,8 +1,8 @@
--- `saved::frames::is_text_of` meets its contract.
+-- `saved::mark_frames::is_text_of` meets its contract.
 use Prim.Native.Nat.{◌-◌}
 use lib.ListN.{length}
 use Rattle.saved.proofs.TextCompared.{Walking}
-use Rattle.saved.proofs.frames.is_text_of.Given as goal
+use Rattle.saved.proofs.mark_frames.is_text_of.Given as goal
 
 abbrev pub invariant-loop-i : goal.invariant-loop-i
 invariant-loop-i l = Walking l.s l.marks l.at l.i

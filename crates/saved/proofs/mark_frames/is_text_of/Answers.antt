@@ -11,8 +11,8 @@ use Rattle.reach.proofs.MarksShown.{count_small}
 use Rattle.analysis.specs.Answers.{same}
 use Rattle.saved.proofs.OldSizes.{old_numbers}
 use Rattle.saved.proofs.TextCompared.{walk_start, walk_past, walk_on, walk_stops, walk_end}
-use Rattle.saved.proofs.frames.is_text_of.Goals.{then-marks-i-ne0+else-not-has_frame, else-marks-i-ne0}
-use Rattle.saved.proofs.frames.is_text_of.Goals as goal
+use Rattle.saved.proofs.mark_frames.is_text_of.Goals.{then-marks-i-ne0+else-not-has_frame, else-marks-i-ne0}
+use Rattle.saved.proofs.mark_frames.is_text_of.Goals as goal
 
 pub loop-i-init : goal.loop-i-init
 loop-i-init c = walk_start _ _

@@ -1,4 +1,4 @@
--- `saved::frames::has_frame` meets its contract.
+-- `saved::mark_frames::has_frame` meets its contract.
 use mathlib.Core.Path.{◌≡◌, ap, ◌∙◌}
 use Prim.Native.Nat.{◌+◌, ◌-◌}
 use native.Mathlib.Omega.{arith}
@@ -10,7 +10,7 @@ use Rattle.analysis.specs.Answers.{same}
 use Rattle.saved.specs.Saved.{saved_kind}
 use Rattle.saved.proofs.OldSizes.{old_usable}
 use Rattle.saved.proofs.TextCompared.{none_left}
-use Rattle.saved.proofs.frames.has_frame.Goals as goal
+use Rattle.saved.proofs.mark_frames.has_frame.Goals as goal
 
 pub frame_line-l-requires : goal.frame_line-l-requires
 frame_line-l-requires c = rw c.old_sizes.ensures (old_usable, c.requires.1)

@@ -1,4 +1,4 @@
--- `saved::frames::write_frames` meets its contract.
+-- `saved::mark_frames::write_frames` meets its contract.
 use mathlib.Core.Path.{◌≡◌, refl, ap}
 use Prim.Native.Nat.{◌≤◌}
 use native.Mathlib.Omega.{arith}
@@ -14,8 +14,8 @@ use Rattle.saved.specs.Saved.{old_sizes, saved_kind, text_of}
 use Rattle.saved.proofs.OldSizes.{old_usable, old_admitted, old_numbers}
 use Rattle.saved.proofs.MovesAnswered.{short_refused}
 use Rattle.saved.proofs.FramesWritten.{text_long, listing_long, listing_room, frames_written}
-use Rattle.saved.proofs.frames.write_frames.Goals as goal
-use Rattle.saved.proofs.frames.write_frames.Goals.{After-count_set-count, After-put_listing-at}
+use Rattle.saved.proofs.mark_frames.write_frames.Goals as goal
+use Rattle.saved.proofs.mark_frames.write_frames.Goals.{After-count_set-count, After-put_listing-at}
 
 -- no more marks are set than there are
 few : (c : After-count_set-count) → c.count_set-count.result ≤ 16384

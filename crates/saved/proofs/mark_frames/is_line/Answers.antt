@@ -1,4 +1,4 @@
--- `saved::frames::is_line` meets its contract.
+-- `saved::mark_frames::is_line` meets its contract.
 use mathlib.Core.Path.{◌≡◌, ap, ◌∙◌}
 use Prim.Native.Nat.{◌+◌, ◌*◌}
 use native.Mathlib.Omega.{arith}
@@ -11,7 +11,7 @@ use Rattle.text.proofs.RoundTrip.{length_hex}
 use Rattle.analysis.specs.Answers.{same}
 use Rattle.analysis.proofs.AnswersByChecks.{same_decides}
 use Rattle.saved.proofs.TextCompared.{line_put}
-use Rattle.saved.proofs.frames.is_line.Goals as goal
+use Rattle.saved.proofs.mark_frames.is_line.Goals as goal
 
 pub returns : goal.returns
 returns c =
