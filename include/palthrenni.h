@@ -161,18 +161,18 @@
  *     palthrenni_repair_forward        65536
  *     palthrenni_repair_inside_out     98304
  *     palthrenni_exchange_sizes        32768
- *     palthrenni_exchange_forward      98304
- *     palthrenni_exchange_inside_out   98304
+ *     palthrenni_exchange_forward      114688
+ *     palthrenni_exchange_inside_out   114688
  *     palthrenni_marks_to_frames       65536
  *     palthrenni_frames_to_marks       65536
  *
  * PALTHRENNI_STACK is the largest of them, for whoever gives a thread its
  * stack. These bounds are measured, and not proved: include/stack.c calls each
  * function on a painted stack, with the largest programs and with what is
- * refused, and no byte that a call touched was as deep as its bound. They are
- * as they were set by what was measured with the older kit (before the move to
- * today's Rattle). Nothing in the archive calls itself, so that a longer input
- * does not go deeper.
+ * refused, and no byte that a call touched was as deep as its bound. The two
+ * exchanges took less with the kit before today's, when 98304 was enough for
+ * them; the other bounds are as they were. Nothing in the archive calls itself,
+ * so that a longer input does not go deeper.
  *
  * Platforms. Tried on Linux on x86_64 (Debian 12), as C11 with gcc 12.2 and
  * clang 14.0 and as C++17 with g++ 12.2 and clang++ 14.0; on nothing else.
@@ -367,7 +367,7 @@ extern "C" {
 #define PALTHRENNI_FRAMES_MOST 180231
 
 /* More stack than any call takes ("Stack", above). */
-#define PALTHRENNI_STACK 98304
+#define PALTHRENNI_STACK 114688
 
 /* The largest limit of palthrenni_analyze, by which it never gives up. */
 #define PALTHRENNI_NO_LIMIT UINT64_MAX
