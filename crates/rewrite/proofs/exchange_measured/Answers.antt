@@ -11,7 +11,6 @@ use mathlib.Core.Path.{◌≡◌, ap, sym, ◌∙◌}
 use Rattle.rewrite.proofs.exchange_measured.Goals as goal
 use Rattle.rewrite.proofs.exchange_measured.Goals.{After-lengths_refusal-n}
 
--- the places before
 module _ (b : After-lengths_refusal-n) where
   -- what the lengths meet, by the sizes before and after
   met : b.lengths_refusal-n.result

@@ -12,6 +12,3 @@ returns c = (
       ∙ rw (c.with_digit-b.ensures.0, add-zero, c.with_digit-a.ensures.0, add-zero, c.wide.ensures.0),
   omega arith,
 )
-
--- TODO
--- )
