@@ -12,9 +12,9 @@ use Rattle.program.specs.Program.{Program}
 use Rattle.program.specs.WellFormed.{WellFormed}
 use Rattle.program.specs.Checks.{row, first_met, verdict_of, followed_by}
 use Rattle.program.specs.Decoded.{program_of}
-use Rattle.program.specs.declared.Verdict.{Verdict}
-use Rattle.program.specs.declared.Verdict.TheVariants.{Accepted, Refused}
-use Rattle.program.specs.declared.Length.TheVariants.{NotAsked, Of}
+use Rattle.program.specs.Verdicts.{Verdict}
+use Rattle.program.specs.Verdicts.{Accepted, Refused}
+use Rattle.std.specs.Prelude.{None, Some}
 use Rattle.base.proofs.Bools.{both}
 use Rattle.checks.specs.Checked.{Checked}
 use Rattle.program.specs.declared.Reading.{Reading}
@@ -23,11 +23,11 @@ use Rattle.reach.specs.Marks.{fresh_marks, violations, violations_from, first_fr
 use Rattle.analysis.specs.Answers.{limited, analyze_by, analyze_answer, on_success, marks_after, work_after, same, owned, found_of, found_by, next_answer}
 
 -- what those ask who are called where nothing is refused
-pub ready : {file : List ℕ} {m w : ℕ} {r : Reading} → Checked file (Of m) NotAsked (Of w) r → r.verdict ≡ Accepted
+pub ready : {file : List ℕ} {m w : ℕ} {r : Reading} → Checked file (Some m) None (Some w) r → r.verdict ≡ Accepted
     → WellFormed (program_of r.program) × ((m ≡ numbers (sizes_of (program_of r.program))) × (w ≡ numbers (sizes_of (program_of r.program))))
 ready k h = (k.well_formed h, ((k.sized h).marks-length, (k.sized h).work_length))
 
-module _ (file marks work : List ℕ) {r : Reading} (k : Checked file (Of (length marks)) NotAsked (Of (length work)) r) {v : Verdict} (h : r.verdict ≡ v) where
+module _ (file marks work : List ℕ) {r : Reading} (k : Checked file (Some (length marks)) None (Some (length work)) r) {v : Verdict} (h : r.verdict ≡ v) where
   pub analyze_answered : (limit : ℕ) → let w = followed_by v (limited (program_of r.program) limit) in
       (analyze_by w (program_of r.program) ≡ analyze_answer file marks work limit)
       × (on_success w (fresh_marks (program_of r.program)) marks ≡ marks_after file marks work limit) × (on_success v (none_set (sizes_of (program_of r.program))) work ≡ work_after file marks work)

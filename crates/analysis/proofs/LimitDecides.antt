@@ -11,8 +11,8 @@ use Rattle.program.specs.Chosen.{sizes_of, numbers}
 use Rattle.program.specs.Program.{Program}
 use Rattle.program.specs.WellFormed.{WellFormed}
 use Rattle.program.specs.Checks.{row, first_met, verdict_of, followed_by}
-use Rattle.program.specs.declared.Verdict.{Verdict}
-use Rattle.program.specs.declared.Verdict.TheVariants.{Accepted, Refused}
+use Rattle.program.specs.Verdicts.{Verdict}
+use Rattle.program.specs.Verdicts.{Accepted, Refused}
 use Rattle.reach.specs.Sizes.{enough_iterations}
 use Rattle.reach.specs.Worklist.{Worklist, analysis}
 use Rattle.reach.specs.Marks.{fresh_at, fresh_marks}

@@ -6,22 +6,22 @@ use Rattle.program.specs.Program.{Program}
 use Rattle.program.specs.Chosen.{sizes_of}
 use Rattle.program.specs.Reading.{read_file}
 use Rattle.program.specs.Checks.{Row, row, first_met, verdict_of, followed_by, checked}
-use Rattle.program.specs.declared.Verdict.{Verdict}
-use Rattle.program.specs.declared.Verdict.TheVariants as verdict
-use Rattle.program.specs.declared.Length.TheVariants.{NotAsked, Of}
+use Rattle.program.specs.Verdicts.{Verdict}
+use Rattle.program.specs.Verdicts as verdict
+use Rattle.std.specs.Prelude.{None, Some}
 use Rattle.reach.specs.Configurations.{none_set}
 use Rattle.reach.specs.Worklist.{analysis}
 use Rattle.reach.specs.Marks.{fresh_marks, violations, first_from}
 use Rattle.base.specs.Flags.{count_set}
-use Rattle.analysis.specs.declared.AnalyzeAnswer.{AnalyzeAnswer}
-use Rattle.analysis.specs.declared.AnalyzeAnswer.TheVariants as analyzed
-use Rattle.analysis.specs.declared.NextAnswer.{NextAnswer}
-use Rattle.analysis.specs.declared.NextAnswer.TheVariants as next
+use Rattle.analysis.specs.AnalyzeAnswers.{AnalyzeAnswer}
+use Rattle.analysis.specs.AnalyzeAnswers as analyzed
+use Rattle.analysis.specs.NextAnswers.{NextAnswer}
+use Rattle.analysis.specs.NextAnswers as next
 
 -- ---- the checks: before anything is touched, the file and the lengths of the marks and of the working buffer
 
 abbrev pub checked_marks : List ℕ → List ℕ → List ℕ → Verdict
-checked_marks file marks work = checked file (Of (length marks)) NotAsked (Of (length work))
+checked_marks file marks work = checked file (Some (length marks)) None (Some (length work))
 
 -- every byte is the same
 unfoldable pub same : List ℕ → List ℕ → Bool

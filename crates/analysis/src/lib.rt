@@ -95,9 +95,9 @@ pub fn analyze(file: &[u8], marks: &mut [u8], work: &mut [u8], limit: usize) -> 
         × (marks.new ≡ marks_after file.now marks.old work.old limit)
         × (work.new ≡ work_after file.now marks.old work.old) }
 {
-    let marks_length = Length::Of(marks.len());
-    let work_length = Length::Of(work.len());
-    let r = checked_program(file, marks_length, Length::NotAsked, work_length);
+    let marks_length = Some(marks.len());
+    let work_length = Some(work.len());
+    let r = checked_program(file, marks_length, None, work_length);
     let v = r.verdict;
     match v {
         Verdict::Refused(n, line) => AnalyzeAnswer::Refused(n, line),
@@ -160,9 +160,9 @@ pub fn next_violation(file: &[u8], marks: &[u8], work: &mut [u8], low: usize) ->
     ensures { (result ≡ next_answer file.now marks.now work.old low)
         × (work.new ≡ work_after file.now marks.now work.old) }
 {
-    let marks_length = Length::Of(marks.len());
-    let work_length = Length::Of(work.len());
-    let r = checked_program(file, marks_length, Length::NotAsked, work_length);
+    let marks_length = Some(marks.len());
+    let work_length = Some(work.len());
+    let r = checked_program(file, marks_length, None, work_length);
     let v = r.verdict;
     match v {
         Verdict::Refused(n, line) => NextAnswer::Refused(n, line),

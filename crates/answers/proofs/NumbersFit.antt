@@ -21,14 +21,14 @@ use Rattle.program.specs.Writing.{written}
 use Rattle.program.specs.Reading.{read_file}
 use Rattle.base.proofs.Bools.{chosen}
 use Rattle.program.specs.Checks.{first_met, verdict_of, checked, followed_by}
-use Rattle.program.specs.declared.Verdict.{Verdict}
-use Rattle.program.specs.declared.Verdict.TheVariants.{Accepted, Refused}
-use Rattle.program.specs.declared.Length.{Length}
-use Rattle.program.specs.declared.Length.TheVariants.{NotAsked, Of}
+use Rattle.program.specs.Verdicts.{Verdict}
+use Rattle.program.specs.Verdicts.{Accepted, Refused}
+use Rattle.program.specs.Checks.{Length}
+use Rattle.std.specs.Prelude.{None, Some}
 use Rattle.program.proofs.Theorems.{accepted_well_formed, written_limited, few_lines}
 use Rattle.program.proofs.ChecksPassed.{passes, few_checks}
 use Rattle.writer.specs.Answers.{answer_by, write_answer}
-use Rattle.writer.specs.declared.WriteAnswer.TheVariants.{Written}
+use Rattle.writer.specs.WriteAnswers.{Written}
 use Rattle.reach.specs.Marks.{fresh_marks, violations, first_from}
 use Rattle.reach.proofs.TakingsBounded.{iterations_bound}
 use Rattle.reach.proofs.MarksShown.{fresh_shows, few_marks}
@@ -50,7 +50,7 @@ use Rattle.exchange_text.specs.ExchangeText.{text_lines, exchange_rows, exchange
 use Rattle.exchange.specs.Lengths.{sizes_after, measured_rows, work_first}
 use Rattle.repair.specs.Repairs.{After, repaired_to, owned_by, changed_by, measured, measured_by, wanted_by, repaired_by, repaired}
 use Rattle.rewrite.specs.Room.{room_of, room_wanted, room_by, room_answer}
-use Rattle.rewrite.specs.declared.RoomAnswer.TheVariants as room
+use Rattle.rewrite.specs.RoomAnswers as room
 use Rattle.saved.specs.Answers.{Way, moved, given_marks, early_rows, late_rows, early_checked, move_checked, written_by, move_answer}
 use Rattle.saved.proofs.FramesWritten.{moved_limited}
 use Rattle.answers.specs.Parts.{VerdictFits, WriteFits, AnalyzeFits, NextFits, BlockFits, RoomFits}
@@ -83,7 +83,7 @@ pub write_fits : (file output : List ℕ) → WriteFits (write_answer file outpu
 unfolding write_answer
 write_fits file output =
     let p = (read_file file).program in
-    by_checks file NotAsked (Of (length output)) NotAsked (λ v. WriteFits (answer_by v p)) (written_fits p) (λ n line h. (h, omega arith))
+    by_checks file None (Some (length output)) None (λ v. WriteFits (answer_by v p)) (written_fits p) (λ n line h. (h, omega arith))
 
 -- ---- the moves of saved marks
 
@@ -119,7 +119,7 @@ module _ (file marks work : List ℕ) where
   pub analyze_fits : (limit : ℕ) → AnalyzeFits (analyze_answer file marks work limit)
   unfolding analyze_answer
   analyze_fits limit =
-      by_checks file (Of (length marks)) NotAsked (Of (length work)) (λ v. AnalyzeFits (analyze_by (followed_by v (limited p limit)) p))
+      by_checks file (Some (length marks)) None (Some (length work)) (λ v. AnalyzeFits (analyze_by (followed_by v (limited p limit)) p))
       (λ w. by_limit p limit (λ v. AnalyzeFits (analyze_by v p)) (λ e. counts w) (λ e. (omega arith, omega arith, omega arith, omega arith)))
       (λ n line h. (h, omega arith, omega arith, omega arith))
     where
@@ -134,7 +134,7 @@ module _ (file marks work : List ℕ) where
   pub next_fits : (low : ℕ) → NextFits (next_answer file marks work low)
   unfolding next_answer
   next_fits low =
-      by_checks file (Of (length marks)) NotAsked (Of (length work)) (λ v. NextFits (found_by (followed_by v (owned p marks)) (first_from low (violations p))))
+      by_checks file (Some (length marks)) None (Some (length work)) (λ v. NextFits (found_by (followed_by v (owned p marks)) (first_from low (violations p))))
       (λ w. by_marks p marks (λ v. NextFits (found_by v (first_from low (violations p))))
       (λ t. number w (first_from low (violations p)) (next_violation (sizes_of p) (usable p w) (fresh_shows (sizes_of p) (usable p w) p (ranged p w)) low)) (λ t. (omega arith, omega arith)))
       (λ n line h. (h, omega arith))
@@ -153,7 +153,7 @@ module _ (file marks work : List ℕ) where
   pub block_fits : (low : ℕ) → BlockFits (block_answer file marks work low)
   unfolding block_answer block_from
   block_fits low =
-      by_checks file (Of (length marks)) NotAsked (Of (length work)) (λ v. BlockFits (block_by (followed_by v (owned p marks)) (next_block p low)))
+      by_checks file (Some (length marks)) None (Some (length work)) (λ v. BlockFits (block_by (followed_by v (owned p marks)) (next_block p low)))
       (λ w. by_marks p marks (λ v. BlockFits (block_by v (next_block p low)))
       (λ t. block_there w (seek (is_blocked (sizes_of p) p (fresh_marks p)) (numbers (sizes_of p) - low) low) (ltb (seek (is_blocked (sizes_of p) p (fresh_marks p)) (numbers (sizes_of p) - low) low) (numbers (sizes_of p))) refl)
       (λ t. (omega arith, omega arith, omega arith)))
@@ -194,7 +194,7 @@ module _ (k : Form) (file marks text output work second : List ℕ) where
   unfolding repaired
   repair_fits =
       let p = (read_file file).program in
-      by_checks file (Of (length marks)) (Of (length output)) (work_first k (length work)) (λ v. Fits (repaired_by k v p marks text output work second))
+      by_checks file (Some (length marks)) (Some (length output)) (work_first k (length work)) (λ v. Fits (repaired_by k v p marks text output work second))
       (λ w. wanted_fits (wanted_change k p text) p w refl) (λ n line h. (h, omega arith))
 
 -- ---- what an exchange needs

@@ -2,16 +2,16 @@
 -- believed.
 use Rattle.std.specs.Prelude.{◌<◌, ◌^◌}
 use Rattle.program.specs.Reading.{refusal_line}
-use Rattle.program.specs.declared.Verdict.{Verdict}
+use Rattle.program.specs.Verdicts.{Verdict}
 use Rattle.writer.specs.Answers.{refusal_line as writeLine, written_length}
-use Rattle.writer.specs.declared.WriteAnswer.{WriteAnswer}
+use Rattle.writer.specs.WriteAnswers.{WriteAnswer}
 use Rattle.analysis.specs.Answers.{analyze_line, configuration_count, violation_count, iteration_count, next_line, next_found}
-use Rattle.analysis.specs.declared.AnalyzeAnswer.{AnalyzeAnswer}
-use Rattle.analysis.specs.declared.NextAnswer.{NextAnswer}
+use Rattle.analysis.specs.AnalyzeAnswers.{AnalyzeAnswer}
+use Rattle.analysis.specs.NextAnswers.{NextAnswer}
 use Rattle.block_list.specs.Answers.{block_line, block_found, block_edge}
-use Rattle.block_list.specs.declared.BlockAnswer.{BlockAnswer}
+use Rattle.block_list.specs.BlockAnswers.{BlockAnswer}
 use Rattle.rewrite.specs.Room.{room_line, room_marks, room_work}
-use Rattle.rewrite.specs.declared.RoomAnswer.{RoomAnswer}
+use Rattle.rewrite.specs.RoomAnswers.{RoomAnswer}
 
 abbrev pub VerdictFits : Verdict → Type 0
 VerdictFits v = refusal_line v < 2 ^ 32

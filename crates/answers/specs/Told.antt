@@ -1,7 +1,7 @@
 -- A number that is told of an accepted file only.
 use Rattle.std.specs.Prelude.{ℕ}
-use Rattle.program.specs.declared.Verdict.{Verdict}
-use Rattle.program.specs.declared.Verdict.TheVariants as verdict
+use Rattle.program.specs.Verdicts.{Verdict}
+use Rattle.program.specs.Verdicts as verdict
 
 abbrev pub told : Verdict → ℕ → ℕ
 told verdict.Accepted n = n

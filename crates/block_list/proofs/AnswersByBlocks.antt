@@ -10,9 +10,9 @@ use Rattle.program.specs.declared.sizes.Sizes.{Sizes}
 use Rattle.program.specs.Chosen.{sizes_of, numbers}
 use Rattle.program.specs.Program.{Program}
 use Rattle.program.specs.Decoded.{program_of}
-use Rattle.program.specs.declared.Verdict.{Verdict}
-use Rattle.program.specs.declared.Verdict.TheVariants.{Accepted}
-use Rattle.program.specs.declared.Length.TheVariants.{NotAsked, Of}
+use Rattle.program.specs.Verdicts.{Verdict}
+use Rattle.program.specs.Verdicts.{Accepted}
+use Rattle.std.specs.Prelude.{None, Some}
 use Rattle.program.specs.declared.Reading.{Reading}
 use Rattle.checks.specs.Checked.{Checked}
 use Rattle.reach.specs.Configurations.{none_set}
@@ -20,10 +20,10 @@ use Rattle.program.specs.Checks.{followed_by}
 use Rattle.analysis.specs.Answers.{on_success, work_after, owned}
 use Rattle.analysis.proofs.AnswersByChecks.{accepted_own}
 use Rattle.blocked.specs.Blocks.{block_in, block_from, next_block}
-use Rattle.block_list.specs.declared.BlockAnswer.TheVariants as block
+use Rattle.block_list.specs.BlockAnswers as block
 use Rattle.block_list.specs.Answers.{block_of, block_by, block_answer, found_within}
 
-module _ (file marks work : List ℕ) {r : Reading} (k : Checked file (Of (length marks)) NotAsked (Of (length work)) r) {v : Verdict} (h : r.verdict ≡ v) where
+module _ (file marks work : List ℕ) {r : Reading} (k : Checked file (Some (length marks)) None (Some (length work)) r) {v : Verdict} (h : r.verdict ≡ v) where
   pub block_answered : (low : ℕ) → let p = program_of r.program in
       (block_by (followed_by v (owned p marks)) (next_block p low) ≡ block_answer file marks work low)
       × (on_success v (none_set (sizes_of (program_of r.program))) work ≡ work_after file marks work)

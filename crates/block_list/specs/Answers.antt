@@ -3,12 +3,12 @@
 use Rattle.std.specs.Prelude.{ℕ, cond, List, ltb}
 use Rattle.std.proofs.Math.Option.{Option, some, none}
 use Rattle.program.specs.Reading.{read_file}
-use Rattle.program.specs.declared.Verdict.{Verdict}
-use Rattle.program.specs.declared.Verdict.TheVariants as verdict
+use Rattle.program.specs.Verdicts.{Verdict}
+use Rattle.program.specs.Verdicts as verdict
 use Rattle.analysis.specs.Answers.{checked_own}
 use Rattle.blocked.specs.Blocks.{Block, next_block}
-use Rattle.block_list.specs.declared.BlockAnswer.{BlockAnswer}
-use Rattle.block_list.specs.declared.BlockAnswer.TheVariants as block
+use Rattle.block_list.specs.BlockAnswers.{BlockAnswer}
+use Rattle.block_list.specs.BlockAnswers as block
 
 abbrev pub block_of : Option Block → BlockAnswer
 block_of none = block.Nothing

@@ -61,9 +61,9 @@ pub fn next_blocked(file: &[u8], marks: &[u8], work: &mut [u8], low: usize) -> B
     ensures { (result ≡ block_answer file.now marks.now work.old low)
         × (work.new ≡ work_after file.now marks.now work.old) }
 {
-    let marks_length = Length::Of(marks.len());
-    let work_length = Length::Of(work.len());
-    let r = checked_program(file, marks_length, Length::NotAsked, work_length);
+    let marks_length = Some(marks.len());
+    let work_length = Some(work.len());
+    let r = checked_program(file, marks_length, None, work_length);
     let v = r.verdict;
     match v {
         Verdict::Refused(n, line) => BlockAnswer::Refused(n, line),

@@ -6,8 +6,8 @@ use Rattle.program.specs.Checks.{checked, Sized}
 use Rattle.program.specs.Chosen.{sizes_of, numbers}
 use Rattle.program.specs.WellFormed.{WellFormed}
 use Rattle.program.specs.Decoded.{program_of, pair_of}
-use Rattle.program.specs.declared.Verdict.TheVariants.{Accepted}
-use Rattle.program.specs.declared.Length.{Length}
+use Rattle.program.specs.Verdicts.{Accepted}
+use Rattle.program.specs.Checks.{Length}
 use Rattle.program.specs.declared.Reading.{Reading}
 
 pub record Checked (file : List ℕ) (marks output work : Length) (r : Reading) : Type 0 where

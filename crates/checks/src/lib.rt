@@ -15,8 +15,8 @@ pub fn other_than(size: usize, length: Length) -> bool
     ensures { result ≡ other_than size length }
 {
     match length {
-        Length::NotAsked => false,
-        Length::Of(n) => !(n == size),
+        None => false,
+        Some(n) => !(n == size),
     }
 }
 
@@ -25,8 +25,8 @@ fn under(size: usize, length: Length) -> bool
     ensures { result ≡ under size length }
 {
     match length {
-        Length::NotAsked => false,
-        Length::Of(n) => n < size,
+        None => false,
+        Some(n) => n < size,
     }
 }
 

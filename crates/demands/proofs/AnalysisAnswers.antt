@@ -13,9 +13,9 @@ use Rattle.program.specs.declared.sizes.Sizes.{Sizes}
 use Rattle.program.specs.Chosen.{sizes_of}
 use Rattle.program.specs.Program.{Program}
 use Rattle.program.specs.WellFormed.{WellFormed}
-use Rattle.program.specs.declared.Verdict.{Verdict}
-use Rattle.program.specs.declared.Verdict.TheVariants.{Accepted, Refused}
-use Rattle.program.specs.declared.Length.TheVariants.{NotAsked, Of}
+use Rattle.program.specs.Verdicts.{Verdict}
+use Rattle.program.specs.Verdicts.{Accepted, Refused}
+use Rattle.std.specs.Prelude.{None, Some}
 use Rattle.program.proofs.ChecksPassed.{passes, few_checks}
 use Rattle.reach.specs.Configurations.{number}
 use Rattle.reach.specs.Runs.{Occurs}
@@ -32,7 +32,7 @@ use Rattle.reach.proofs.MarksShown.{every_byte, fresh_shows, occurs_in_range}
 use Rattle.reach.proofs.ViolationsExact.{listed_iff, next_violation, violations_ascend}
 use Rattle.program.specs.Checks.{followed_by}
 use Rattle.analysis.specs.Answers.{checked_marks, limited, analyze_by, analyze_answer, analyze_refusal, configuration_count, violation_count, iteration_count, on_success, marks_after, owned, found_of, found_by, next_answer, next_refusal, next_found}
-use Rattle.analysis.specs.declared.NextAnswer.{NextAnswer}
+use Rattle.analysis.specs.NextAnswers.{NextAnswer}
 use Rattle.analysis.proofs.AnswersByChecks.{by_marks}
 use Rattle.analysis.proofs.LimitDecides.{by_limit}
 use Rattle.desk.specs.Entries.{analyze, next_violation as next-entry, Lent, Values, counts, Back, program_in, Gives}
@@ -41,11 +41,11 @@ use Rattle.demands.proofs.RefusalsReturned.{both_ways}
 
 -- a call whose checks are passed has a well-formed program
 pub checked_well_formed : (b : Lent) → checked_marks b.file b.marks b.work ≡ Accepted → WellFormed (program_in b)
-checked_well_formed b e = (passes b.file (Of (length b.marks)) NotAsked (Of (length b.work)) e).well_formed
+checked_well_formed b e = (passes b.file (Some (length b.marks)) None (Some (length b.work)) e).well_formed
 
 -- and a refusal has a number
 pub not_none : (b : Lent) {n line : ℕ} {A : Type 0} → checked_marks b.file b.marks b.work ≡ Refused n line → n ≡ 0 → A
-not_none b e z = absurd (omega (arith, few_checks b.file (Of (length b.marks)) NotAsked (Of (length b.work)) e))
+not_none b e z = absurd (omega (arith, few_checks b.file (Some (length b.marks)) None (Some (length b.work)) e))
 
 -- ---- what is given back
 

@@ -14,8 +14,8 @@ use Rattle.program.specs.Chosen.{sizes_of}
 use Rattle.program.specs.Program.{Program}
 use Rattle.program.specs.Reading.{read_file}
 use Rattle.program.specs.Writing.{text}
-use Rattle.program.specs.declared.Verdict.{Verdict}
-use Rattle.program.specs.declared.Verdict.TheVariants.{Accepted, Refused}
+use Rattle.program.specs.Verdicts.{Verdict}
+use Rattle.program.specs.Verdicts.{Accepted, Refused}
 use Rattle.reach.specs.Marks.{fresh_marks, violations_from}
 use Rattle.base.specs.Flags.{count_set}
 use Rattle.input.specs.Input.{file_size}

@@ -11,8 +11,8 @@ use Rattle.program.specs.declared.sizes.Sizes.{Sizes}
 use Rattle.program.specs.Chosen.{sizes_of, numbers}
 use Rattle.program.specs.Program.{Program}
 use Rattle.program.specs.WellFormed.{WellFormed}
-use Rattle.program.specs.declared.Verdict.{Verdict}
-use Rattle.program.specs.declared.Verdict.TheVariants.{Accepted, Refused}
+use Rattle.program.specs.Verdicts.{Verdict}
+use Rattle.program.specs.Verdicts.{Accepted, Refused}
 use Rattle.reach.specs.Marks.{fresh_marks}
 use Rattle.reach.proofs.ProgramInSizes.{usable, ranged}
 use Rattle.reach.proofs.MarksShown.{fresh_shows}
@@ -22,7 +22,7 @@ use Rattle.analysis.proofs.AnswersByChecks.{by_marks}
 use Rattle.blocked.specs.Blocks.{Block, is_blocked, blocked_by, block_from, next_block}
 use Rattle.blocked.proofs.RunsCutOff.{block-found, block_nowhere}
 use Rattle.block_list.specs.Answers.{block_of, block_by, block_answer, block_refusal, block_found, block_edge}
-use Rattle.block_list.specs.declared.BlockAnswer.{BlockAnswer}
+use Rattle.block_list.specs.BlockAnswers.{BlockAnswer}
 use Rattle.desk.specs.Entries.{next_blocked, Lent, Back, program_in, Gives}
 use Rattle.demands.specs.Demands.{NextBlocked, least, nothing}
 use Rattle.demands.proofs.AnalysisAnswers.{checked_well_formed, not_none}

@@ -24,8 +24,8 @@ use Rattle.text.specs.declared.Line.{Line}
 use Rattle.demands.specs.Book.{book_edges, book_changed, sorted, book_program}
 use Rattle.edit.specs.declared.Edit.{Edit}
 use Rattle.edit.specs.declared.Edit.TheVariants.{Add, Drop, Replace}
-use Rattle.edit.specs.declared.EditRead.{EditRead}
-use Rattle.edit.specs.declared.EditRead.TheVariants.{Read, Refused}
+use Rattle.edit.specs.EditReads.{EditRead}
+use Rattle.edit.specs.EditReads.{Read, Refused}
 use Rattle.edit.proofs.EdgesRemaining.{remaining, without_remaining, all_remaining}
 use Rattle.edit.proofs.EditsWellFormed.{has_inserted, length_inserted, all_inserted}
 

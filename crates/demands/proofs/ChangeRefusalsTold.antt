@@ -9,15 +9,15 @@ use lib.ListN.{length}
 use Rattle.program.specs.Program.{Edge, Program}
 use Rattle.program.specs.Checks.{Row, row, first_met, verdict_of}
 use Rattle.program.specs.Chosen.{sizes_of}
-use Rattle.program.specs.declared.Verdict.{Verdict}
-use Rattle.program.specs.declared.Verdict.TheVariants as verdict
+use Rattle.program.specs.Verdicts.{Verdict}
+use Rattle.program.specs.Verdicts as verdict
 use Rattle.edit.specs.Edits.{old_edge, new_edge}
 use Rattle.edit_line.specs.EditLines.{only_line, bad_line, out_of_range, edit_in, edit_from, read_edit, wanted_edit}
 use Rattle.edit.specs.Editing.{has_edge, wanted_by}
 use Rattle.edit.specs.declared.Edit.{Edit}
 use Rattle.edit.specs.declared.Edit.TheVariants.{Add, Drop, Replace}
-use Rattle.edit.specs.declared.EditRead.{EditRead}
-use Rattle.edit.specs.declared.EditRead.TheVariants.{Read, Refused}
+use Rattle.edit.specs.EditReads.{EditRead}
+use Rattle.edit.specs.EditReads.{Read, Refused}
 use Rattle.text.specs.declared.Line.{Line}
 use Rattle.exchange.specs.Changes.{Exchange, Change, step, whole, ChangeRead, Form, EditLine, ExchangeText}
 use Rattle.exchange.specs.Changes as change

@@ -11,9 +11,9 @@ use Rattle.program.specs.Chosen.{sizes_of, numbers}
 use Rattle.program.specs.Checks.{Row, HasLength}
 use Rattle.program.specs.WellFormed.{WellFormed}
 use Rattle.program.specs.Writing.{written}
-use Rattle.program.specs.declared.Verdict.{Verdict}
-use Rattle.program.specs.declared.Verdict.TheVariants.{Accepted, Refused}
-use Rattle.program.specs.declared.Length.TheVariants.{Of}
+use Rattle.program.specs.Verdicts.{Verdict}
+use Rattle.program.specs.Verdicts.{Accepted, Refused}
+use Rattle.std.specs.Prelude.{Some}
 use Rattle.program.proofs.Theorems.{no_rows}
 use Rattle.program.proofs.ChecksPassed.{passes, few_checks}
 use Rattle.reach.specs.Marks.{fresh_marks}
@@ -83,11 +83,11 @@ module _ (k : Form) (b : Lent) (a : Back) (routines : ℕ) (z : a.refusal ≡ 0)
       go : (v : Verdict) → checked_repair k b.file b.marks b.output b.work ≡ v
           → Given (repaired_by k v p b.marks b.text b.output b.work b.second) → Mended k b a routines
       go Accepted h x =
-          let c = passes b.file (Of (length b.marks)) (Of (length b.output)) (work_first k (length b.work)) h in
+          let c = passes b.file (Some (length b.marks)) (Some (length b.output)) (work_first k (length b.work)) h in
           by_change (wanted_change k p b.text) refl c.well_formed c.sized.work_length x
       go (Refused n line) h x =
           no_refusal n x refl
-          (λ y. absurd (omega (arith, (few_checks b.file (Of (length b.marks)) (Of (length b.output)) (work_first k (length b.work)) h).0)))
+          (λ y. absurd (omega (arith, (few_checks b.file (Some (length b.marks)) (Some (length b.output)) (work_first k (length b.work)) h).0)))
 
 -- either change leaves the changed program, written, at the start of the output
 pub repaired_wrote : (c : Change) (p : Program) (marks output work second : List ℕ) (routines : ℕ)

@@ -18,7 +18,7 @@ use Rattle.program.specs.Frames.{num}
 use Rattle.program.specs.Program.{Program}
 use Rattle.program.specs.WellFormed.{WellFormed}
 use Rattle.program.specs.Reading.{read_file, rows_in}
-use Rattle.program.specs.declared.Verdict.TheVariants.{Accepted}
+use Rattle.program.specs.Verdicts.{Accepted}
 use Rattle.reach.specs.Sizes.{enough_iterations}
 use Rattle.reach.specs.Configurations.{Usable}
 use Rattle.reach.specs.Runs.{Occurs}
@@ -35,7 +35,7 @@ use Rattle.saved.proofs.FramesWritten.{old_long, text_long}
 use Rattle.edit_line.specs.EditLines.{wanted_edit}
 use Rattle.edit.specs.declared.Step.{Step}
 use Rattle.edit.specs.declared.Edit.TheVariants.{Drop}
-use Rattle.edit.specs.declared.EditRead.TheVariants.{Read}
+use Rattle.edit.specs.EditReads.{Read}
 use Rattle.exchange.specs.Changes.{Form, ExchangeText}
 use Rattle.repair.specs.Desk.{started}
 use Rattle.callgraph.specs.Components.{Member}

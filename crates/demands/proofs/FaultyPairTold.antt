@@ -18,8 +18,8 @@ use Rattle.program.specs.Program.{Program}
 use Rattle.program.specs.Chosen.{sizes_fit}
 use Rattle.program.specs.Checks.{first_met}
 use Rattle.program.specs.Reading.{Progress, start, Outcome, accepted, refused, judge_as, judge, after, pairs_of, with_transitions, sizes_decide, table_decides, finished, read_from, read_file, refusal}
-use Rattle.program.specs.declared.Verdict.{Verdict}
-use Rattle.program.specs.declared.Verdict.TheVariants.{Accepted, Refused}
+use Rattle.program.specs.Verdicts.{Verdict}
+use Rattle.program.specs.Verdicts.{Accepted, Refused}
 use Rattle.program.proofs.RefusalsSmall.{judge_small}
 use Rattle.desk.specs.Entries.{faulty-pair, Lent, Back, pairing, Gives}
 use Rattle.demands.specs.Refusals.{line_number, table_number, Faulty, by_table, later, EarlierPair, FirstFaulty, FaultyPair, of_the_table, after_a_line, FaultyPairOf}

@@ -14,8 +14,8 @@ use Rattle.program.specs.Reading.{Progress, start, refused, judge_as, judge, aft
 use Rattle.program.specs.Chosen.{sizes_fit}
 use Rattle.program.specs.Program.{Program}
 use Rattle.program.specs.Checks.{first_met}
-use Rattle.program.specs.declared.Verdict.{Verdict}
-use Rattle.program.specs.declared.Verdict.TheVariants.{Accepted, Refused}
+use Rattle.program.specs.Verdicts.{Verdict}
+use Rattle.program.specs.Verdicts.{Accepted, Refused}
 use Rattle.demands.specs.Refusals.{line_number, table_rows, table_number, Faulty, unended, by_table, by_sizes, after_end, here, later}
 
 -- what a verdict says: this refusal, or none

@@ -9,9 +9,9 @@ use lib.Seq.{take-append_seam}
 use Rattle.program.specs.Program.{Program}
 use Rattle.program.specs.Writing.{written}
 use Rattle.program.specs.Reading.{Outcome, accepted, read_file, rows_in, refusal}
-use Rattle.program.specs.declared.Verdict.{Verdict}
-use Rattle.program.specs.declared.Verdict.TheVariants.{Accepted, Refused}
-use Rattle.program.specs.declared.Length.TheVariants.{NotAsked, Of}
+use Rattle.program.specs.Verdicts.{Verdict}
+use Rattle.program.specs.Verdicts.{Accepted, Refused}
+use Rattle.std.specs.Prelude.{None, Some}
 use Rattle.program.proofs.Theorems.{accepted_well_formed, accepted_rows, few_lines, written_back, no_row_written, same_without_rows, rows_read, read_again, read_again_with, rows_again, limited_with, written_limited}
 use Rattle.program.proofs.TableWellFormed.{TableOf}
 use Rattle.program.proofs.TableDetermined.{determined}
@@ -97,10 +97,10 @@ wrote_program b a g z =
         → ((read_file b.file).verdict ≡ Accepted)
         × (take (written_length (answer_by v (program_in b))) (output_by v (program_in b) b.output) ≡ written (program_in b))
     go Accepted h y = (
-      (passes b.file NotAsked (Of (length b.output)) NotAsked h).file_accepted,
+      (passes b.file None (Some (length b.output)) None h).file_accepted,
       take-append_seam (written (program_in b)) (drop (length (written (program_in b))) b.output),
     )
-    go (Refused n line) h y = absurd (omega (arith, few_checks b.file NotAsked (Of (length b.output)) NotAsked h))
+    go (Refused n line) h y = absurd (omega (arith, few_checks b.file None (Some (length b.output)) None h))
 
 pub comes_back : (b : Lent) (a : Back) → Gives write b a → a.refusal ≡ 0 → (wrote a ≡ b.file) ↔ (rows_in b.file ≡ [])
 comes_back b a g z =

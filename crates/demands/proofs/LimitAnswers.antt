@@ -9,9 +9,9 @@ use Rattle.program.specs.declared.sizes.Sizes.{Sizes}
 use Rattle.program.specs.Chosen.{sizes_of}
 use Rattle.program.specs.Program.{Program}
 use Rattle.program.specs.WellFormed.{WellFormed}
-use Rattle.program.specs.declared.Verdict.{Verdict}
-use Rattle.program.specs.declared.Verdict.TheVariants.{Accepted, Refused}
-use Rattle.program.specs.declared.Length.TheVariants.{NotAsked, Of}
+use Rattle.program.specs.Verdicts.{Verdict}
+use Rattle.program.specs.Verdicts.{Accepted, Refused}
+use Rattle.std.specs.Prelude.{None, Some}
 use Rattle.program.proofs.ChosenSizes.{admitted}
 use Rattle.program.proofs.ChecksPassed.{passes, few_checks}
 use Rattle.reach.specs.Sizes.{enough_iterations}
@@ -46,13 +46,13 @@ gives b a g = g
 
 -- a refusal of the checks is another one
 other : (b : Lent) {n line : ℕ} → checks_of b ≡ Refused n line → (0 < n) × (n ≢ 22)
-other b e = let k = few_checks b.file (Of (length b.marks)) NotAsked (Of (length b.work)) e in (k.0, k.3)
+other b e = let k = few_checks b.file (Some (length b.marks)) None (Some (length b.work)) e in (k.0, k.3)
 
 -- where they are passed a giving up clears the working buffer, which has a byte for each number
 clears : (b : Lent) → checks_of b ≡ Accepted → back_by b Accepted (Refused 22 0) ≡ given_up b
 unfolding none_set
 clears b e =
-    let c = passes b.file (Of (length b.marks)) NotAsked (Of (length b.work)) e in
+    let c = passes b.file (Some (length b.marks)) None (Some (length b.work)) e in
     ap (λ (n : ℕ). analyze_back b (analyze_by (Refused 22 0) (program_in b)) b.marks (replicate n 0)) (sym c.sized.work_length)
 
 module _ (b : Lent) where

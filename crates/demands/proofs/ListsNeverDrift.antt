@@ -13,8 +13,8 @@ use Rattle.program.specs.WellFormed.{WellFormed}
 use Rattle.program.specs.Reading.{Outcome, accepted, read_file}
 use Rattle.program.specs.Checks.{first_met, buffer_rows, checked}
 use Rattle.program.specs.Writing.{written}
-use Rattle.program.specs.declared.Verdict.TheVariants as verdict
-use Rattle.program.specs.declared.Length.TheVariants.{NotAsked, Of}
+use Rattle.program.specs.Verdicts as verdict
+use Rattle.std.specs.Prelude.{None, Some}
 use Rattle.program.proofs.Theorems.{accepted_well_formed, accepted_as}
 use Rattle.reach.specs.Marks.{fresh_marks}
 use Rattle.reach.proofs.ProgramInSizes.{usable}
@@ -141,7 +141,7 @@ one_call d b g routines c = rw (g.file, eq-eqb (length d.marks) (numbers (sizes_
 
     -- what the lengths meet that are judged before the line or text
     lengths : ℕ
-    lengths = first_met (buffer_rows (numbers (sizes_of b)) NotAsked (Of (length c.output)) (work_first c.form (length c.work)))
+    lengths = first_met (buffer_rows (numbers (sizes_of b)) None (Some (length c.output)) (work_first c.form (length c.work)))
 
     go : (n : ℕ) (t : Bool) → eqb n 0 ≡ t → (w : ChangeRead) → wanted_change c.form p c.text ≡ w
         → let r = cond t (change_refusal w b (length c.work) (length c.second)) n in

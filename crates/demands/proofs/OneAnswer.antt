@@ -10,9 +10,9 @@ use lib.Dec.{eqb}
 use lib.ListN.{length}
 use Rattle.program.specs.Program.{Program}
 use Rattle.program.specs.Chosen.{sizes_of}
-use Rattle.program.specs.declared.Verdict.{Verdict}
-use Rattle.program.specs.declared.Verdict.TheVariants.{Accepted, Refused}
-use Rattle.program.specs.declared.Length.TheVariants.{NotAsked, Of}
+use Rattle.program.specs.Verdicts.{Verdict}
+use Rattle.program.specs.Verdicts.{Accepted, Refused}
+use Rattle.std.specs.Prelude.{None, Some}
 use Rattle.program.proofs.ChecksPassed.{passes}
 use Rattle.reach.proofs.ProgramInSizes.{usable}
 use Rattle.reach.proofs.MarksShown.{one_list}
@@ -69,7 +69,7 @@ routines_once false w p n m x y = x ∙ sym y
 
 marks_once : (b : Lent) (v : Verdict) → checked_marks b.file b.marks b.work ≡ v → {l k : List ℕ} → Pruned v (program_in b) b.marks l → Pruned v (program_in b) b.marks k → l ≡ k
 marks_once b Accepted e x y =
-    let w = (passes b.file (Of (length b.marks)) NotAsked (Of (length b.work)) e).well_formed in
+    let w = (passes b.file (Some (length b.marks)) None (Some (length b.work)) e).well_formed in
     one_list (sizes_of (program_in b)) (usable (program_in b) w) x y
 marks_once b (Refused n line) e x y = x ∙ sym y
 

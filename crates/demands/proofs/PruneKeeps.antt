@@ -12,9 +12,9 @@ use Rattle.program.specs.WellFormed.{WellFormed}
 use Rattle.program.specs.Writing.{written}
 use Rattle.program.specs.Reading.{Outcome, accepted, read_file, refusal}
 use Rattle.program.specs.Checks.{first_met, checked}
-use Rattle.program.specs.declared.Verdict.{Verdict}
-use Rattle.program.specs.declared.Verdict.TheVariants.{Accepted, Refused}
-use Rattle.program.specs.declared.Length.TheVariants.{NotAsked, Of}
+use Rattle.program.specs.Verdicts.{Verdict}
+use Rattle.program.specs.Verdicts.{Accepted, Refused}
+use Rattle.std.specs.Prelude.{None, Some}
 use Rattle.program.proofs.Theorems.{read_again}
 use Rattle.program.proofs.ChecksPassed.{few_checks}
 use Rattle.reach.specs.Marks.{Shows, fresh_at, fresh_marks}
@@ -28,7 +28,7 @@ use Rattle.edit.specs.Editing.{edited_program}
 use Rattle.edit_line.specs.EditLines.{wanted_edit}
 use Rattle.edit.specs.declared.Step.{Step}
 use Rattle.edit.specs.declared.Edit.TheVariants.{Drop}
-use Rattle.edit.specs.declared.EditRead.TheVariants as read
+use Rattle.edit.specs.EditReads as read
 use Rattle.exchange.specs.Changes.{Change, step, EditLine}
 use Rattle.exchange.specs.Changes as change
 use Rattle.exchange.specs.Changing.{changed_program}
@@ -50,7 +50,7 @@ pruned b a g z =
     go : (v : Verdict) → checked_marks b.file b.marks b.work ≡ v → Pruned v (program_in b) b.marks a.marks → refusal v ≡ 0
         → Shows (sizes_of (program_in b)) (Kept (sizes_of (program_in b)) (program_in b) b.marks) a.marks
     go Accepted h k y = k
-    go (Refused n line) h k y = absurd (omega (arith, few_checks b.file (Of (length b.marks)) NotAsked (Of (length b.work)) h))
+    go (Refused n line) h k y = absurd (omega (arith, few_checks b.file (Some (length b.marks)) None (Some (length b.work)) h))
 
 -- ---- a forward drop is the keeping on the old marks
 

@@ -15,10 +15,10 @@ use Rattle.text.specs.declared.Line.{Line}
 use Rattle.program.specs.Chosen.{sizes_of, numbers}
 use Rattle.program.specs.Reading.{read_file}
 use Rattle.program.specs.Checks.{Row, first_met, verdict_of, other_than, buffer_rows, checked, followed_by}
-use Rattle.program.specs.declared.Verdict.{Verdict}
-use Rattle.program.specs.declared.Verdict.TheVariants.{Accepted, Refused}
-use Rattle.program.specs.declared.Length.{Length}
-use Rattle.program.specs.declared.Length.TheVariants.{NotAsked, Of}
+use Rattle.program.specs.Verdicts.{Verdict}
+use Rattle.program.specs.Verdicts.{Accepted, Refused}
+use Rattle.program.specs.Checks.{Length}
+use Rattle.std.specs.Prelude.{None, Some}
 use Rattle.program.proofs.Theorems.{few_lines}
 use Rattle.program.proofs.ChecksPassed.{CheckedAs, passed, by_file, by_length, checked_file, passes}
 use Rattle.writer.specs.Answers.{answer_by, output_by, checked_output, write_answer, output_after, refusal as writeRefusal}
@@ -40,7 +40,7 @@ use Rattle.exchange_text.specs.Wanted.{wanted_change}
 use Rattle.exchange_text.proofs.Theorems.{change_number}
 use Rattle.repair.specs.Repairs.{After, untouched, zeroed, foreign, repaired_to, checked_repair, owned_by, measured_by, wanted_by, repaired_by, repaired}
 use Rattle.rewrite.specs.Room.{room_of, room_by, room_wanted, room_answer}
-use Rattle.rewrite.specs.declared.RoomAnswer.TheVariants as room
+use Rattle.rewrite.specs.RoomAnswers as room
 use Rattle.desk.specs.Entries.{Entry, read as reads, sizes, faulty-pair, write, analyze, next_violation, next_blocked, prune, marks_to_frames, frames_to_marks, repair_forward, repair_inside_out, exchange_sizes, exchange_forward, exchange_inside_out, Lent, Back, has_work, tells_pair, Values, no_values, read_back, sizes_back, pair_back, room_back, write_back, analyze_back, finding, blocking, next_back, block_back, prune_back, move_back, repair_back, program_in, repaired_in, RepairGives, InsideOutGives, Gives}
 use Rattle.demands.specs.Demands.{Demand1}
 use Rattle.demands.specs.Refusals.{marks_length, change_rows, later_rows, repair_rows, marks_rows, move_rows, rows, is_move, clears, FaultyFile, Returned, of_the_file, of_the_rest}
@@ -230,7 +230,7 @@ pair_good b = go (read_file b.file).verdict (file_judged faulty-pair b)
 
 write_good : (b : Lent) → Demand1 write b (write_back b (write_answer b.file b.output) (output_after b.file b.output))
 unfolding write_answer output_after first_met
-write_good b = go (checked_output b.file b.output) (checked_judged write refl b NotAsked (Of (length b.output)) NotAsked [] refl)
+write_good b = go (checked_output b.file b.output) (checked_judged write refl b None (Some (length b.output)) None [] refl)
   where
     go : (v : Verdict) → Judged write b [] v → Demand1 write b (write_back b (answer_by v (program_in b)) (output_by v (program_in b) b.output))
     go Accepted r = done refl r
@@ -240,7 +240,7 @@ write_good b = go (checked_output b.file b.output) (checked_judged write refl b 
 
 marks_judged : (e : Entry) → is_move e ≡ false → (b : Lent) (final : List Row) → rows e b ≡ marks_rows b ++ final
     → Judged e b final (checked_marks b.file b.marks b.work)
-marks_judged e m b = checked_judged e m b (Of (length b.marks)) NotAsked (Of (length b.work))
+marks_judged e m b = checked_judged e m b (Some (length b.marks)) None (Some (length b.work))
 
 -- a working buffer that passes has as many bytes as there are numbers
 pub work_zeroed : (file marks work : List ℕ) → work_after file marks work ≡ on_success (checked_marks file marks work) (zeroed work) work
@@ -248,7 +248,7 @@ unfolding work_after none_set
 work_zeroed file marks work = go (checked_marks file marks work) refl
   where
     go : (v : Verdict) → checked_marks file marks work ≡ v → on_success v (none_set (sizes_of (read_file file).program)) work ≡ on_success v (zeroed work) work
-    go Accepted h = ap (λ (n : ℕ). replicate n 0) (sym (passes file (Of (length marks)) NotAsked (Of (length work)) h).sized.work_length)
+    go Accepted h = ap (λ (n : ℕ). replicate n 0) (sym (passes file (Some (length marks)) None (Some (length work)) h).sized.work_length)
     go (Refused n line) h = refl
 
 analyze_good : (b : Lent)
@@ -337,7 +337,7 @@ not_untrue true e = refl
 not_untrue false e = e
 
 -- a working buffer that has its length is cleared to zeros
-cleared_work : (b : Lent) → false ≡ other_than (marks_length b) (Of (length b.work)) → none_set (sizes_of (program_in b)) ≡ zeroed b.work
+cleared_work : (b : Lent) → false ≡ other_than (marks_length b) (Some (length b.work)) → none_set (sizes_of (program_in b)) ≡ zeroed b.work
 unfolding none_set
 cleared_work b l = ap (λ (n : ℕ). replicate n 0) (sym (eqb-true (length b.work) (marks_length b) (not_untrue (eqb (length b.work) (marks_length b)) l)))
 
@@ -360,7 +360,7 @@ module _ (way : Way) (e : Entry) (m : is_move e ≡ true) (b : Lent) (given : Li
   sooner_early : {n : ℕ} → Returned e b n 0 → n ≢ 0 → n ≢ 25 → n ≢ 10 → Early e b n 0
   sooner_early {n} r z a c = record { returned = r; some_number = z; no_clearing = rw m (neither_of n 25 10 a c) }
 
-  moved_good : (large marks work foreign short : Bool) → work ≡ other_than (marks_length b) (Of (length b.work))
+  moved_good : (large marks work foreign short : Bool) → work ≡ other_than (marks_length b) (Some (length b.work))
       → Returned e b (cond large 24 (cond marks 9 (cond work 11 (cond foreign 25 (cond short 10 0))))) 0
       → Demand1 e b (move_by Accepted (sooner large marks work) (later foreign short))
   moved_good true marks work foreign short l r = early (sooner_early r (not_equal refl) (not_equal refl) (not_equal refl))
@@ -377,9 +377,9 @@ module _ (way : Way) (e : Entry) (m : is_move e ≡ true) (b : Lent) (given : Li
       p : Program
       p = program_in b
 
-      go : (v : Verdict) → Judged e b (rows e b) v → Demand1 e b (move_by v (sooner (too_large p) (other_than (numbers old_sizes) (given_marks way given)) (other_than (marks_length b) (Of (length b.work)))) (later (not (same given (own way p))) (ltb (length b.output) (length (moved way p)))))
+      go : (v : Verdict) → Judged e b (rows e b) v → Demand1 e b (move_by v (sooner (too_large p) (other_than (numbers old_sizes) (given_marks way given)) (other_than (marks_length b) (Some (length b.work)))) (later (not (same given (own way p))) (ltb (length b.output) (length (moved way p)))))
       go Accepted r =
-          moved_good (too_large p) (other_than (numbers old_sizes) (given_marks way given)) (other_than (marks_length b) (Of (length b.work))) (not (same given (own way p)))
+          moved_good (too_large p) (other_than (numbers old_sizes) (given_marks way given)) (other_than (marks_length b) (Some (length b.work))) (not (same given (own way p)))
           (ltb (length b.output) (length (moved way p))) refl (subst (λ (l : List Row). Returned e b (first_met l) 0) h r)
       go (Refused n line) x = early x
 
@@ -419,7 +419,7 @@ module _ (k : Form) (e : Entry) (m : is_move e ≡ false) (b : Lent) (h : rows e
   unfolding repaired first_met
   repair_good routines =
       go (checked_repair k b.file b.marks b.output b.work)
-      (checked_judged e m b (Of (length b.marks)) (Of (length b.output)) (work_first k (length b.work)) left h)
+      (checked_judged e m b (Some (length b.marks)) (Some (length b.output)) (work_first k (length b.work)) left h)
     where
       p : Program
       p = program_in b

@@ -15,8 +15,8 @@ use Rattle.program.specs.declared.sizes.Sizes.{Sizes}
 use Rattle.program.specs.WellFormed.{WellFormed}
 use Rattle.program.specs.Reading.{Outcome, read_file}
 use Rattle.program.specs.Checks.{Row, first_met}
-use Rattle.program.specs.declared.Verdict.{Verdict}
-use Rattle.program.specs.declared.Verdict.TheVariants.{Accepted}
+use Rattle.program.specs.Verdicts.{Verdict}
+use Rattle.program.specs.Verdicts.{Accepted}
 use Rattle.program.proofs.Theorems.{accepted_well_formed, read_again}
 use Rattle.program.proofs.ChosenSizes.{largest_at, admitted}
 use Rattle.reach.specs.Marks.{fresh_marks}

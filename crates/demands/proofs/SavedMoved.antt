@@ -16,9 +16,9 @@ use Rattle.program.proofs.ChosenSizes.{largest_at}
 use Rattle.program.specs.WellFormed.{WellFormed}
 use Rattle.program.specs.Reading.{read_file}
 use Rattle.program.specs.Checks.{first_met, verdict_of, followed_by, other_than}
-use Rattle.program.specs.declared.Verdict.{Verdict}
-use Rattle.program.specs.declared.Verdict.TheVariants.{Accepted, Refused}
-use Rattle.program.specs.declared.Length.TheVariants.{Of}
+use Rattle.program.specs.Verdicts.{Verdict}
+use Rattle.program.specs.Verdicts.{Accepted, Refused}
+use Rattle.std.specs.Prelude.{Some}
 use Rattle.program.proofs.Theorems.{accepted_well_formed, few_lines}
 use Rattle.reach.specs.Runs.{Occurs}
 use Rattle.reach.specs.Marks.{Shows}
@@ -114,7 +114,7 @@ module _ (way : Way) (given : List ℕ) (b : Lent) (a : Back) (g : MoveGives way
   reached : From25 a.refusal → Reached
   unfolding first_met
   reached h =
-      let x = passed b.file (read_file b.file).verdict refl (too_large p) (other_than (numbers old_sizes) (given_marks way given)) (other_than (marks_length b) (Of (length b.work))) (late foreign short) (moved way p) (subst From25 number_is h) in
+      let x = passed b.file (read_file b.file).verdict refl (too_large p) (other_than (numbers old_sizes) (given_marks way given)) (other_than (marks_length b) (Some (length b.work))) (late foreign short) (moved way p) (subst From25 number_is h) in
       record { accepted = x.0; well_formed = accepted_well_formed b.file x.0; small = x.1; verdict = rw (x.0, x.1, x.2, x.3) refl }
 
   own_same : given ≡ own way p → same given (own way p) ≡ true

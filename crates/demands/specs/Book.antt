@@ -6,7 +6,7 @@ use Rattle.std.specs.Prelude.{ℕ, cond, List, [], ◌∷◌, ◌++◌, eqb}
 use Rattle.program.specs.Program.{Edge, Program}
 use Rattle.program.specs.Chosen.{sizes_of, numbers}
 use Rattle.program.specs.Checks.{first_met, buffer_rows}
-use Rattle.program.specs.declared.Length.TheVariants.{NotAsked, Of}
+use Rattle.std.specs.Prelude.{None, Some}
 use Rattle.edit.specs.Edits.{old_edge, new_edge}
 use Rattle.edit.specs.Editing.{without, inserted, with_edges}
 use Rattle.edit.specs.declared.Edit.{Edit}
@@ -42,7 +42,7 @@ change_refusal (Refused n) b work second = n
 -- there, and how many there are, is read off the set
 unfoldable pub book_refusal : Form → Program → List ℕ → ℕ → ℕ → ℕ → ℕ
 book_refusal k b text output work second =
-    first_of (first_met (buffer_rows (numbers (sizes_of b)) NotAsked (Of output) (work_first k work)))
+    first_of (first_met (buffer_rows (numbers (sizes_of b)) None (Some output) (work_first k work)))
     (change_refusal (wanted_change k b text) b work second)
 
 -- the program after a call: a refused one leaves it

@@ -11,7 +11,7 @@ use Rattle.program.specs.Frames.{size, kind}
 use Rattle.rows.specs.Rows.{TableRow, Pair, times_met}
 use Rattle.program.specs.Reading.{Progress, start, ordered, ranged, full, miscounted, after, pairs_of}
 use Rattle.program.specs.Checks.{Row, row, first_met, buffer_rows}
-use Rattle.program.specs.declared.Length.TheVariants.{NotAsked, Of}
+use Rattle.std.specs.Prelude.{None, Some}
 use Rattle.analysis.specs.Answers.{foreign_row, limit_row}
 use Rattle.edit.specs.Edits.{old_edge, new_edge}
 use Rattle.edit_line.specs.EditLines.{only_line, bad_line, out_of_range, edit_in}
@@ -163,14 +163,14 @@ later_rows ExchangeText p s second work =
 
 abbrev pub repair_rows : Form → Lent → List Row
 repair_rows k b =
-    buffer_rows (marks_length b) (Of (length b.marks)) (Of (length b.output)) (work_first k (length b.work))
+    buffer_rows (marks_length b) (Some (length b.marks)) (Some (length b.output)) (work_first k (length b.work))
     ++ (change_rows k (program_in b) b.text
     ++ (later_rows k (program_in b) b.text (length b.second) (length b.work)
     ++ foreign_row (program_in b) b.marks ∷ []))
 
 -- of functions that are lent marks and a working buffer
 abbrev pub marks_rows : Lent → List Row
-marks_rows b = buffer_rows (marks_length b) (Of (length b.marks)) NotAsked (Of (length b.work))
+marks_rows b = buffer_rows (marks_length b) (Some (length b.marks)) None (Some (length b.work))
 
 -- of functions that move saved marks, by what is given: 24, 9, 11, 25 and 10
 abbrev pub move_rows : Way → List ℕ → Lent → List Row
@@ -182,7 +182,7 @@ abbrev pub rows : Entry → Lent → List Row
 rows read b = []
 rows sizes b = []
 rows faulty-pair b = []
-rows write b = buffer_rows (marks_length b) NotAsked (Of (length b.output)) NotAsked
+rows write b = buffer_rows (marks_length b) None (Some (length b.output)) None
 rows analyze b = marks_rows b ++ limit_row (program_in b) b.limit ∷ []
 rows prune b = marks_rows b
 rows next_violation b = marks_rows b ++ foreign_row (program_in b) b.marks ∷ []

@@ -3,7 +3,7 @@ use mathlib.Core.Path.{◌≡◌, refl, ap}
 use mathlib.Core.List.{List}
 use Prim.Native.Nat.{ℕ}
 use Rattle.writer.specs.Answers.{refusal as writeRefusal, refusal_line as writeLine, written_length}
-use Rattle.writer.specs.declared.WriteAnswer.{WriteAnswer}
+use Rattle.writer.specs.WriteAnswers.{WriteAnswer}
 use Rattle.repair.specs.Repairs.{After}
 use Rattle.desk.specs.Entries.{Values, Back, counts, sizing, pairing, repairing, repair_back}
 

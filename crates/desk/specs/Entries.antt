@@ -4,24 +4,24 @@ use Rattle.program.specs.Program.{Program}
 use Rattle.program.specs.declared.sizes.Sizes.{Sizes}
 use Rattle.program.specs.Chosen.{sizes_of, numbers}
 use Rattle.program.specs.Reading.{refusal, refusal_line, read_file}
-use Rattle.program.specs.declared.Verdict.{Verdict}
+use Rattle.program.specs.Verdicts.{Verdict}
 use Rattle.writer.specs.Answers.{write_answer, output_after, refusal as writeRefusal, refusal_line as writeLine}
 use Rattle.writer.specs.Answers.{written_length}
 use Rattle.analysis.specs.Answers.{checked_marks, analyze_answer, marks_after, work_after, analyze_refusal, analyze_line}
 use Rattle.analysis.specs.Answers.{configuration_count, violation_count, iteration_count, next_answer, next_refusal}
 use Rattle.analysis.specs.Answers.{next_line, next_found}
-use Rattle.writer.specs.declared.WriteAnswer.{WriteAnswer}
-use Rattle.analysis.specs.declared.AnalyzeAnswer.{AnalyzeAnswer}
-use Rattle.analysis.specs.declared.NextAnswer.{NextAnswer}
+use Rattle.writer.specs.WriteAnswers.{WriteAnswer}
+use Rattle.analysis.specs.AnalyzeAnswers.{AnalyzeAnswer}
+use Rattle.analysis.specs.NextAnswers.{NextAnswer}
 use Rattle.block_list.specs.Answers.{block_answer, block_refusal, block_line, block_found, block_edge}
-use Rattle.block_list.specs.declared.BlockAnswer.{BlockAnswer}
+use Rattle.block_list.specs.BlockAnswers.{BlockAnswer}
 use Rattle.prune.specs.Pruning.{Pruned}
 use Rattle.saved.specs.Answers.{Way, over, back, move_answer, move_output, move_work}
 use Rattle.exchange_text.specs.Wanted.{wanted_change}
 use Rattle.exchange.specs.Changes.{Form, EditLine, ExchangeText}
 use Rattle.repair.specs.Repairs.{After, repaired, InsideOutNumber}
 use Rattle.rewrite.specs.Room.{room_answer, room_refusal, room_line, room_nodes, room_marks, room_work}
-use Rattle.rewrite.specs.declared.RoomAnswer.{RoomAnswer}
+use Rattle.rewrite.specs.RoomAnswers.{RoomAnswer}
 use Rattle.answers.specs.Told.{told}
 use Rattle.rows.specs.Rows.{Pair, no_pair}
 

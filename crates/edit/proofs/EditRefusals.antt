@@ -19,8 +19,8 @@ use Rattle.edit.specs.declared.Label.{Label}
 use Rattle.edit.specs.declared.Step.{Step}
 use Rattle.edit.specs.declared.Edit.{Edit}
 use Rattle.edit.specs.declared.Edit.TheVariants.{Add, Drop, Replace}
-use Rattle.edit.specs.declared.EditRead.{EditRead}
-use Rattle.edit.specs.declared.EditRead.TheVariants.{Read, Refused}
+use Rattle.edit.specs.EditReads.{EditRead}
+use Rattle.edit.specs.EditReads.{Read, Refused}
 use Rattle.edit.proofs.EditsWellFormed.{has_without, length_dropped, added, replaced}
 use Rattle.base.proofs.Bools.{and-false}
 

@@ -6,8 +6,8 @@ use Rattle.program.specs.Frames.{edge_key}
 use Rattle.edit.specs.Edits.{old_edge, new_edge}
 use Rattle.edit.specs.declared.Edit.{Edit}
 use Rattle.edit.specs.declared.Edit.TheVariants.{Add, Drop, Replace}
-use Rattle.edit.specs.declared.EditRead.{EditRead}
-use Rattle.edit.specs.declared.EditRead.TheVariants.{Read, Refused}
+use Rattle.edit.specs.EditReads.{EditRead}
+use Rattle.edit.specs.EditReads.{Read, Refused}
 
 -- the same edge
 abbrev pub same_edge : Edge → Edge → Bool

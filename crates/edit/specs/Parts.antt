@@ -5,8 +5,8 @@ use Rattle.program.specs.Frames.{edge_frame}
 use Rattle.edit.specs.Edits.{old_edge, new_edge}
 use Rattle.edit.specs.declared.Edit.{Edit}
 use Rattle.edit.specs.declared.Edit.TheVariants.{Add, Drop, Replace}
-use Rattle.edit.specs.declared.EditRead.{EditRead}
-use Rattle.edit.specs.declared.EditRead.TheVariants.{Read, Refused}
+use Rattle.edit.specs.EditReads.{EditRead}
+use Rattle.edit.specs.EditReads.{Read, Refused}
 
 -- both edges of an edit are of bytes, so that each has a key
 pub record Keyed (e : Edit) : Type 0 where

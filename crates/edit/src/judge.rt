@@ -6,7 +6,7 @@ ghost use Rattle.program.specs.Decoded.{edge_keys_of, edge_of};
 ghost use Rattle.edit.specs.Edits.{edge_of_step};
 ghost use Rattle.edit.specs.Editing.{has_edge, edit_refusal, wanted_by};
 ghost use Rattle.edit.specs.Parts.{Keyed, KeyedRead, refusal_by};
-ghost use Rattle.edit.specs.declared.EditRead.TheVariants.{Read, Refused};
+ghost use Rattle.edit.specs.EditReads.{Read, Refused};
 
 use crate::key::{new_step, old_step, step_key};
 use crate::{Edit, EditRead, Step};

@@ -14,8 +14,8 @@ use Rattle.edit_line.specs.EditLines.{only_line, bad_line, out_of_range, edit_in
 use Rattle.edit.specs.Editing.{has_edge, edit_refusal, wanted_by}
 use Rattle.edit.specs.declared.Edit.{Edit}
 use Rattle.edit.specs.declared.Edit.TheVariants.{Add, Drop, Replace}
-use Rattle.edit.specs.declared.EditRead.{EditRead}
-use Rattle.edit.specs.declared.EditRead.TheVariants.{Read, Refused}
+use Rattle.edit.specs.EditReads.{EditRead}
+use Rattle.edit.specs.EditReads.{Read, Refused}
 
 -- a refused edit line has a number from 12 to 16
 abbrev Numbered : EditRead → Type 0

@@ -18,7 +18,7 @@ use Rattle.edit.specs.Edits.{event_of, label_number, edge_of_step}
 use Rattle.edit.specs.Parts.{KeyedRead}
 use Rattle.edit.specs.declared.Label.TheVariants.{Action, Call}
 use Rattle.edit.specs.declared.Edit.TheVariants.{Add, Drop, Replace}
-use Rattle.edit.specs.declared.EditRead.TheVariants.{Read, Refused}
+use Rattle.edit.specs.EditReads.{Read, Refused}
 use Rattle.edit.proofs.EditRefusals.{Fits, FitsRead, read_keyed}
 use Rattle.edit_line.specs.EditLines.{only_line, bad_line, out_of_range, step_in, edit_in, edit_from, read_edit}
 use Rattle.base.proofs.Bools.{neither}

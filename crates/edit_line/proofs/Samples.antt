@@ -11,8 +11,8 @@ use Rattle.edit.specs.declared.Label.{Label}
 use Rattle.edit.specs.declared.Label.TheVariants.{Action, Call}
 use Rattle.edit.specs.declared.Step.{Step}
 use Rattle.edit.specs.declared.Edit.TheVariants.{Add, Replace}
-use Rattle.edit.specs.declared.EditRead.{EditRead}
-use Rattle.edit.specs.declared.EditRead.TheVariants.{Read, Refused}
+use Rattle.edit.specs.EditReads.{EditRead}
+use Rattle.edit.specs.EditReads.{Read, Refused}
 
 -- what this line says for F
 abbrev says : String → EditRead

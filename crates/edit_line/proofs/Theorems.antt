@@ -5,7 +5,7 @@ use Prim.Native.Nat.{ℕ}
 use Rattle.program.specs.Program.{Program}
 use Rattle.edit.specs.Editing.{Applies}
 use Rattle.edit.specs.declared.Edit.{Edit}
-use Rattle.edit.specs.declared.EditRead.TheVariants.{Read}
+use Rattle.edit.specs.EditReads.{Read}
 use Rattle.edit.proofs.EditRefusals.{judged_applies}
 use Rattle.edit_line.specs.EditLines.{read_edit, wanted_edit}
 use Rattle.edit_line.proofs.LinesInRange.{read_fits}

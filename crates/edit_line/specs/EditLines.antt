@@ -12,8 +12,8 @@ use Rattle.edit.specs.Editing.{wanted_by}
 use Rattle.edit.specs.declared.Step.{Step}
 use Rattle.edit.specs.declared.Edit.{Edit}
 use Rattle.edit.specs.declared.Edit.TheVariants.{Add, Drop, Replace}
-use Rattle.edit.specs.declared.EditRead.{EditRead}
-use Rattle.edit.specs.declared.EditRead.TheVariants.{Read, Refused}
+use Rattle.edit.specs.EditReads.{EditRead}
+use Rattle.edit.specs.EditReads.{Read, Refused}
 
 -- the line of a buffer that holds exactly one; a line without a number where it holds anything else
 abbrev pub only_line : List ℕ → Line

@@ -7,7 +7,7 @@ ghost use Rattle.edit.specs.Edits.{event_of};
 ghost use Rattle.edit_line.specs.EditLines.{only_line, edit_kind, edit_size, bad_line, out_of_range, step_in, edit_in};
 ghost use Rattle.edit_line.specs.EditLines.{edit_from};
 ghost use Rattle.edit.specs.declared.Edit.TheVariants.{Add, Drop, Replace};
-ghost use Rattle.edit.specs.declared.EditRead.TheVariants.{Read, Refused};
+ghost use Rattle.edit.specs.EditReads.{Read, Refused};
 
 use automaton::labels::label_fits;
 use edit::{Edit, EditRead, Label, Step};

@@ -5,8 +5,8 @@ use Rattle.program.specs.declared.sizes.Sizes.{Sizes}
 use Rattle.program.specs.Program.{Program}
 use Rattle.program.specs.Chosen.{sizes_of, numbers}
 use Rattle.program.specs.Checks.{Row, row}
-use Rattle.program.specs.declared.Length.{Length}
-use Rattle.program.specs.declared.Length.TheVariants.{NotAsked, Of}
+use Rattle.program.specs.Checks.{Length}
+use Rattle.std.specs.Prelude.{None, Some}
 use Rattle.exchange.specs.Changes.{Exchange, Change, step, whole, Form, EditLine, ExchangeText}
 use Rattle.exchange.specs.Changing.{with_nodes}
 use Rattle.exchange.specs.declared.lengths.Lengths.{Lengths}
@@ -38,5 +38,5 @@ measured_rows (whole x) p second work = length_rows (lengths_of (sizes_of p) (si
 
 -- the working buffer as it is judged before the line or text: that of an exchange is not
 abbrev pub work_first : Form → ℕ → Length
-work_first EditLine work = Of work
-work_first ExchangeText work = NotAsked
+work_first EditLine work = Some work
+work_first ExchangeText work = None

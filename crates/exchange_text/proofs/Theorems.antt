@@ -6,8 +6,8 @@ use mathlib.Core.List.{List}
 use native.Mathlib.Omega.{arith}
 use Rattle.program.specs.Program.{Program}
 use Rattle.edit_line.specs.EditLines.{wanted_edit}
-use Rattle.edit.specs.declared.EditRead.{EditRead}
-use Rattle.edit.specs.declared.EditRead.TheVariants as edit
+use Rattle.edit.specs.EditReads.{EditRead}
+use Rattle.edit.specs.EditReads as edit
 use Rattle.edit_line.proofs.EditRefusalNumbers.{wanted_number}
 use Rattle.edit_line.proofs.Theorems.{wanted_applies}
 use Rattle.exchange.specs.Changes.{Change, step, Read, Refused, Form, EditLine, ExchangeText}

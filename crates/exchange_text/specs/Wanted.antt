@@ -1,8 +1,8 @@
 -- The change that a call is handed: an edit line, or the text of an exchange.
 use Rattle.std.specs.Prelude.{ℕ, List}
 use Rattle.program.specs.Program.{Program}
-use Rattle.edit.specs.declared.EditRead.{EditRead}
-use Rattle.edit.specs.declared.EditRead.TheVariants as edit
+use Rattle.edit.specs.EditReads.{EditRead}
+use Rattle.edit.specs.EditReads as edit
 use Rattle.edit_line.specs.EditLines.{wanted_edit}
 use Rattle.exchange.specs.Changes.{step, ChangeRead, Read, Refused, Form, EditLine, ExchangeText}
 use Rattle.exchange_text.specs.ExchangeText.{wanted_exchange}

@@ -5,7 +5,7 @@ ghost use Rattle.std.specs.Prelude.{◌≡◌, ◌≤◌, length};
 ghost use Rattle.input.specs.Input.{input_size};
 ghost use Rattle.program.specs.Sizes.{marks_most};
 ghost use Rattle.program.specs.Chosen.{sizes_of, numbers};
-ghost use Rattle.program.specs.declared.Verdict.TheVariants.{Accepted};
+ghost use Rattle.program.specs.Verdicts.{Accepted};
 ghost use Rattle.program.specs.Reading.{read_file};
 ghost use Rattle.analysis.specs.Answers.{analyze_answer, marks_after};
 ghost use Rattle.transcript.specs.Transcript.{held_of, nothing, TurnGives, file_of, begun_by, begun};
@@ -48,7 +48,7 @@ fn marks_length(file: &[u8]) -> usize
     ensures { (result ≤ marks_most) × ((read_file file.now).verdict ≡ Accepted
         → result ≡ numbers (sizes_of (read_file file.now).program)) }
 {
-    let r = checked_program(file, Length::NotAsked, Length::NotAsked, Length::NotAsked);
+    let r = checked_program(file, None, None, None);
     let v = r.verdict;
     match v {
         Verdict::Refused(_n, _line) => 0,

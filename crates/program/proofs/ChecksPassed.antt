@@ -12,25 +12,25 @@ use Rattle.program.specs.Chosen.{sizes_of, numbers}
 use Rattle.program.specs.WellFormed.{WellFormed}
 use Rattle.program.specs.Reading.{read_file}
 use Rattle.program.specs.Checks.{Row, row, first_met, verdict_of, other_than, under, buffer_rows, checked_by, checked, HasLength, HasRoom, Sized}
-use Rattle.program.specs.declared.Verdict.{Verdict}
-use Rattle.program.specs.declared.Verdict.TheVariants.{Accepted, Refused}
-use Rattle.program.specs.declared.Length.{Length}
-use Rattle.program.specs.declared.Length.TheVariants.{NotAsked, Of}
+use Rattle.program.specs.Verdicts.{Verdict}
+use Rattle.program.specs.Verdicts.{Accepted, Refused}
+use Rattle.program.specs.Checks.{Length}
+use Rattle.std.specs.Prelude.{None, Some}
 use Rattle.program.proofs.Theorems.{accepted_well_formed, few_lines}
 
 -- ---- one length
 
 pub has_length : (size : ℕ) (l : Length) → other_than size l ≡ false → HasLength size l
-has_length size NotAsked e = tt
-has_length size (Of n) e = go (eqb n size) refl e
+has_length size None e = tt
+has_length size (Some n) e = go (eqb n size) refl e
   where
     go : (t : Bool) → eqb n size ≡ t → not t ≡ false → n ≡ size
     go true h f = eqb-true n size h
     go false h f = absurd (let z : ◌≡◌ {A = ℕ} 0 1 = cc in omega arith)
 
 has_room : (size : ℕ) (l : Length) → under size l ≡ false → HasRoom size l
-has_room size NotAsked e = tt
-has_room size (Of n) e = ltb-false n size e
+has_room size None e = tt
+has_room size (Some n) e = ltb-false n size e
 
 -- ---- the verdict
 

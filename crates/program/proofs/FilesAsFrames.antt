@@ -14,7 +14,7 @@ use Rattle.text.proofs.LinesSplit.{after_line, lines_hex}
 use Rattle.program.specs.Writing.{text}
 use Rattle.program.specs.Reading.{Progress, Outcome, refused, decided, judge, after, finished, read_from, row_first, rows_from}
 use Rattle.rows.specs.Rows.{TableRow}
-use Rattle.program.specs.declared.Verdict.TheVariants.{Accepted}
+use Rattle.program.specs.Verdicts.{Accepted}
 use Rattle.program.proofs.ReadingTurns.{turn, has_numbers}
 
 -- reading, on frames

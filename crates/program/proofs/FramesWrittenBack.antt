@@ -21,7 +21,7 @@ use Rattle.program.specs.WellFormed.{WellFormed, WellFormedRows}
 use Rattle.program.specs.Writing.{nodes_frames, transition_frames, frames_with, text, written_with}
 use Rattle.program.specs.Reading.{Progress, start, transition_in, row_in, more, accepted, refused, judge, program_after, after_as, after, pairs_of, with_transitions, sizes_decide, table_decides, finished, read_from, read_file, rows_from, rows_in}
 use Rattle.rows.specs.Rows.{TableRow, table_refusal, table_transitions}
-use Rattle.program.specs.declared.Verdict.TheVariants.{Accepted}
+use Rattle.program.specs.Verdicts.{Accepted}
 use Rattle.program.proofs.SectionsAscend.{Rising, rising_ascending, none_yet}
 use Rattle.program.proofs.LinesJudged.{padded, bytes_small, either, byte_of, kind_ordered, by_kind, Met, met}
 use Rattle.program.proofs.ProgressSound.{Begun, Sound, start_sound, after_sound, ended_begun, sound_accepted}

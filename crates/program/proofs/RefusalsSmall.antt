@@ -16,8 +16,8 @@ use Rattle.rows.specs.Rows.{TableRow, table_refusal, table_transitions}
 use Rattle.rows.proofs.TableRefused.{refusal_small, refusal_large}
 use Rattle.program.specs.Program.{Program}
 use Rattle.program.specs.Reading.{Progress, accepted, refused, pairs_of, with_transitions, sizes_decide, table_decides, finished, lowest, ordered, ranged, full, miscounted, judge_as, judge, after, read_from}
-use Rattle.program.specs.declared.Verdict.{Verdict}
-use Rattle.program.specs.declared.Verdict.TheVariants.{Accepted, Refused}
+use Rattle.program.specs.Verdicts.{Verdict}
+use Rattle.program.specs.Verdicts.{Accepted, Refused}
 use Rattle.program.proofs.LinesJudged.{padded, either, positive}
 use Rattle.program.proofs.ProgressSound.{Sound, after_sound, frames_few}
 

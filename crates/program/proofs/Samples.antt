@@ -10,7 +10,7 @@ use Rattle.automaton.specs.Automaton.{Transition}
 use Rattle.program.specs.Program.{Program}
 use Rattle.program.specs.Chosen.{largest, numbers}
 use Rattle.program.specs.Sample.{bytes, header, F}
-use Rattle.program.specs.declared.Verdict.TheVariants.{Accepted}
+use Rattle.program.specs.Verdicts.{Accepted}
 use Rattle.program.specs.Writing.{nodes_frames, frames_with, text, written_with, written}
 use Rattle.program.specs.Reading.{accepted, refused, refused_for, full, judge_as, judge, after_as, after, read_from, read_file}
 use Rattle.program.specs.Frames.{row_frame}

@@ -12,7 +12,7 @@ use Rattle.rows.specs.Rows.{TableRow}
 use Rattle.program.specs.WellFormed.{All, WellFormed, WellFormedRows}
 use Rattle.program.specs.Writing.{written_with, written}
 use Rattle.program.specs.Reading.{start, Outcome, accepted, read_file, rows_from, rows_in}
-use Rattle.program.specs.declared.Verdict.TheVariants.{Accepted, Refused}
+use Rattle.program.specs.Verdicts.{Accepted, Refused}
 use Rattle.program.proofs.ProgramLimits.{written_short}
 use Rattle.program.proofs.ProgressSound.{start_sound}
 use Rattle.program.proofs.RefusalsSmall.{Small, small_refusals}

@@ -4,10 +4,9 @@ use Rattle.std.specs.Prelude.{ℕ, ◌≤◌, ◌≡◌, Bool, false, cond, not,
 use Rattle.program.specs.Sizes.{output_size}
 use Rattle.program.specs.Chosen.{sizes_of, numbers}
 use Rattle.program.specs.Reading.{read_file}
-use Rattle.program.specs.declared.Verdict.{Verdict}
-use Rattle.program.specs.declared.Verdict.TheVariants.{Accepted, Refused}
-use Rattle.program.specs.declared.Length.{Length}
-use Rattle.program.specs.declared.Length.TheVariants.{NotAsked, Of}
+use Rattle.program.specs.Verdicts.{Verdict}
+use Rattle.program.specs.Verdicts.{Accepted, Refused}
+use Rattle.std.specs.Prelude.{Option, None, Some}
 
 -- ---- rows of the table of refusals
 
@@ -35,15 +34,19 @@ followed_by (Refused n line) v = Refused n line
 
 -- ---- the rows of lengths: a buffer that a call does not have meets none
 
+-- the length of a buffer that a call is lent; or the call has no such buffer
+abbrev pub Length : Type 0
+Length = Option ℕ
+
 -- there is such a buffer, and it has another length than this
 abbrev pub other_than : ℕ → Length → Bool
-other_than size NotAsked = false
-other_than size (Of n) = not (eqb n size)
+other_than size None = false
+other_than size (Some n) = not (eqb n size)
 
 -- there is such a buffer, and it is shorter than this
 abbrev pub under : ℕ → Length → Bool
-under size NotAsked = false
-under size (Of n) = ltb n size
+under size None = false
+under size (Some n) = ltb n size
 
 -- size is how many configurations of the file's program have a number
 abbrev pub buffer_rows : ℕ → Length → Length → Length → List Row
@@ -69,12 +72,12 @@ checked file marks output work =
 -- ---- what passing these checks says of the buffers
 
 abbrev pub HasLength : ℕ → Length → Type 0
-HasLength size NotAsked = Unit
-HasLength size (Of n) = n ≡ size
+HasLength size None = Unit
+HasLength size (Some n) = n ≡ size
 
 abbrev pub HasRoom : ℕ → Length → Type 0
-HasRoom size NotAsked = Unit
-HasRoom size (Of n) = size ≤ n
+HasRoom size None = Unit
+HasRoom size (Some n) = size ≤ n
 
 -- each buffer that there is has its size
 pub record Sized (size : ℕ) (marks output work : Length) : Type 0 where

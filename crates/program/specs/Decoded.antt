@@ -1,11 +1,9 @@
 -- The program as it is kept by value, and the program that it stands for.
 use Rattle.std.specs.Prelude.{ℕ, ◌/◌, ◌%◌, List, map, take}
 use Rattle.automaton.specs.Decoded.{automaton_of}
-use Rattle.rows.specs.Rows.{Pair}
 use Rattle.program.specs.Program.{Edge, Program}
 use Rattle.program.specs.declared.Nodes.{Nodes}
 use Rattle.program.specs.declared.DecodedProgram.{DecodedProgram}
-use Rattle.program.specs.declared.FaultyPair.{FaultyPair}
 use Rattle.program.specs.declared.edges.Edges.{Edges}
 use Rattle.program.specs.declared.edges.DecodedEdge.{DecodedEdge}
 
@@ -32,6 +30,3 @@ program_of d =
       edges = map edge_of (edge_keys_of d.edges);
       automaton = automaton_of d.automaton;
     }
-
-abbrev pub pair_of : FaultyPair → Pair
-pair_of x = record { state = x.state; action = x.action }

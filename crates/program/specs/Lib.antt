@@ -4,8 +4,10 @@ pub mod Chosen
 pub mod Frames
 pub mod Writing
 pub mod WellFormed
+pub mod Verdicts
 pub mod Reading
 pub mod Checks
 pub mod Decoded
+pub mod Refusals
 pub mod RoomParts
 pub mod Sample

@@ -11,8 +11,8 @@ use Rattle.program.specs.Program.{Edge, Program, no_program, within, nodes_fit, 
 use Rattle.program.specs.Program.{edge_fits, transition_fits}
 use Rattle.program.specs.Chosen.{sizes_fit}
 use Rattle.program.specs.Frames.{size, num, kind, packed, word, rest, key_of}
-use Rattle.program.specs.declared.Verdict.{Verdict}
-use Rattle.program.specs.declared.Verdict.TheVariants.{Accepted, Refused}
+use Rattle.program.specs.Verdicts.{Verdict}
+use Rattle.program.specs.Verdicts.{Accepted, Refused}
 
 -- what is known after some frames: the last one's key (0 before the first), how many there were, whether the last was
 -- an end frame, the rows so far, and the program so far

@@ -7,15 +7,15 @@ use Rattle.program.specs.Program.{Program}
 use Rattle.program.specs.Chosen.{sizes_of}
 use Rattle.program.specs.Reading.{read_file}
 use Rattle.program.specs.Decoded.{program_of}
-use Rattle.program.specs.declared.Verdict.{Verdict}
-use Rattle.program.specs.declared.Length.TheVariants.{NotAsked, Of}
+use Rattle.program.specs.Verdicts.{Verdict}
+use Rattle.std.specs.Prelude.{None, Some}
 use Rattle.checks.specs.Checked.{Checked}
 use Rattle.program.specs.declared.Reading.{Reading}
 use Rattle.reach.specs.Configurations.{none_set}
 use Rattle.analysis.specs.Answers.{checked_marks, on_success, work_after}
 use Rattle.prune.specs.Pruning.{Pruned}
 
-pub prune_answered : (file marks work : List ℕ) {r : Reading} → Checked file (Of (length marks)) NotAsked (Of (length work)) r → {v : Verdict} → r.verdict ≡ v
+pub prune_answered : (file marks work : List ℕ) {r : Reading} → Checked file (Some (length marks)) None (Some (length work)) r → {v : Verdict} → r.verdict ≡ v
     → (new : List ℕ) {left : List ℕ} → Pruned v (program_of r.program) marks new → left ≡ on_success v (none_set (sizes_of (program_of r.program))) work
     → (v ≡ checked_marks file marks work) × Pruned (checked_marks file marks work) (read_file file).program marks new × (left ≡ work_after file marks work)
 unfolding work_after

@@ -4,8 +4,8 @@ use Rattle.std.specs.Prelude.{ℕ, ◌≡◌, List}
 use Rattle.program.specs.declared.sizes.Sizes.{Sizes}
 use Rattle.program.specs.Chosen.{sizes_of}
 use Rattle.program.specs.Program.{Program}
-use Rattle.program.specs.declared.Verdict.{Verdict}
-use Rattle.program.specs.declared.Verdict.TheVariants.{Accepted, Refused}
+use Rattle.program.specs.Verdicts.{Verdict}
+use Rattle.program.specs.Verdicts.{Accepted, Refused}
 use Rattle.reach.specs.Configurations.{Set}
 use Rattle.reach.specs.Reachable.{Derivable, Initial}
 use Rattle.reach.specs.Marks.{Marked, Shows}

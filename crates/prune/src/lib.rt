@@ -244,9 +244,9 @@ pub fn prune(file: &[u8], marks: &mut [u8], work: &mut [u8]) -> Verdict
         (read_file file.now).program marks.old marks.new
         × (work.new ≡ work_after file.now marks.old work.old) }
 {
-    let marks_length = Length::Of(marks.len());
-    let work_length = Length::Of(work.len());
-    let r = checked_program(file, marks_length, Length::NotAsked, work_length);
+    let marks_length = Some(marks.len());
+    let work_length = Some(work.len());
+    let r = checked_program(file, marks_length, None, work_length);
     let v = r.verdict;
     match v {
         Verdict::Refused(n, line) => Verdict::Refused(n, line),

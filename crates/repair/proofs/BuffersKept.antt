@@ -8,8 +8,8 @@ use lib.Dec.{eqb}
 use Rattle.program.specs.Program.{Program}
 use Rattle.program.specs.Checks.{first_met}
 use Rattle.program.specs.Reading.{read_file}
-use Rattle.program.specs.declared.Verdict.{Verdict}
-use Rattle.program.specs.declared.Verdict.TheVariants as verdict
+use Rattle.program.specs.Verdicts.{Verdict}
+use Rattle.program.specs.Verdicts as verdict
 use Rattle.writer.specs.Answers.{refusal}
 use Rattle.analysis.specs.Answers.{owned}
 use Rattle.exchange.specs.Changes.{Exchange, Change, step, whole, ChangeRead, Read, Refused, Form, ExchangeText}

@@ -11,8 +11,8 @@ use borrow.Author.Tests.{ne_eqb}
 use Rattle.program.specs.Program.{Program}
 use Rattle.program.specs.Reading.{read_file}
 use Rattle.program.specs.Decoded.{program_of}
-use Rattle.program.specs.declared.Verdict.TheVariants as verdict
-use Rattle.program.specs.declared.Length.{Length}
+use Rattle.program.specs.Verdicts as verdict
+use Rattle.program.specs.Checks.{Length}
 use Rattle.program.proofs.ChecksPassed.{few_checks}
 use Rattle.checks.specs.Checked.{Checked}
 use Rattle.program.specs.declared.Reading.{Reading}
@@ -22,8 +22,8 @@ use Rattle.callgraph.specs.Components.{Bits}
 use Rattle.exchange.specs.Changes.{Change, step, ChangeRead, Read, Form, EditLine}
 use Rattle.edit_line.specs.EditLines.{wanted_edit}
 use Rattle.edit.specs.declared.Edit.{Edit}
-use Rattle.edit.specs.declared.EditRead.{EditRead}
-use Rattle.edit.specs.declared.EditRead.TheVariants as edit
+use Rattle.edit.specs.EditReads.{EditRead}
+use Rattle.edit.specs.EditReads as edit
 use Rattle.exchange_text.specs.Wanted.{of_edit, wanted_change}
 use Rattle.exchange_text.proofs.Theorems.{change_number}
 use Rattle.gained.specs.Parts.{FlagsOf}

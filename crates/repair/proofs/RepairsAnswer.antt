@@ -12,22 +12,22 @@ use Rattle.program.specs.WellFormed.{WellFormed}
 use Rattle.program.specs.Writing.{written}
 use Rattle.program.specs.Decoded.{program_of}
 use Rattle.program.specs.Checks.{first_met}
-use Rattle.program.specs.declared.Verdict.{Verdict}
-use Rattle.program.specs.declared.Verdict.TheVariants as verdict
-use Rattle.program.specs.declared.Length.TheVariants.{Of}
+use Rattle.program.specs.Verdicts.{Verdict}
+use Rattle.program.specs.Verdicts as verdict
+use Rattle.std.specs.Prelude.{Some}
 use Rattle.program.proofs.Theorems.{written_limited}
 use Rattle.checks.specs.Checked.{Checked}
 use Rattle.program.specs.declared.Reading.{Reading}
 use Rattle.reach.specs.Configurations.{none_set}
 use Rattle.analysis.specs.Answers.{owned}
-use Rattle.writer.specs.declared.WriteAnswer.TheVariants.{Written, Refused}
-use Rattle.writer.specs.declared.WriteAnswer.{WriteAnswer}
+use Rattle.writer.specs.WriteAnswers.{Written, Refused}
+use Rattle.writer.specs.WriteAnswers.{WriteAnswer}
 use Rattle.reach.specs.Marks.{fresh_at}
 use Rattle.edit.specs.Editing.{edited_program, Applies}
 use Rattle.edit_line.specs.EditLines.{wanted_edit}
 use Rattle.edit.specs.declared.Edit.{Edit}
-use Rattle.edit.specs.declared.EditRead.{EditRead}
-use Rattle.edit.specs.declared.EditRead.TheVariants as edit
+use Rattle.edit.specs.EditReads.{EditRead}
+use Rattle.edit.specs.EditReads as edit
 use Rattle.edit.proofs.Theorems.{applied_well_formed}
 use Rattle.exchange.specs.Changes.{step, Form, EditLine}
 use Rattle.exchange.specs.Lengths.{work_first}
@@ -76,7 +76,7 @@ module _ (e : Edit) (p : Program) (output : List ℕ) where
 -- ---- the checks before
 
 module _ (k : Form) (file marks text output work second : List ℕ) {r : Reading} where
-  pub checked_answer : Checked file (Of (length marks)) (Of (length output)) (work_first k (length work)) r
+  pub checked_answer : Checked file (Some (length marks)) (Some (length output)) (work_first k (length work)) r
       → {v : Verdict} → r.verdict ≡ v → repaired_by k v (program_of r.program) marks text output work second ≡ repaired k file marks text output work second
   unfolding repaired
   checked_answer x h = rw (← x.verdict, h, x.program) refl

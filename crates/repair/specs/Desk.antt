@@ -1,8 +1,8 @@
 -- What is kept from one repair call to the next: a file and marks.
 use Rattle.std.specs.Prelude.{ℕ, List, take}
 use Rattle.program.specs.Reading.{read_file}
-use Rattle.writer.specs.declared.WriteAnswer.{WriteAnswer}
-use Rattle.writer.specs.declared.WriteAnswer.TheVariants.{Written, Refused}
+use Rattle.writer.specs.WriteAnswers.{WriteAnswer}
+use Rattle.writer.specs.WriteAnswers.{Written, Refused}
 use Rattle.reach.specs.Marks.{fresh_marks}
 use Rattle.repair.specs.Repairs.{After}
 

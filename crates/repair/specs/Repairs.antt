@@ -6,11 +6,11 @@ use Rattle.program.specs.Program.{Program}
 use Rattle.program.specs.Reading.{read_file}
 use Rattle.program.specs.Checks.{first_met, verdict_of, checked}
 use Rattle.program.specs.Writing.{written}
-use Rattle.program.specs.declared.Verdict.{Verdict}
-use Rattle.program.specs.declared.Verdict.TheVariants as verdict
-use Rattle.program.specs.declared.Length.TheVariants.{Of}
-use Rattle.writer.specs.declared.WriteAnswer.{WriteAnswer}
-use Rattle.writer.specs.declared.WriteAnswer.TheVariants.{Written, Refused}
+use Rattle.program.specs.Verdicts.{Verdict}
+use Rattle.program.specs.Verdicts as verdict
+use Rattle.std.specs.Prelude.{Some}
+use Rattle.writer.specs.WriteAnswers.{WriteAnswer}
+use Rattle.writer.specs.WriteAnswers.{Written, Refused}
 use Rattle.reach.specs.Marks.{fresh_marks}
 use Rattle.analysis.specs.Answers.{owned}
 use Rattle.callgraph.specs.Components.{Bits}
@@ -19,8 +19,8 @@ use Rattle.exchange.specs.Changing.{changed_program}
 use Rattle.exchange.specs.Lengths.{work_first, measured_rows}
 use Rattle.exchange_text.specs.Wanted.{wanted_change}
 use Rattle.inside_out.specs.Reanalyzed.{ReanalyzedBy}
-use Rattle.repair.specs.declared.RepairAnswer.{RepairAnswer}
-use Rattle.repair.specs.declared.RepairAnswer.TheVariants as repair
+use Rattle.repair.specs.RepairAnswers.{RepairAnswer}
+use Rattle.repair.specs.RepairAnswers as repair
 
 -- the answer, and the lent bytes afterwards; `second` is the second buffer of an exchange
 pub record After : Type 0 where
@@ -66,7 +66,7 @@ repaired_to (whole x) p marks output work second =
 
 abbrev pub checked_repair : Form → List ℕ → List ℕ → List ℕ → List ℕ → Verdict
 checked_repair k file marks output work =
-    checked file (Of (length marks)) (Of (length output)) (work_first k (length work))
+    checked file (Some (length marks)) (Some (length output)) (work_first k (length work))
 
 -- the marks (17)
 abbrev pub owned_by : Verdict → Change → Program → List ℕ → List ℕ → List ℕ → List ℕ → After

@@ -109,9 +109,9 @@ fn repair_file(
         (wanted_change EditLine (read_file file.now).program text.now)
         (read_file file.now).program (reanalyzed result)) }
 {
-    let marks_length = Length::Of(marks.len());
-    let output_length = Length::Of(output.len());
-    let work_length = Length::Of(work.len());
+    let marks_length = Some(marks.len());
+    let output_length = Some(output.len());
+    let work_length = Some(work.len());
     let r = checked_program(file, marks_length, output_length, work_length);
     let v = r.verdict;
     match v {

@@ -17,9 +17,9 @@ use Rattle.program.specs.Chosen.{sizes_of, numbers, Admitted}
 use Rattle.program.specs.Program.{Program}
 use Rattle.program.specs.Writing.{text}
 use Rattle.program.specs.Decoded.{program_of}
-use Rattle.program.specs.declared.Verdict.{Verdict}
-use Rattle.program.specs.declared.Verdict.TheVariants as verdict
-use Rattle.program.specs.declared.Length.TheVariants.{NotAsked, Of}
+use Rattle.program.specs.Verdicts.{Verdict}
+use Rattle.program.specs.Verdicts as verdict
+use Rattle.std.specs.Prelude.{None, Some}
 use Rattle.checks.specs.Checked.{Checked}
 use Rattle.program.specs.declared.Reading.{Reading}
 use Rattle.reach.specs.Configurations.{Usable, state_of}
@@ -83,7 +83,7 @@ pub whole_block : {out : List ℕ} {r : ℕ} {Z : Sizes} (p : Program) (marks o 
 whole_block {out} {r} p marks o e h x =
     rw (le-ltb (length o) block_size h) (subst (λ (z : Sizes). Printed (block_at z p marks) o out r) e x)
 
-pub block-text : (file marks : List ℕ) (room : ℕ) {r : Reading} → Checked file (Of (length marks)) NotAsked NotAsked r → {v : Verdict} → r.verdict ≡ v
+pub block-text : (file marks : List ℕ) (room : ℕ) {r : Reading} → Checked file (Some (length marks)) None None r → {v : Verdict} → r.verdict ≡ v
     → block_text file marks room ≡ block_by v (program_of r.program) marks room
 unfolding block_text
 block-text file marks room k h = rw (← k.verdict, h, k.program)

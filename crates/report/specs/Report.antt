@@ -11,16 +11,16 @@ use Rattle.program.specs.Program.{Program}
 use Rattle.program.specs.Reading.{read_file}
 use Rattle.program.specs.Checks.{checked}
 use Rattle.program.specs.Writing.{text}
-use Rattle.program.specs.declared.Verdict.{Verdict}
-use Rattle.program.specs.declared.Verdict.TheVariants as verdict
-use Rattle.program.specs.declared.Length.TheVariants.{NotAsked, Of}
+use Rattle.program.specs.Verdicts.{Verdict}
+use Rattle.program.specs.Verdicts as verdict
+use Rattle.std.specs.Prelude.{None, Some}
 use Rattle.reach.specs.Marks.{fresh_marks, violations_from}
 use Rattle.base.specs.Flags.{count_set}
 use Rattle.listing.specs.Listing.{frame_at, line_size}
 use Rattle.edit.specs.Editing.{edited_program}
 use Rattle.edit_line.specs.EditLines.{wanted_edit}
-use Rattle.edit.specs.declared.EditRead.{EditRead}
-use Rattle.edit.specs.declared.EditRead.TheVariants.{Read, Refused}
+use Rattle.edit.specs.EditReads.{EditRead}
+use Rattle.edit.specs.EditReads.{Read, Refused}
 
 -- ---- what is printed
 
@@ -89,7 +89,7 @@ block_by (verdict.Refused n line) p marks room = []
 
 unfoldable pub block_text : List ℕ → List ℕ → ℕ → List ℕ
 block_text file marks room =
-    block_by (checked file (Of (length marks)) NotAsked NotAsked) (read_file file).program marks room
+    block_by (checked file (Some (length marks)) None None) (read_file file).program marks room
 
 -- ---- a line of a refusal, as it is asked for: into an output
 

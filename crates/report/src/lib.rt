@@ -23,8 +23,8 @@ pub fn block(file: &[u8], marks: &[u8], output: &mut [u8]) -> usize
     ensures { Printed (block_text file.now marks.now (length output.old))
         output.old output.new result }
 {
-    let marks_length = Length::Of(marks.len());
-    let r = checked_program(file, marks_length, Length::NotAsked, Length::NotAsked);
+    let marks_length = Some(marks.len());
+    let r = checked_program(file, marks_length, None, None);
     let v = r.verdict;
     match v {
         Verdict::Refused(_n, _line) => 0,

@@ -15,10 +15,10 @@ use Rattle.program.specs.Program.{Program}
 use Rattle.program.specs.WellFormed.{WellFormed}
 use Rattle.program.specs.Writing.{written}
 use Rattle.program.specs.Checks.{row, first_met, verdict_of}
-use Rattle.program.specs.declared.Verdict.{Verdict}
-use Rattle.program.specs.declared.Verdict.TheVariants as verdict
+use Rattle.program.specs.Verdicts.{Verdict}
+use Rattle.program.specs.Verdicts as verdict
 use Rattle.program.proofs.Theorems.{written_limited}
-use Rattle.writer.specs.declared.WriteAnswer.TheVariants.{Written, Refused}
+use Rattle.writer.specs.WriteAnswers.{Written, Refused}
 use Rattle.reach.specs.Marks.{fresh_at}
 use Rattle.analysis.specs.Answers.{owned}
 use Rattle.exchange.specs.Changes.{Exchange, whole, ChangeRead, Read, Refused as Denied}

@@ -6,12 +6,12 @@ use Prim.Native.Nat.{ℕ}
 use lib.Dec.{eqb}
 use Rattle.program.specs.Program.{Program}
 use Rattle.program.specs.Reading.{Outcome, read_file}
-use Rattle.program.specs.declared.Verdict.{Verdict}
+use Rattle.program.specs.Verdicts.{Verdict}
 use Rattle.program.specs.Checks.{first_met}
 use Rattle.exchange.specs.Changes.{Exchange, step, whole, ChangeRead, Read, Refused}
 use Rattle.exchange_text.specs.ExchangeText.{text_lines, exchange_rows, exchange_in, exchange_unless, exchange_from, wanted_exchange}
-use Rattle.rewrite.specs.declared.RoomAnswer.{RoomAnswer}
-use Rattle.rewrite.specs.declared.RoomAnswer.TheVariants as room
+use Rattle.rewrite.specs.RoomAnswers.{RoomAnswer}
+use Rattle.rewrite.specs.RoomAnswers as room
 use Rattle.rewrite.specs.Room.{room_of, room_unless, room_wanted, room_by, room_answer}
 
 -- by the change that was read; a text never says an edit

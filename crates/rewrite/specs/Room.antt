@@ -4,13 +4,13 @@ use Rattle.program.specs.Program.{Program}
 use Rattle.program.specs.Chosen.{sizes_of}
 use Rattle.program.specs.Reading.{read_file}
 use Rattle.program.specs.Checks.{first_met}
-use Rattle.program.specs.declared.Verdict.{Verdict}
-use Rattle.program.specs.declared.Verdict.TheVariants as verdict
+use Rattle.program.specs.Verdicts.{Verdict}
+use Rattle.program.specs.Verdicts as verdict
 use Rattle.exchange.specs.Changes.{Exchange}
 use Rattle.exchange_text.specs.ExchangeText.{text_lines, exchange_rows, exchange_in}
 use Rattle.exchange.specs.Lengths.{sizes_after, lengths_of}
-use Rattle.rewrite.specs.declared.RoomAnswer.{RoomAnswer}
-use Rattle.rewrite.specs.declared.RoomAnswer.TheVariants as room
+use Rattle.rewrite.specs.RoomAnswers.{RoomAnswer}
+use Rattle.rewrite.specs.RoomAnswers as room
 
 -- of an exchange that is not refused: the largest count of nodes (paper: P) of the new program, the length of its
 -- marks, and that of the working buffer, the longer of the old and the new one

@@ -179,9 +179,9 @@ fn exchange_file(
         (wanted_change ExchangeText (read_file file.now).program text.now)
         (read_file file.now).program (reanalyzed result)) }
 {
-    let marks_length = Length::Of(marks.len());
-    let output_length = Length::Of(output.len());
-    let r = checked_program(file, marks_length, output_length, Length::NotAsked);
+    let marks_length = Some(marks.len());
+    let output_length = Some(output.len());
+    let r = checked_program(file, marks_length, output_length, None);
     let v = r.verdict;
     match v {
         Verdict::Refused(n, at) => RepairAnswer::Refused(n, at),

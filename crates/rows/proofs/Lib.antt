@@ -4,6 +4,6 @@ pub mod RowsMet
 pub mod TableRefused
 pub mod FirstFaulty
 pub mod TableListed
-pub mod MeetingLoop
+pub mod RowsInTurn
 pub mod TableLoop
 pub mod Samples

@@ -2,15 +2,14 @@
 // state and an action.
 #![tactic(auto)]
 
-ghost use Rattle.std.specs.Prelude.{◌≡◌, cond, ◌&&◌, [], ◌∷◌, ◌++◌, map, ◌≤◌, ◌<◌, ltb, length, take};
+ghost use Rattle.std.specs.Prelude.{◌≡◌, ◌&&◌, [], ◌∷◌, ◌++◌, map, ◌≤◌, ◌<◌, ltb, length, IfOk, IfErr};
 ghost use Rattle.automaton.specs.Sizes.{max_states, max_actions};
 ghost use Rattle.rows.specs.Rows.{max_rows, no_bit_from, pairs, meets, times_met, pair_refusal, next_state};
-ghost use Rattle.rows.specs.Decoded.{row_of, row_keys_of, rows_of, Tabled};
+ghost use Rattle.rows.specs.Decoded.{row_of, row_keys_of, rows_of, pair_of, fault_pair, answer_number, Tabled};
 
 use automaton::sizes::MAX_TRANSITIONS;
-use automaton::transitions::{Transitions, no_transitions, transition_key};
+use automaton::transitions::{Transitions, transition_key};
 use base::bits::has_bit;
-use base::choose;
 use tables::{in_use, with_key};
 
 pub const MAX_ROWS: usize = 256;
@@ -22,13 +21,18 @@ pub struct Rows {
     pub keys: [u64; MAX_ROWS],
 }
 
-// What a table is refused for, or 0, the pair that decides, 0 and 0 where there is none, and its transitions.
-#[derive(Clone, Copy)]
-pub struct Table {
-    pub refusal: u8,
+// The state and the action of a pair that a table is refused for.
+#[derive(Clone, Copy, Debug, PartialEq, Eq)]
+pub struct FaultyPair {
     pub state: u8,
     pub action: u8,
-    pub transitions: Transitions,
+}
+
+// Why a table is refused: no row meets a pair, or two rows or more do.
+#[derive(Clone, Copy, Debug, PartialEq, Eq)]
+pub enum TableFault {
+    NotMet(FaultyPair),
+    MetTwice(FaultyPair),
 }
 
 // How many rows meet a pair, and the next state that the first of them says.
@@ -93,85 +97,62 @@ pub fn row_fits(key: u64, states: u8, actions: u8) -> bool
 }
 
 // Whether the row that has this key has both bits of a pair.
-fn meets_pair(key: u64, q: u8, a: u8) -> bool
-    ensures { result ≡ meets (record { state = q; action = a }) (row_of key) }
+fn meets_pair(key: u64, pair: FaultyPair) -> bool
+    ensures { result ≡ meets (pair_of pair) (row_of key) }
 {
-    has_bit(q, key / 0x10000000000) & has_bit(a, key / 0x100 % 0x100000000)
+    has_bit(pair.state, key / 0x10000000000) & has_bit(pair.action, key / 0x100 % 0x100000000)
 }
 
-fn one_if(yes: bool) -> usize
-    ensures { result ≡ cond yes 1 0 }
+// What the rows say of a pair: the first of them that meets it says the next state.
+fn met_by(keys: &[u64], pair: FaultyPair) -> Met
+    ensures { (result.times ≡ times_met (pair_of pair) (map row_of keys.now))
+        × (result.next ≡ next_state (pair_of pair) (map row_of keys.now)) }
 {
-    if yes {
-        return 1;
-    }
-    0
-}
-
-// What the rows say of a pair. The last row is tried first, so that the next state is that of the first that meets it.
-fn met_by(keys: &[u64], count: usize, q: u8, a: u8) -> Met
-    ensures { (result.times ≡ times_met (record { state = q; action = a }) (map row_of (take count keys.now)))
-        × (result.next ≡ next_state (record { state = q; action = a }) (map row_of (take count keys.now))) }
-{
-    let mut times: usize = 0;
-    let mut next: u8 = 0;
-    let mut i = in_use(count, keys.len());
-    while 0 < i {
-        i = i - 1;
-        let key = keys[i];
-        let yes = meets_pair(key, q, a);
-        next = choose(yes, (key % 256) as u8, next);
-        times = times + one_if(yes);
+    let mut times = 0;
+    let mut next = 0;
+    for key in keys {
+        let meets = meets_pair(*key, pair);
+        if meets {
+            if times == 0 {
+                next = (*key % 256) as u8;
+            }
+            times += 1;
+        }
     }
     Met { times, next }
 }
 
-// What a pair is refused for that so many rows meet, or 0.
-fn pair_refusal(times: usize) -> u8
-    ensures { result ≡ pair_refusal times }
+// The next state that the rows say for a pair, where one row alone meets it.
+fn settled(met: Met, pair: FaultyPair) -> Result<u8, TableFault>
+    ensures refusal { answer_number result ≡ pair_refusal met.times }
+    ensures at_pair { IfErr result (λ e. fault_pair e ≡ pair_of pair) }
+    ensures next { IfOk result (λ s. s ≡ met.next) }
 {
-    if times == 0 {
-        return 19;
+    match met.times {
+        0 => Err(TableFault::NotMet(pair)),
+        1 => Ok(met.next),
+        _ => Err(TableFault::MetTwice(pair)),
     }
-    if times == 1 {
-        return 0;
-    }
-    20
 }
 
-// What a table is refused for and by which pair, and its transitions. The header has been judged, so that there is room
+// The transitions of a table, or why and for which pair it is refused. The header has been judged, so that there is room
 // for a transition for each pair: hence the `requires`.
-pub fn table_of(rows: Rows, states: u8, actions: u8) -> Table
+pub fn table_of(rows: Rows, states: u8, actions: u8) -> Result<Transitions, TableFault>
     requires { (states ≤ max_states) × (actions ≤ max_actions) }
     ensures { Tabled (rows_of rows) (pairs states actions) result }
 {
+    let used = row_count(rows);
     let row_keys = rows.keys;
-    let row_count = rows.count;
     let per_state = actions as usize;
-    let size = states as usize * per_state;
     let mut keys = [0u32; MAX_TRANSITIONS];
-    let mut i: usize = 0;
-    while i < size {
-        let q = (i / per_state) as u8;
-        let a = (i % per_state) as u8;
-        let met = met_by(&row_keys, row_count, q, a);
-        let refusal = pair_refusal(met.times);
-        if refusal != 0 {
-            let transitions = no_transitions();
-            return Table {
-                refusal,
-                state: q,
-                action: a,
-                transitions,
-            };
-        }
-        i = with_key(&mut keys, i, transition_key(q, a, met.next));
+    let mut count = 0;
+    for i in 0..states as usize * per_state {
+        let pair = FaultyPair {
+            state: (i / per_state) as u8,
+            action: (i % per_state) as u8,
+        };
+        let next = settled(met_by(&row_keys[..used], pair), pair)?;
+        count = with_key(&mut keys, i, transition_key(pair.state, pair.action, next));
     }
-    let transitions = Transitions { count: i, keys };
-    Table {
-        refusal: 0,
-        state: 0,
-        action: 0,
-        transitions,
-    }
+    Ok(Transitions { count, keys })
 }

@@ -18,7 +18,7 @@ use Rattle.reach.proofs.Numbers.{state_small}
 use Rattle.reach.proofs.ShapeKept.{marks-length}
 use Rattle.reach.proofs.MarksShown.{count_small}
 use Rattle.writer.specs.Parts.{RoomFor, Put}
-use Rattle.writer.specs.declared.WriteAnswer.TheVariants.{Written}
+use Rattle.writer.specs.WriteAnswers.{Written}
 use Rattle.writer.proofs.FramesPut.{put_both, long_append, long_one}
 use Rattle.listing.specs.Listing.{frame_at, listed_from, listing}
 use Rattle.listing.proofs.ListingPut.{frames_long}

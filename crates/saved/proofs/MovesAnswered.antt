@@ -10,13 +10,13 @@ use Rattle.program.specs.Program.{Program}
 use Rattle.program.specs.Chosen.{sizes_of}
 use Rattle.program.specs.Decoded.{program_of}
 use Rattle.program.specs.Checks.{row, first_met, verdict_of, followed_by}
-use Rattle.program.specs.declared.Verdict.{Verdict}
-use Rattle.program.specs.declared.Verdict.TheVariants as verdict
+use Rattle.program.specs.Verdicts.{Verdict}
+use Rattle.program.specs.Verdicts as verdict
 use Rattle.program.specs.declared.Reading.{Reading}
 use Rattle.reach.specs.Configurations.{none_set}
 use Rattle.analysis.specs.Answers.{same, on_success}
-use Rattle.writer.specs.declared.WriteAnswer.{WriteAnswer}
-use Rattle.writer.specs.declared.WriteAnswer.TheVariants.{Written, Refused}
+use Rattle.writer.specs.WriteAnswers.{WriteAnswer}
+use Rattle.writer.specs.WriteAnswers.{Written, Refused}
 use Rattle.saved.specs.Answers.{Way, own, moved, given_marks, late_rows, written_by, at_start, move_answer, move_output, move_work}
 use Rattle.saved.specs.Parts.{Wrote, Moved, CheckedEarly}
 

@@ -5,14 +5,14 @@ use Rattle.program.specs.Program.{Program}
 use Rattle.program.specs.Chosen.{sizes_of, numbers}
 use Rattle.program.specs.Reading.{read_file}
 use Rattle.program.specs.Checks.{Row, row, first_met, verdict_of, followed_by, other_than}
-use Rattle.program.specs.declared.Verdict.{Verdict}
-use Rattle.program.specs.declared.Verdict.TheVariants as verdict
-use Rattle.program.specs.declared.Length.{Length}
-use Rattle.program.specs.declared.Length.TheVariants.{NotAsked, Of}
+use Rattle.program.specs.Verdicts.{Verdict}
+use Rattle.program.specs.Verdicts as verdict
+use Rattle.program.specs.Checks.{Length}
+use Rattle.std.specs.Prelude.{None, Some}
 use Rattle.reach.specs.Configurations.{none_set}
 use Rattle.analysis.specs.Answers.{same, on_success}
-use Rattle.writer.specs.declared.WriteAnswer.{WriteAnswer}
-use Rattle.writer.specs.declared.WriteAnswer.TheVariants.{Written, Refused}
+use Rattle.writer.specs.WriteAnswers.{WriteAnswer}
+use Rattle.writer.specs.WriteAnswers.{Written, Refused}
 use Rattle.saved.specs.Saved.{old_sizes, too_large, old_marks, saved_text}
 
 -- over: old marks become frames; back: frames become old marks
@@ -34,8 +34,8 @@ moved back p = old_marks p
 
 -- how long the old marks are that are given: moving back, frames are
 abbrev pub given_marks : Way → List ℕ → Length
-given_marks over given = Of (length given)
-given_marks back given = NotAsked
+given_marks over given = Some (length given)
+given_marks back given = None
 
 -- before anything is touched
 abbrev pub early_rows : Program → Length → ℕ → List Row
@@ -45,7 +45,7 @@ early_rows p marks work =
     -- the old marks do not have 16,384 bytes
     ∷ row 9 (other_than (numbers old_sizes) marks)
     -- the working buffer does not have a byte for each configuration of the program, in its own sizes
-    ∷ row 11 (other_than (numbers (sizes_of p)) (Of work))
+    ∷ row 11 (other_than (numbers (sizes_of p)) (Some work))
     ∷ []
 
 -- then

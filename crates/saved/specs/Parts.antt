@@ -6,12 +6,12 @@ use Rattle.program.specs.Reading.{read_file}
 use Rattle.program.specs.WellFormed.{WellFormed}
 use Rattle.program.specs.Decoded.{program_of}
 use Rattle.program.specs.Checks.{row, first_met, verdict_of, followed_by, HasLength}
-use Rattle.program.specs.declared.Verdict.{Verdict}
-use Rattle.program.specs.declared.Verdict.TheVariants.{Accepted}
-use Rattle.program.specs.declared.Length.{Length}
+use Rattle.program.specs.Verdicts.{Verdict}
+use Rattle.program.specs.Verdicts.{Accepted}
+use Rattle.program.specs.Checks.{Length}
 use Rattle.program.specs.declared.Reading.{Reading}
 use Rattle.analysis.specs.Answers.{on_success}
-use Rattle.writer.specs.declared.WriteAnswer.{WriteAnswer}
+use Rattle.writer.specs.WriteAnswers.{WriteAnswer}
 use Rattle.saved.specs.Saved.{old_sizes, too_large}
 use Rattle.saved.specs.Answers.{Way, moved, early_rows, late_rows, written_by, at_start}
 

@@ -52,7 +52,7 @@ fn checked_early(file: &[u8], marks: Length, work: usize) -> Reading
     let refusal = early_refusal(
         is_too_large(program),
         other_than(OLD_MARKS_SIZE, marks),
-        other_than(size, Length::Of(work)),
+        other_than(size, Some(work)),
     );
     let verdict = followed_by(v, refusal);
     Reading {
@@ -115,7 +115,7 @@ pub fn marks_to_frames(file: &[u8], marks: &[u8], output: &mut [u8], work: &mut 
         work.old)
         × (work.new ≡ move_work over file.now marks.now work.old) }
 {
-    let given = Length::Of(marks.len());
+    let given = Some(marks.len());
     let r = checked_early(file, given, work.len());
     let v = r.verdict;
     match v {
@@ -140,7 +140,7 @@ pub fn frames_to_marks(
         work.old)
         × (work.new ≡ move_work back file.now frames.now work.old) }
 {
-    let r = checked_early(file, Length::NotAsked, work.len());
+    let r = checked_early(file, None, work.len());
     let v = r.verdict;
     match v {
         Verdict::Refused(n, line) => WriteAnswer::Refused(n, line),

@@ -17,25 +17,25 @@ use Rattle.program.specs.WellFormed.{WellFormed}
 use Rattle.program.specs.Reading.{Outcome, read_file}
 use Rattle.program.specs.Checks.{first_met, checked_by, checked, followed_by}
 use Rattle.program.specs.Writing.{written}
-use Rattle.program.specs.declared.Verdict.{Verdict}
-use Rattle.program.specs.declared.Verdict.TheVariants as verdict
-use Rattle.program.specs.declared.Length.TheVariants.{NotAsked, Of}
+use Rattle.program.specs.Verdicts.{Verdict}
+use Rattle.program.specs.Verdicts as verdict
+use Rattle.std.specs.Prelude.{None, Some}
 use Rattle.program.proofs.Theorems.{read_again, few_lines, accepted_well_formed}
 use Rattle.program.proofs.ChecksPassed.{passes}
-use Rattle.writer.specs.declared.WriteAnswer.{WriteAnswer}
-use Rattle.writer.specs.declared.WriteAnswer.TheVariants.{Written, Refused}
+use Rattle.writer.specs.WriteAnswers.{WriteAnswer}
+use Rattle.writer.specs.WriteAnswers.{Written, Refused}
 use Rattle.reach.specs.Sizes.{summaries, enough_iterations}
 use Rattle.reach.specs.Marks.{fresh_marks}
 use Rattle.reach.proofs.ShapeKept.{marks-length}
 use Rattle.analysis.specs.Answers.{limited, checked_limit, analyze_by, analyze_answer, marks_after}
 use Rattle.analysis.proofs.AnswersByChecks.{by_marks}
 use Rattle.analysis.proofs.LimitDecides.{enough_accepted}
-use Rattle.analysis.specs.declared.AnalyzeAnswer.TheVariants as analyzed
+use Rattle.analysis.specs.AnalyzeAnswers as analyzed
 use Rattle.edit.specs.Editing.{edited_program}
 use Rattle.edit_line.specs.EditLines.{wanted_edit}
 use Rattle.edit.specs.declared.Edit.{Edit}
-use Rattle.edit.specs.declared.EditRead.{EditRead}
-use Rattle.edit.specs.declared.EditRead.TheVariants as read
+use Rattle.edit.specs.EditReads.{EditRead}
+use Rattle.edit.specs.EditReads as read
 use Rattle.edit.proofs.Theorems.{applied_well_formed}
 use Rattle.edit_line.proofs.Theorems.{wanted_applies}
 use Rattle.exchange_text.specs.Wanted.{of_edit}
@@ -57,11 +57,11 @@ block_is file marks h n = rw (h, n, eq-eqb (numbers (sizes_of (read_file file).p
 -- ---- the analysis of a file
 
 -- no buffer is asked for
-pub unchecked : (file : List ℕ) → checked file NotAsked NotAsked NotAsked ≡ (read_file file).verdict
+pub unchecked : (file : List ℕ) → checked file None None None ≡ (read_file file).verdict
 unfolding checked first_met
 unchecked file = go (read_file file).verdict
   where
-    go : (v : Verdict) → checked_by v (numbers (sizes_of (read_file file).program)) NotAsked NotAsked NotAsked ≡ v
+    go : (v : Verdict) → checked_by v (numbers (sizes_of (read_file file).program)) None None None ≡ v
     go verdict.Accepted = refl
     go (verdict.Refused n line) = refl
 
@@ -87,7 +87,7 @@ module _ (file marks work : List ℕ) (m : (read_file file).verdict ≡ verdict.
       p = (read_file file).program
 
       go : (v : Verdict) → (read_file file).verdict ≡ v
-          → followed_by (checked_by v (numbers (sizes_of p)) (Of (length marks)) NotAsked (Of (length work))) (limited p most_iterations) ≡ v
+          → followed_by (checked_by v (numbers (sizes_of p)) (Some (length marks)) None (Some (length work))) (limited p most_iterations) ≡ v
       go verdict.Accepted e =
           let w = accepted_well_formed file e in
           let enough = enough_accepted p most_iterations (omega (arith, iterations_bound (sizes_of p) (usable p w) p, most-iterations (admitted p w))) in
@@ -157,7 +157,7 @@ module _ (line : List ℕ) (d : Desk) where
       go (verdict.Refused n at) h = refl
       go verdict.Accepted h =
           wanted_text p (wanted_edit p line)
-          (passes d.file (Of (length d.marks)) (Of (length no_output)) (Of (length (no_work (length d.marks)))) h).well_formed refl
+          (passes d.file (Some (length d.marks)) (Some (length no_output)) (Some (length (no_work (length d.marks)))) h).well_formed refl
 
 -- ---- what is held next
 

@@ -15,12 +15,12 @@ use Rattle.reach.proofs.ProgramInSizes.{usable}
 use Rattle.program.specs.Program.{Program}
 use Rattle.program.specs.Reading.{read_file}
 use Rattle.program.specs.Checks.{checked}
-use Rattle.program.specs.declared.Verdict.{Verdict}
-use Rattle.program.specs.declared.Verdict.TheVariants as verdict
-use Rattle.program.specs.declared.Length.TheVariants.{NotAsked, Of}
+use Rattle.program.specs.Verdicts.{Verdict}
+use Rattle.program.specs.Verdicts as verdict
+use Rattle.std.specs.Prelude.{None, Some}
 use Rattle.program.proofs.ChecksPassed.{passes}
-use Rattle.writer.specs.declared.WriteAnswer.{WriteAnswer}
-use Rattle.writer.specs.declared.WriteAnswer.TheVariants.{Written, Refused}
+use Rattle.writer.specs.WriteAnswers.{WriteAnswer}
+use Rattle.writer.specs.WriteAnswers.{Written, Refused}
 use Rattle.reach.specs.Marks.{fresh_marks}
 use Rattle.reach.proofs.ShapeKept.{marks-length}
 use Rattle.repair.specs.Repairs.{After}
@@ -42,12 +42,12 @@ file_line_long n line = simp (length-append, length_hex)
 
 block_short : (file marks : List ℕ) → length (block_text file marks 180235) ≤ 180235
 unfolding block_text
-block_short file marks = go (checked file (Of (length marks)) NotAsked NotAsked) refl
+block_short file marks = go (checked file (Some (length marks)) None None) refl
   where
-    go : (v : Verdict) → checked file (Of (length marks)) NotAsked NotAsked ≡ v → length (block_by v (read_file file).program marks 180235) ≤ 180235
+    go : (v : Verdict) → checked file (Some (length marks)) None None ≡ v → length (block_by v (read_file file).program marks 180235) ≤ 180235
     go verdict.Accepted e =
         let p = (read_file file).program in
-        let k = passes file (Of (length marks)) NotAsked NotAsked e in
+        let k = passes file (Some (length marks)) None None e in
         block_limited (sizes_of p) (usable p k.well_formed) (admitted p k.well_formed) p marks k.sized.marks-length
     go (verdict.Refused n line) e = omega arith
 

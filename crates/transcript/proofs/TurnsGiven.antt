@@ -9,8 +9,8 @@ use Rattle.program.specs.Chosen.{sizes_of}
 use Rattle.program.proofs.Theorems.{accepted_well_formed}
 use Rattle.reach.proofs.ProgramInSizes.{usable}
 use Rattle.program.specs.Reading.{read_file}
-use Rattle.program.specs.declared.Verdict.TheVariants as verdict
-use Rattle.writer.specs.declared.WriteAnswer.{WriteAnswer}
+use Rattle.program.specs.Verdicts as verdict
+use Rattle.writer.specs.WriteAnswers.{WriteAnswer}
 use Rattle.reach.specs.Marks.{fresh_marks}
 use Rattle.reach.proofs.ShapeKept.{marks-length}
 use Rattle.repair.specs.Repairs.{After}

@@ -11,12 +11,12 @@ use Rattle.program.specs.Program.{Program}
 use Rattle.program.specs.WellFormed.{WellFormed}
 use Rattle.program.specs.Reading.{Outcome, accepted, read_file}
 use Rattle.program.specs.Checks.{first_met, checked_by, checked}
-use Rattle.program.specs.declared.Verdict.{Verdict}
-use Rattle.program.specs.declared.Verdict.TheVariants as verdict
+use Rattle.program.specs.Verdicts.{Verdict}
+use Rattle.program.specs.Verdicts as verdict
 use Rattle.program.proofs.Theorems.{accepted_well_formed, accepted_as}
 use Rattle.program.specs.Chosen.{sizes_of, numbers}
 use Rattle.reach.proofs.ProgramInSizes.{usable}
-use Rattle.program.specs.declared.Length.TheVariants.{Of}
+use Rattle.std.specs.Prelude.{Some}
 use Rattle.exchange.specs.Changes.{EditLine}
 use borrow.Author.Tests.{eq-eqb}
 use Rattle.reach.specs.Marks.{fresh_marks}
@@ -24,8 +24,8 @@ use Rattle.reach.proofs.ShapeKept.{marks-length}
 use Rattle.analysis.proofs.AnswersByChecks.{same_self}
 use Rattle.edit.specs.Editing.{edited_program}
 use Rattle.edit_line.specs.EditLines.{wanted_edit}
-use Rattle.edit.specs.declared.EditRead.{EditRead}
-use Rattle.edit.specs.declared.EditRead.TheVariants as read
+use Rattle.edit.specs.EditReads.{EditRead}
+use Rattle.edit.specs.EditReads as read
 use Rattle.edit.proofs.Theorems.{applied_well_formed, edited_read}
 use Rattle.edit_line.proofs.Theorems.{wanted_applies}
 use Rattle.exchange_text.specs.Wanted.{of_edit}
@@ -65,7 +65,7 @@ module _ (p : Program) (d : Desk) (k : Holds p d) where
     where
       by : Outcome → List ℕ → After
       by o m =
-          repaired_by EditLine (checked_by o.verdict (numbers (sizes_of o.program)) (Of (length m)) (Of (length no_output)) (Of (length (no_work (length m)))))
+          repaired_by EditLine (checked_by o.verdict (numbers (sizes_of o.program)) (Some (length m)) (Some (length no_output)) (Some (length (no_work (length m)))))
           o.program m line no_output (no_work (length m)) []
 
   -- the turn of a line is what the definition prints for it

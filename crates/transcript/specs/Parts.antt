@@ -1,7 +1,7 @@
 -- What the functions that make up a turn promise of each other; nothing here has to be believed.
 use Rattle.std.specs.Prelude.{ℕ, ◌≤◌, ◌≡◌, List, length, take, drop}
-use Rattle.writer.specs.declared.WriteAnswer.{WriteAnswer}
-use Rattle.writer.specs.declared.WriteAnswer.TheVariants.{Written, Refused}
+use Rattle.writer.specs.WriteAnswers.{WriteAnswer}
+use Rattle.writer.specs.WriteAnswers.{Written, Refused}
 use Rattle.repair.specs.Desk.{Desk}
 use Rattle.report.specs.Report.{block_text, refused_edit, block_size}
 

@@ -4,11 +4,11 @@ use Rattle.std.specs.Prelude.{ℕ, ◌+◌, ◌<◌, ◌≤◌, ◌≡◌, cond,
 use Rattle.text.specs.Lines.{lines}
 use Rattle.program.specs.Program.{Program}
 use Rattle.program.specs.Reading.{read_file}
-use Rattle.program.specs.declared.Verdict.{Verdict}
-use Rattle.program.specs.declared.Verdict.TheVariants as verdict
+use Rattle.program.specs.Verdicts.{Verdict}
+use Rattle.program.specs.Verdicts as verdict
 use Rattle.program.specs.Sizes.{output_size}
-use Rattle.writer.specs.declared.WriteAnswer.{WriteAnswer}
-use Rattle.writer.specs.declared.WriteAnswer.TheVariants.{Written, Refused}
+use Rattle.writer.specs.WriteAnswers.{WriteAnswer}
+use Rattle.writer.specs.WriteAnswers.{Written, Refused}
 use Rattle.reach.specs.Marks.{fresh_marks}
 use Rattle.exchange.specs.Changes.{EditLine}
 use Rattle.repair.specs.Repairs.{After, repaired}

@@ -4,11 +4,11 @@ use Rattle.program.specs.Program.{Program}
 use Rattle.program.specs.Writing.{written}
 use Rattle.program.specs.Reading.{read_file}
 use Rattle.program.specs.Checks.{checked}
-use Rattle.program.specs.declared.Verdict.{Verdict}
-use Rattle.program.specs.declared.Verdict.TheVariants as verdict
-use Rattle.program.specs.declared.Length.TheVariants.{NotAsked, Of}
-use Rattle.writer.specs.declared.WriteAnswer.{WriteAnswer}
-use Rattle.writer.specs.declared.WriteAnswer.TheVariants.{Written, Refused}
+use Rattle.program.specs.Verdicts.{Verdict}
+use Rattle.program.specs.Verdicts as verdict
+use Rattle.std.specs.Prelude.{None, Some}
+use Rattle.writer.specs.WriteAnswers.{WriteAnswer}
+use Rattle.writer.specs.WriteAnswers.{Written, Refused}
 
 -- how many bytes are written, or the refusal
 abbrev pub answer_by : Verdict → Program → WriteAnswer
@@ -22,7 +22,7 @@ output_by (verdict.Refused n line) p output = output
 
 -- the checks: the file, and the output's length
 abbrev pub checked_output : List ℕ → List ℕ → Verdict
-checked_output file output = checked file NotAsked (Of (length output)) NotAsked
+checked_output file output = checked file None (Some (length output)) None
 
 unfoldable pub write_answer : List ℕ → List ℕ → WriteAnswer
 write_answer file output = answer_by (checked_output file output) (read_file file).program

@@ -22,8 +22,8 @@ pub fn write(file: &[u8], output: &mut [u8]) -> WriteAnswer
     ensures { (result ≡ write_answer file.now output.old)
         × (output.new ≡ output_after file.now output.old) }
 {
-    let output_length = Length::Of(output.len());
-    let r = checked_program(file, Length::NotAsked, output_length, Length::NotAsked);
+    let output_length = Some(output.len());
+    let r = checked_program(file, None, output_length, None);
     let v = r.verdict;
     match v {
         Verdict::Refused(n, line) => WriteAnswer::Refused(n, line),

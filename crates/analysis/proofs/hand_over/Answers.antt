@@ -1,5 +1,5 @@
 -- `analysis::hand_over` meets its contract: where the limit is enough, the marks are the program's own, and so are their counts.
-use Rattle.analysis.specs.declared.AnalyzeAnswer.TheVariants.{Counts}
+use Rattle.analysis.specs.AnalyzeAnswers.{Counts}
 use Rattle.analysis.proofs.LimitDecides.{gives_up, ended_accepted, ended_marks, ended_count, ended_length, own_sized}
 use Rattle.program.specs.declared.sizes.Sizes.{Sizes}
 use Rattle.program.specs.Chosen.{sizes_of, numbers}

@@ -1,7 +1,7 @@
 use Rattle.desk.proofs.BackByParts.{same_back, same_sizing}
 use Rattle.answers.proofs.NumbersFit.{read_fits}
 use Rattle.program.specs.declared.sizes.Sizes.{Sizes}
-use Rattle.program.specs.declared.Verdict.{Verdict}
+use Rattle.program.specs.Verdicts.{Verdict}
 use Rattle.program.specs.Chosen.{sizes_of, numbers}
 use Rattle.program.specs.Reading.{Outcome, refusal, refusal_line}
 use Rattle.answers.specs.Told.{told}

@@ -1,5 +1,5 @@
 use Rattle.writer.proofs.WriteAnswers.{answered, has_room}
-use Rattle.writer.specs.declared.WriteAnswer.TheVariants.{Written}
+use Rattle.writer.specs.WriteAnswers.{Written}
 use mathlib.Core.Path.{ap, ◌∙◌}
 use Rattle.writer.proofs.write.Goals as goal
 
