@@ -18,3 +18,4 @@ pub mod FramesWrittenBack
 pub mod FramesReadAgain
 pub mod Theorems
 pub mod ChecksPassed
+pub mod RefusalNumbers

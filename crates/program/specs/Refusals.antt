@@ -1,12 +1,10 @@
 -- The refusals as the code has them, and the numbers of the table of refusals that they stand for.
-use Rattle.std.specs.Prelude.{ℕ, Result, Ok, Err}
+use Rattle.std.specs.Prelude.{ℕ, ◌≡◌, Result, Ok, Err}
 use Rattle.rows.specs.Rows.{Pair, no_pair}
 use Rattle.rows.specs.Decoded.{pair_of}
+use Rattle.rows.specs.declared.TableFault.{TableFault}
+use Rattle.rows.specs.declared.TableFault.TheVariants.{NotMet, MetTwice}
 use Rattle.program.specs.Verdicts.{Verdict, Accepted, Refused}
-use Rattle.program.specs.Reading.{Outcome, accepted}
-use Rattle.program.specs.Program.{no_program}
-use Rattle.program.specs.Decoded.{program_of}
-use Rattle.program.specs.declared.DecodedProgram.{DecodedProgram}
 use Rattle.program.specs.declared.refusal.Refusal.{Refusal}
 use Rattle.program.specs.declared.refusal.Refusal.TheVariants.{BadLine, UnknownKind, WrongCount, OutOfOrder, OutOfRange, TableFull}
 use Rattle.program.specs.declared.refusal.Refusal.TheVariants.{EndCount, FileEnd, MarksLength, OutputShort, WorkLength, EditLine}
@@ -59,7 +57,10 @@ pair_in (PairNotMet x) = pair_of x
 pair_in (PairMetTwice x) = pair_of x
 pair_in e = no_pair
 
--- the outcome of reading a file that an answer stands for: a refused file has no program
-abbrev pub outcome_of : Result DecodedProgram RefusedAt → Outcome
-outcome_of (Ok p) = accepted (program_of p)
-outcome_of (Err e) = record { verdict = Refused (number e.refusal) e.line; program = no_program; pair = pair_in e.refusal }
+-- what a table is refused for, with line 0
+abbrev pub refused_table : TableFault → RefusedAt
+refused_table (NotMet x) = record { refusal = PairNotMet x; line = 0 }
+refused_table (MetTwice x) = record { refusal = PairMetTwice x; line = 0 }
+
+abbrev pub Refuses : TableFault → RefusedAt → Type 0
+Refuses fault e = e ≡ refused_table fault

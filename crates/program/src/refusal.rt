@@ -1,8 +1,8 @@
 // Why a file, a line, an edit or a buffer is refused.
 ghost use Rattle.std.specs.Prelude.{◌≡◌};
-ghost use Rattle.program.specs.Refusals.{number};
+ghost use Rattle.program.specs.Refusals.{number, Refuses};
 
-use rows::FaultyPair;
+use rows::{FaultyPair, TableFault};
 
 // The rows of the table of refusals, in its order.
 #[derive(Clone, Copy, Debug, PartialEq, Eq)]
@@ -82,5 +82,17 @@ impl From<Refusal> for RefusedAt {
 
     fn from(refusal: Refusal) -> RefusedAt {
         RefusedAt { refusal, line: 0 }
+    }
+}
+
+// A table is refused for its first faulty pair.
+impl From<TableFault> for RefusedAt {
+    ghost from_gives = { Refuses };
+
+    fn from(fault: TableFault) -> RefusedAt {
+        match fault {
+            TableFault::NotMet(pair) => Refusal::PairNotMet(pair).into(),
+            TableFault::MetTwice(pair) => Refusal::PairMetTwice(pair).into(),
+        }
     }
 }

@@ -1,2 +1,3 @@
+pub mod RepairAnswers
 pub mod Repairs
 pub mod Desk

@@ -1,2 +1,3 @@
+pub mod RoomAnswers
 pub mod Parts
 pub mod Room

@@ -1,27 +1,65 @@
-use Rattle.program.specs.Checks.{checked_by, checked, Sized}
+-- `checks::checked_program` meets its contract: the file is read, and then the lengths are measured.
+use Rattle.std.proofs.Common.{◌≡◌, ℕ, sym, ap, subst, ◌∙◌, arith}
+use Rattle.std.proofs.lemmas.Result.{err_from_is_err_and}
+use borrow.Author.Tests.{ne_eqb}
 use Rattle.program.specs.Program.{Program}
-use Prim.Native.Nat.{ℕ}
 use Rattle.program.specs.Chosen.{sizes_of, numbers}
 use Rattle.program.specs.Reading.{Outcome}
+use Rattle.program.specs.Checks.{first_met, buffer_rows, checked_by, checked, verdict_of, Sized}
+use Rattle.program.specs.Refusals.{number}
+use Rattle.program.specs.Verdicts.{Refused}
+use Rattle.program.specs.declared.refusal.Refusal.{Refusal}
 use Rattle.program.proofs.ChecksPassed.{passes}
-use mathlib.Core.Path.{◌≡◌, sym, ap, subst, ◌∙◌}
+use Rattle.program.proofs.RefusalNumbers.{some_number}
 use Rattle.checks.proofs.checked_program.Goals as goal
+use Rattle.checks.proofs.checked_program.Goals.{After-check_lengths}
+
+pub returns-in_err-program : goal.returns-in_err-program
+unfolding checked
+returns-in_err-program c =
+    let a = c.args in
+    let p = err_from_is_err_and c.from_residual.result c.from_residual.ensures.1 in
+    rw (p.1, p.2) (record {
+      verdict = ap (λ (o : Outcome). checked_by o.verdict (numbers (sizes_of o.program)) a.marks a.output a.work) c.in_err-program.ensures;
+      passed = tt;
+    })
+
+-- an accepted file is checked for the lengths
+measured : (c : After-check_lengths)
+    → verdict_of (first_met (buffer_rows c.length_of-size.result c.args.marks c.args.output c.args.work))
+    ≡ checked c.args.file.now c.args.marks c.args.output c.args.work
+unfolding checked
+measured c =
+    let a = c.args in
+    let size = c.length_of-size.ensures.0 ∙ ap numbers c.sizes_of.ensures in
+    ap (λ (n : ℕ). verdict_of (first_met (buffer_rows n a.marks a.output a.work))) size
+    ∙ ap (λ (o : Outcome). checked_by o.verdict (numbers (sizes_of o.program)) a.marks a.output a.work) c.in_ok-program.ensures
+
+-- a refusal is a verdict with line 0
+refused : (r : Refusal) → Refused (number r) 0 ≡ verdict_of (number r)
+refused r = rw (ne_eqb (number r) 0 (λ e. omega (arith, some_number r)))
+
+pub returns-in_err-check_lengths : goal.returns-in_err-check_lengths
+returns-in_err-check_lengths c =
+    let r = c.from_residual-in_err-check_lengths in
+    let p = err_from_is_err_and r.result r.ensures.1 in
+    rw (p.1, p.2) (record {
+      verdict = refused _ ∙ ap verdict_of c.in_err-check_lengths.ensures ∙ measured (goal.at.returns-in_err-check_lengths c).After-check_lengths;
+      passed = tt;
+    })
 
 pub returns : goal.returns
-unfolding checked
 returns c =
-    let file = c.args.file.now in
-    let marks = c.args.marks in
-    let output = c.args.output in
-    let work = c.args.work in
-    let e = c.read-r.ensures in
-    let size = c.length_of-size.ensures.0 ∙ ap numbers c.sizes_of.ensures in
-    let k : c.check-verdict.result ≡ checked file marks output work = c.check-verdict.ensures ∙ ap (λ (n : ℕ). checked_by c.read-r.result.verdict n marks output work) size
-    ∙ ap (λ (o : Outcome). checked_by o.verdict (numbers (sizes_of o.program)) marks output work) e in
+    let a = c.args in
+    let k = ap verdict_of c.in_ok-check_lengths.ensures ∙ measured (goal.at.returns c).After-check_lengths in
+    let w = passes a.file.now a.marks a.output a.work (sym k) in
+    let e = ap (λ (o : Outcome). o.program) c.in_ok-program.ensures in
     record {
       verdict = k;
-      program = ap (λ (o : Outcome). o.program) e;
-      pair = ap (λ (o : Outcome). o.pair) e;
-      well_formed = λ h. rw (ap (λ (o : Outcome). o.program) e) (passes file marks output work (sym k ∙ h)).well_formed;
-      sized = λ h. subst (λ (p : Program). Sized (numbers (sizes_of p)) marks output work) (sym (ap (λ (o : Outcome). o.program) e)) (passes file marks output work (sym k ∙ h)).sized;
+      passed =
+          record {
+            program = e;
+            well_formed = rw e w.well_formed;
+            sized = subst (λ (p : Program). Sized (numbers (sizes_of p)) a.marks a.output a.work) (sym e) w.sized;
+          };
     }

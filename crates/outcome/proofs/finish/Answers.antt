@@ -1,36 +1,37 @@
--- `reader::finish` meets its contract: without a row the sizes decide, and with rows the table before them.
-use mathlib.Core.Path.{◌≡◌, sym, ap, ◌∙◌}
-use mathlib.Core.List.{List}
-use native.Mathlib.Omega.{arith}
-use Rattle.rows.specs.Rows.{TableRow}
-use Rattle.rows.specs.Decoded.{rows_of}
-use Rattle.program.specs.Program.{Program}
-use Rattle.program.specs.Decoded.{program_of}
-use Rattle.program.specs.Reading.{sizes_decide}
+-- `outcome::finish` meets its contract: without a row the sizes decide, and with rows the table before them.
+use Rattle.std.proofs.Common.{◌≡◌, ◌<◌, ap, sym, ◌∙◌, refl, arith, Result, Err}
+use Rattle.std.proofs.lemmas.Result.{err_from_is_err_and}
+use Rattle.rows.specs.Decoded.{fault_number, fault_pair}
+use Rattle.rows.specs.declared.TableFault.{TableFault}
+use Rattle.rows.specs.declared.TableFault.TheVariants.{NotMet, MetTwice}
+use Rattle.program.specs.Reading.{refused_for, sizes_decide}
+use Rattle.program.specs.Refusals.{refused_table}
+use Rattle.outcome.specs.Outcome.{outcome_of}
 use Rattle.outcome.proofs.FileFinished.{without_rows, table_refused, table_accepted}
 use Rattle.outcome.proofs.finish.Goals as goal
-use Rattle.outcome.proofs.finish.Goals.{After-row_count}
-
-abbrev rows : After-row_count → List TableRow
-rows c = rows_of c.args.rows
-
-abbrev program : After-row_count → Program
-program c = program_of c.args.p
 
 pub returns-then-row_count-eq0 : goal.returns-then-row_count-eq0
 returns-then-row_count-eq0 c =
-    c.accept_sized.ensures ∙ without_rows (rows (goal.at.returns-then-row_count-eq0 c).After-row_count) (program (goal.at.returns-then-row_count-eq0 c).After-row_count) (sym c.row_count.ensures ∙ c.if-row_count-eq0.true)
+    c.accept_sized.ensures ∙ without_rows _ _ (sym c.row_count.ensures ∙ c.if-row_count-eq0.true)
 
-pub returns-then-table-gt0 : goal.returns-then-table-gt0
-returns-then-table-gt0 c =
-    let k = c.table_of-table.ensures in
-    c.refuse_for.ensures
-    ∙ table_refused (rows (goal.at.returns-then-table-gt0 c).After-row_count) (program (goal.at.returns-then-table-gt0 c).After-row_count) (λ z. c.if-row_count-eq0.false (c.row_count.ensures ∙ z)) k.refusal k.pair (omega (arith, c.if-table-gt0.true))
+-- a fault is a refusal of the table, for its pair
+refused_so : (f : TableFault) → outcome_of (Err (refused_table f)) ≡ refused_for (fault_number f) (fault_pair f)
+refused_so (NotMet x) = refl
+refused_so (MetTwice x) = refl
+
+some_number : (f : TableFault) → 0 < fault_number f
+some_number (NotMet x) = omega arith
+some_number (MetTwice x) = omega arith
+
+pub returns-in_err-transitions : goal.returns-in_err-transitions
+returns-in_err-transitions c =
+    let p = err_from_is_err_and c.from_residual.result c.from_residual.ensures.1 in
+    let k = c.in_err-transitions.ensures in
+    rw (p.1, p.2) (refused_so _ ∙ table_refused _ _ (λ z. c.if-row_count-eq0.false (c.row_count.ensures ∙ z)) k.refusal k.pair (some_number _))
 
 pub returns : goal.returns
 returns c =
-    let k = c.table_of-table.ensures in
-    let z : c.table_of-table.result.refusal ≡ 0 = omega arith in
+    let k = c.in_ok-transitions.ensures in
     c.accept_sized-2.ensures
     ∙ ap sizes_decide c.with_transitions.ensures
-    ∙ table_accepted (rows (goal.at.returns c).After-row_count) (program (goal.at.returns c).After-row_count) (λ y. c.if-row_count-eq0.false (c.row_count.ensures ∙ y)) (sym k.refusal ∙ z) (k.transitions z)
+    ∙ table_accepted _ _ (λ z. c.if-row_count-eq0.false (c.row_count.ensures ∙ z)) (sym k.refusal) k.transitions

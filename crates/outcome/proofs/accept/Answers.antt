@@ -1,4 +1,0 @@
-use Rattle.outcome.proofs.accept.Goals as goal
-
-pub returns : goal.returns
-returns c = cc
