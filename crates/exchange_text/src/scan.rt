@@ -21,7 +21,7 @@ use program::edges::{Edges, no_edges};
 use program::refusal::Refusal;
 use program::sizes::{MARKS_MOST, MAX_EDGES, length_of};
 use ranges::Limits;
-use tables::{in_use, with_key};
+use tables::{in_use, with_entry};
 use text::Line;
 
 // The key of the frame before; whether a line was out of range (13), or astray (21); whether there were more edges than
@@ -54,7 +54,7 @@ fn add_edge(t: Edges, key: u32) -> Edges
 {
     if t.count < MAX_EDGES {
         let mut keys = t.keys;
-        let count = with_key(&mut keys, t.count, key);
+        let count = with_entry(&mut keys, t.count, key);
         Edges { count, keys }
     } else {
         t

@@ -30,18 +30,9 @@ pub fn first_from(keys: &[u32], count: usize, low: u64) -> usize
         .unwrap_or(used)
 }
 
-// The table with one key more at its end. Each changes the slice and returns the new count; the caller has judged that
+// The list with one entry more at its end. Each changes the slice and returns the new count; the caller has judged that
 // there is room, where more is to go in: hence each `requires`.
-pub fn with_key(keys: &mut [u32], count: usize, key: u32) -> usize
-    requires { count < length keys.old }
-    ensures { Holds keys.new result (take count keys.old ++ (key ∷ [])) }
-{
-    keys[count] = key;
-    count + 1
-}
-
-// The same for a list of bytes.
-pub fn with_byte(list: &mut [u8], count: usize, x: u8) -> usize
+pub fn with_entry<T: Copy>(list: &mut [T], count: usize, x: T) -> usize
     requires { count < length list.old }
     ensures { Holds list.new result (take count list.old ++ (x ∷ [])) }
 {
