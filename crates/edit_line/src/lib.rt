@@ -16,6 +16,7 @@ use program::DecodedProgram;
 use program::refusal::Refusal;
 
 // The edit that a buffer says for a program, or its refusal (12 or 13).
+#[tactic(auto, unfolding(crate::specs::EditLines::read_edit, crate::specs::EditLines::edit_from))]
 pub fn read_edit(p: DecodedProgram, line: &[u8]) -> Result<Edit, Refusal>
     ensures { edit_read_of result ≡ read_edit (program_of p) line.now }
 {
@@ -25,6 +26,7 @@ pub fn read_edit(p: DecodedProgram, line: &[u8]) -> Result<Edit, Refusal>
 
 // The edit that a buffer says for a program, or the first refusal of 12 to 16 that it meets. The reader accepts only
 // well-formed programs: hence the `requires`.
+#[tactic(auto, unfolding(crate::specs::EditLines::wanted_edit))]
 pub fn wanted_edit(p: DecodedProgram, line: &[u8]) -> Result<Edit, Refusal>
     requires { WellFormed (program_of p) }
     ensures { edit_read_of result ≡ wanted_edit (program_of p) line.now }

@@ -105,6 +105,7 @@ fn edit_in(kind: EditKind, l: Line) -> Edit
 
 // The edit that a line says for a program, or its refusal. An unknown kind and a wrong count of numbers are refused as
 // bad (12) before a number is judged (13).
+#[tactic(auto, unfolding(crate::specs::EditLines::edit_from))]
 pub fn edit_from(p: DecodedProgram, l: Line) -> Result<Edit, Refusal>
     ensures { edit_read_of result ≡ edit_from (program_of p) l }
 {

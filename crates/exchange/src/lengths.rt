@@ -38,6 +38,7 @@ pub fn lengths_of(z: Sizes, y: Sizes) -> Lengths
 }
 
 // The first of the two lengths that is not the wanted one is refused.
+#[tactic(auto, unfolding(program::specs::Checks::first_met))]
 pub fn check_lengths(wanted: Lengths, second: usize, work: usize) -> Result<(), Refusal>
     ensures { number_met result ≡ first_met (length_rows wanted second work) }
 {
