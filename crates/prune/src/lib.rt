@@ -13,6 +13,7 @@ ghost use Rattle.program.specs.WellFormed.{WellFormed};
 ghost use Rattle.tables.specs.Keys.{Ascending};
 ghost use Rattle.program.specs.Decoded.{edge_keys_of, edge_of, program_of};
 ghost use Rattle.program.specs.Reading.{read_file};
+ghost use Rattle.program.specs.Refusals.{verdict_by};
 ghost use Rattle.reach.specs.Sizes.{routine_span};
 ghost use Rattle.reach.specs.Configurations.{Usable, routine_of, none_set};
 ghost use Rattle.reach.specs.Ranged.{Sized};
@@ -28,10 +29,11 @@ use automaton::sizes::MAX_STATES;
 use base::flags::clear;
 use checks::checked_program;
 use index::part::first_of;
+use program::DecodedProgram;
 use program::chosen::sizes_of;
 use program::edges::Edges;
+use program::refusal::RefusedAt;
 use program::sizes::{MAX_EDGES, Sizes};
-use program::{DecodedProgram, Length, Verdict};
 use reach::configuration::{entry_of, number_of, parts_of};
 use reach::spans::routine_span;
 use support::has_support;
@@ -238,23 +240,13 @@ pub fn prune_program(z: Sizes, p: DecodedProgram, marks: &mut [u8], work: &mut [
 
 // Pruning by a file's program, of any marks. A refusal leaves both buffers alone; on success the working buffer is
 // all zero.
-pub fn prune(file: &[u8], marks: &mut [u8], work: &mut [u8]) -> Verdict
-    ensures { (result ≡ checked_marks file.now marks.old work.old)
+pub fn prune(file: &[u8], marks: &mut [u8], work: &mut [u8]) -> Result<(), RefusedAt>
+    ensures { (verdict_by result ≡ checked_marks file.now marks.old work.old)
         × Pruned (checked_marks file.now marks.old work.old)
         (read_file file.now).program marks.old marks.new
         × (work.new ≡ work_after file.now marks.old work.old) }
 {
-    let marks_length = Some(marks.len());
-    let work_length = Some(work.len());
-    let r = checked_program(file, marks_length, None, work_length);
-    let v = r.verdict;
-    match v {
-        Verdict::Refused(n, line) => Verdict::Refused(n, line),
-        Verdict::Accepted => {
-            let p = r.program;
-            let z = sizes_of(p);
-            prune_program(z, p, marks, work);
-            Verdict::Accepted
-        }
-    }
+    let p = checked_program(file, Some(marks.len()), None, Some(work.len()))?;
+    prune_program(sizes_of(p), p, marks, work);
+    Ok(())
 }
