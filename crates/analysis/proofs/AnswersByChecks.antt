@@ -1,52 +1,44 @@
 -- The answers, by what the checks say.
 use Prim.Native.Nat.{ℕ}
 use mathlib.Core.Path.{◌≡◌, refl, sym, ap, subst, ◌∙◌}
-use mathlib.Core.Bool.{Bool, true, false, not}
+use mathlib.Core.Bool.{Bool, true, false, not, cond}
+use mathlib.Core.Option.{some, none}
 use mathlib.Core.List.{List, [], ◌∷◌}
 use native.Mathlib.Omega.{arith}
-use lib.Dec.{eqb}
-use lib.ListN.{length}
+use lib.Dec.{eqb, ltb}
 use borrow.Author.Tests.{eqb-true, eq-eqb}
 use Rattle.program.specs.Chosen.{sizes_of, numbers}
 use Rattle.program.specs.Program.{Program}
-use Rattle.program.specs.WellFormed.{WellFormed}
+use Rattle.program.specs.Reading.{read_file}
 use Rattle.program.specs.Checks.{row, first_met, verdict_of, followed_by}
-use Rattle.program.specs.Decoded.{program_of}
 use Rattle.program.specs.Verdicts.{Verdict}
 use Rattle.program.specs.Verdicts.{Accepted, Refused}
-use Rattle.std.specs.Prelude.{None, Some}
 use Rattle.base.proofs.Bools.{both}
-use Rattle.checks.specs.Checked.{Checked}
-use Rattle.program.specs.declared.Reading.{Reading}
 use Rattle.reach.specs.Configurations.{none_set}
 use Rattle.reach.specs.Marks.{fresh_marks, violations, violations_from, first_from, within}
-use Rattle.analysis.specs.Answers.{limited, analyze_by, analyze_answer, on_success, marks_after, work_after, same, owned, found_of, found_by, next_answer}
+use Rattle.std.specs.Prelude.{Ok}
+use Rattle.std.specs.Bool.{then_some}
+use Rattle.analysis.specs.NextAnswers.{next_answer_by}
+use Rattle.analysis.specs.Answers.{checked_marks, limited, analyze_by, analyze_answer, on_success, marks_after, work_after, same, owned, found_of, found_by, next_answer}
 
--- what those ask who are called where nothing is refused
-pub ready : {file : List ℕ} {m w : ℕ} {r : Reading} → Checked file (Some m) None (Some w) r → r.verdict ≡ Accepted
-    → WellFormed (program_of r.program) × ((m ≡ numbers (sizes_of (program_of r.program))) × (w ≡ numbers (sizes_of (program_of r.program))))
-ready k h = (k.well_formed h, ((k.sized h).marks-length, (k.sized h).work_length))
-
-module _ (file marks work : List ℕ) {r : Reading} (k : Checked file (Some (length marks)) None (Some (length work)) r) {v : Verdict} (h : r.verdict ≡ v) where
-  pub analyze_answered : (limit : ℕ) → let w = followed_by v (limited (program_of r.program) limit) in
-      (analyze_by w (program_of r.program) ≡ analyze_answer file marks work limit)
-      × (on_success w (fresh_marks (program_of r.program)) marks ≡ marks_after file marks work limit) × (on_success v (none_set (sizes_of (program_of r.program))) work ≡ work_after file marks work)
+-- the answers and the lent bytes, by the verdict of the checks before anything is touched
+module _ (file marks work : List ℕ) {v : Verdict} {p : Program} (d : v ≡ checked_marks file marks work) (e : p ≡ (read_file file).program) where
+  pub analyze_answered : (limit : ℕ) → let w = followed_by v (limited p limit) in
+      (analyze_by w p ≡ analyze_answer file marks work limit)
+      × (on_success w (fresh_marks p) marks ≡ marks_after file marks work limit) × (on_success v (none_set (sizes_of p)) work ≡ work_after file marks work)
   unfolding analyze_answer marks_after work_after
-  analyze_answered limit =
-      let e = k.program in
-      let w = sym h ∙ k.verdict in (
-        λ i. analyze_by (followed_by (w i) (limited (e i) limit)) (e i),
-        λ i. on_success (followed_by (w i) (limited (e i) limit)) (fresh_marks (e i)) marks,
-        λ i. on_success (w i) (none_set (sizes_of (e i))) work,
-      )
+  analyze_answered limit = (
+    λ i. analyze_by (followed_by (d i) (limited (e i) limit)) (e i),
+    λ i. on_success (followed_by (d i) (limited (e i) limit)) (fresh_marks (e i)) marks,
+    λ i. on_success (d i) (none_set (sizes_of (e i))) work,
+  )
 
-  pub next_answered : (low : ℕ) → let p = program_of r.program in
-      (found_by (followed_by v (owned p marks)) (first_from low (violations p)) ≡ next_answer file marks work low) × (on_success v (none_set (sizes_of (program_of r.program))) work ≡ work_after file marks work)
+  pub next_answered : (low : ℕ)
+      → (found_by (followed_by v (owned p marks)) (first_from low (violations p)) ≡ next_answer file marks work low)
+      × (on_success v (none_set (sizes_of p)) work ≡ work_after file marks work)
   unfolding next_answer work_after
   next_answered low =
-      let e = k.program in
-      let w = sym h ∙ k.verdict in
-      (λ i. found_by (followed_by (w i) (owned (e i) marks)) (first_from low (violations (e i))), λ i. on_success (w i) (none_set (sizes_of (e i))) work)
+      (λ i. found_by (followed_by (d i) (owned (e i) marks)) (first_from low (violations (e i))), λ i. on_success (d i) (none_set (sizes_of (e i))) work)
 
 -- ---- the same bytes
 
@@ -105,3 +97,11 @@ module _ (p : Program) (marks : List ℕ) where
   pub own_found : (low i : ℕ) → owned p marks ≡ Accepted → first_from low (violations_from (sizes_of p) p marks 0) ≡ within (numbers (sizes_of p)) i
       → found_of (within (numbers (sizes_of p)) i) ≡ found_by (owned p marks) (first_from low (violations p))
   own_found low i e f = rw e (ap found_of (sym (rw (accepted_own e) at f)))
+
+-- a search's result past the end says that there is none
+pub found_is : (size i : ℕ) → next_answer_by (Ok (then_some (ltb i size) i)) ≡ found_of (within size i)
+found_is size i = go (ltb i size)
+  where
+    go : (t : Bool) → next_answer_by (Ok (then_some t i)) ≡ found_of (cond t (some i) none)
+    go true = refl
+    go false = refl

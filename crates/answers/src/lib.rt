@@ -3,7 +3,15 @@
 #![tactic(auto)]
 
 ghost use Rattle.std.specs.Prelude.{◌≡◌};
-ghost use Rattle.program.specs.Chosen.{numbers};
+ghost use Rattle.program.specs.Chosen.{sizes_of, numbers};
+ghost use Rattle.program.specs.Refusals.{verdict_by};
+ghost use Rattle.outcome.specs.Outcome.{outcome_of};
+ghost use Rattle.writer.specs.WriteAnswers.{write_answer_by};
+ghost use Rattle.analysis.specs.AnalyzeAnswers.{analyze_answer_by};
+ghost use Rattle.analysis.specs.NextAnswers.{next_answer_by};
+ghost use Rattle.block_list.specs.BlockAnswers.{block_answer_by};
+ghost use Rattle.repair.specs.RepairAnswers.{repair_answer_by};
+ghost use Rattle.rewrite.specs.RoomAnswers.{room_answer_by};
 ghost use Rattle.program.specs.Reading.{refusal, refusal_line};
 ghost use Rattle.writer.specs.Answers.{refusal as writeRefusal, refusal_line as writeLine, written_length};
 ghost use Rattle.analysis.specs.Answers.{analyze_refusal, analyze_line, configuration_count, violation_count};
@@ -14,13 +22,14 @@ ghost use Rattle.rewrite.specs.Room.{room_refusal, room_line, room_nodes, room_m
 ghost use Rattle.answers.specs.Told.{told};
 ghost use Rattle.answers.specs.Parts.{VerdictFits, WriteFits, AnalyzeFits, NextFits, BlockFits, RoomFits};
 
-use analysis::{AnalyzeAnswer, NextAnswer};
-use block_list::BlockAnswer;
-use program::sizes::{Sizes, length_of};
-use program::{FaultyPair, Verdict};
-use repair::RepairAnswer;
-use rewrite::RoomAnswer;
-use writer::WriteAnswer;
+use analysis::MarkCounts;
+use blocked::Blocked;
+use program::DecodedProgram;
+use program::chosen::sizes_of;
+use program::refusal::RefusedAt;
+use program::sizes::length_of;
+use repair::Repair;
+use rewrite::ExchangeRoom;
 
 // Told in the place of a number where a search finds none.
 const NONE: u32 = 4294967295;
@@ -32,18 +41,18 @@ pub struct VerdictNumbers {
 }
 
 // No file is refused at a line above 819, so that each line fits.
-pub fn verdict_numbers(v: Verdict) -> VerdictNumbers
-    requires { VerdictFits v }
-    ensures { (result.refusal ≡ refusal v) × (result.line ≡ refusal_line v) }
+pub fn verdict_numbers<T>(a: &Result<T, RefusedAt>) -> VerdictNumbers
+    requires { VerdictFits (verdict_by a.now) }
+    ensures { (result.refusal ≡ refusal (verdict_by a.now)) × (result.line ≡ refusal_line (verdict_by a.now)) }
 {
-    match v {
-        Verdict::Accepted => VerdictNumbers {
+    match a {
+        Ok(_) => VerdictNumbers {
             refusal: 0,
             line: 0,
         },
-        Verdict::Refused(n, at) => VerdictNumbers {
-            refusal: n as u32,
-            line: at as u32,
+        Err(e) => VerdictNumbers {
+            refusal: u32::from(e.refusal.number()),
+            line: e.line as u32,
         },
     }
 }
@@ -56,19 +65,19 @@ pub struct WriteNumbers {
 }
 
 // No program is written as more than 7,712 bytes, so that each length fits.
-pub fn write_numbers(a: WriteAnswer) -> WriteNumbers
-    requires { WriteFits a }
-    ensures { (result.refusal ≡ writeRefusal a) × (result.line ≡ writeLine a) × (result.written ≡ written_length a) }
+pub fn write_numbers(a: Result<usize, RefusedAt>) -> WriteNumbers
+    requires { WriteFits (write_answer_by a) }
+    ensures { (result.refusal ≡ writeRefusal (write_answer_by a)) × (result.line ≡ writeLine (write_answer_by a)) × (result.written ≡ written_length (write_answer_by a)) }
 {
     match a {
-        WriteAnswer::Written(size) => WriteNumbers {
+        Ok(size) => WriteNumbers {
             refusal: 0,
             line: 0,
             written: size as u32,
         },
-        WriteAnswer::Refused(n, at) => WriteNumbers {
-            refusal: n as u32,
-            line: at as u32,
+        Err(e) => WriteNumbers {
+            refusal: u32::from(e.refusal.number()),
+            line: e.line as u32,
             written: 0,
         },
     }
@@ -84,23 +93,23 @@ pub struct AnalyzeNumbers {
 }
 
 // There are at most 16,384 configurations and 67,125,248 iterations, so that each count fits.
-pub fn analyze_numbers(a: AnalyzeAnswer) -> AnalyzeNumbers
-    requires { AnalyzeFits a }
-    ensures { (result.refusal ≡ analyze_refusal a) × (result.line ≡ analyze_line a)
-        × (result.configurations ≡ configuration_count a) × (result.violations ≡ violation_count a)
-        × (result.iterations ≡ iteration_count a) }
+pub fn analyze_numbers(a: Result<MarkCounts, RefusedAt>) -> AnalyzeNumbers
+    requires { AnalyzeFits (analyze_answer_by a) }
+    ensures { (result.refusal ≡ analyze_refusal (analyze_answer_by a)) × (result.line ≡ analyze_line (analyze_answer_by a))
+        × (result.configurations ≡ configuration_count (analyze_answer_by a)) × (result.violations ≡ violation_count (analyze_answer_by a))
+        × (result.iterations ≡ iteration_count (analyze_answer_by a)) }
 {
     match a {
-        AnalyzeAnswer::Counts(c, v, i) => AnalyzeNumbers {
+        Ok(counts) => AnalyzeNumbers {
             refusal: 0,
             line: 0,
-            configurations: c as u32,
-            violations: v as u32,
-            iterations: i as u32,
+            configurations: counts.configurations as u32,
+            violations: counts.violations as u32,
+            iterations: counts.iterations as u32,
         },
-        AnalyzeAnswer::Refused(n, at) => AnalyzeNumbers {
-            refusal: n as u32,
-            line: at as u32,
+        Err(e) => AnalyzeNumbers {
+            refusal: u32::from(e.refusal.number()),
+            line: e.line as u32,
             configurations: 0,
             violations: 0,
             iterations: 0,
@@ -115,24 +124,24 @@ pub struct NextNumbers {
     pub found: u32,
 }
 
-pub fn next_numbers(a: NextAnswer) -> NextNumbers
-    requires { NextFits a }
-    ensures { (result.refusal ≡ next_refusal a) × (result.line ≡ next_line a) × (result.found ≡ next_found a) }
+pub fn next_numbers(a: Result<Option<usize>, RefusedAt>) -> NextNumbers
+    requires { NextFits (next_answer_by a) }
+    ensures { (result.refusal ≡ next_refusal (next_answer_by a)) × (result.line ≡ next_line (next_answer_by a)) × (result.found ≡ next_found (next_answer_by a)) }
 {
     match a {
-        NextAnswer::Found(i) => NextNumbers {
+        Ok(Some(i)) => NextNumbers {
             refusal: 0,
             line: 0,
             found: i as u32,
         },
-        NextAnswer::Nothing => NextNumbers {
+        Ok(None) => NextNumbers {
             refusal: 0,
             line: 0,
             found: NONE,
         },
-        NextAnswer::Refused(n, at) => NextNumbers {
-            refusal: n as u32,
-            line: at as u32,
+        Err(e) => NextNumbers {
+            refusal: u32::from(e.refusal.number()),
+            line: e.line as u32,
             found: 0,
         },
     }
@@ -147,27 +156,27 @@ pub struct BlockNumbers {
 }
 
 // An edge's place is below 256, and 4294967295 in its place stands for the return.
-pub fn block_numbers(a: BlockAnswer) -> BlockNumbers
-    requires { BlockFits a }
-    ensures { (result.refusal ≡ block_refusal a) × (result.line ≡ block_line a) × (result.found ≡ block_found a)
-        × (result.edge ≡ block_edge a) }
+pub fn block_numbers(a: Result<Option<Blocked>, RefusedAt>) -> BlockNumbers
+    requires { BlockFits (block_answer_by a) }
+    ensures { (result.refusal ≡ block_refusal (block_answer_by a)) × (result.line ≡ block_line (block_answer_by a)) × (result.found ≡ block_found (block_answer_by a))
+        × (result.edge ≡ block_edge (block_answer_by a)) }
 {
     match a {
-        BlockAnswer::Found(i, k) => BlockNumbers {
+        Ok(Some(blocked)) => BlockNumbers {
             refusal: 0,
             line: 0,
-            found: i as u32,
-            edge: k as u32,
+            found: blocked.number as u32,
+            edge: blocked.edge as u32,
         },
-        BlockAnswer::Nothing => BlockNumbers {
+        Ok(None) => BlockNumbers {
             refusal: 0,
             line: 0,
             found: NONE,
             edge: 0,
         },
-        BlockAnswer::Refused(n, at) => BlockNumbers {
-            refusal: n as u32,
-            line: at as u32,
+        Err(e) => BlockNumbers {
+            refusal: u32::from(e.refusal.number()),
+            line: e.line as u32,
             found: 0,
             edge: 0,
         },
@@ -183,21 +192,21 @@ pub struct RepairNumbers {
 }
 
 // Those of the inside-out repair, the reanalyzed routines among them.
-pub fn repair_numbers(a: RepairAnswer) -> RepairNumbers
-    requires { WriteFits (plain a) }
-    ensures { (result.refusal ≡ writeRefusal (plain a)) × (result.line ≡ writeLine (plain a))
-        × (result.written ≡ written_length (plain a)) × (result.reanalyzed ≡ reanalyzedNumber a) }
+pub fn repair_numbers(a: Result<Repair, RefusedAt>) -> RepairNumbers
+    requires { WriteFits (plain (repair_answer_by a)) }
+    ensures { (result.refusal ≡ writeRefusal (plain (repair_answer_by a))) × (result.line ≡ writeLine (plain (repair_answer_by a)))
+        × (result.written ≡ written_length (plain (repair_answer_by a))) × (result.reanalyzed ≡ reanalyzedNumber (repair_answer_by a)) }
 {
     match a {
-        RepairAnswer::Repaired(size, routines) => RepairNumbers {
+        Ok(repair) => RepairNumbers {
             refusal: 0,
             line: 0,
-            written: size as u32,
-            reanalyzed: routines,
+            written: repair.written as u32,
+            reanalyzed: repair.reanalyzed,
         },
-        RepairAnswer::Refused(n, at) => RepairNumbers {
-            refusal: n as u32,
-            line: at as u32,
+        Err(e) => RepairNumbers {
+            refusal: u32::from(e.refusal.number()),
+            line: e.line as u32,
             written: 0,
             reanalyzed: 0,
         },
@@ -213,19 +222,22 @@ pub struct SizesNumbers {
 }
 
 // The sizes of an accepted file's program, and the length of its marks.
-pub fn sizes_numbers(v: Verdict, z: Sizes) -> SizesNumbers
-    ensures { (result.routines ≡ told v z.routines) × (result.nodes ≡ told v z.nodes)
-        × (result.states ≡ told v z.states) × (result.marks ≡ told v (numbers z)) }
+pub fn sizes_numbers(read: &Result<DecodedProgram, RefusedAt>) -> SizesNumbers
+    ensures { let o = outcome_of read.now in let z = sizes_of o.program in
+        (result.routines ≡ told o.verdict z.routines) × (result.nodes ≡ told o.verdict z.nodes)
+        × (result.states ≡ told o.verdict z.states) × (result.marks ≡ told o.verdict (numbers z)) }
 {
-    let length = length_of(z);
-    match v {
-        Verdict::Accepted => SizesNumbers {
-            routines: z.routines as u32,
-            nodes: z.nodes as u32,
-            states: z.states as u32,
-            marks: length as u32,
-        },
-        Verdict::Refused(_, _) => SizesNumbers {
+    match read {
+        Ok(p) => {
+            let z = sizes_of(*p);
+            SizesNumbers {
+                routines: u32::from(z.routines),
+                nodes: u32::from(z.nodes),
+                states: u32::from(z.states),
+                marks: length_of(z) as u32,
+            }
+        }
+        Err(_) => SizesNumbers {
             routines: 0,
             nodes: 0,
             states: 0,
@@ -240,13 +252,23 @@ pub struct PairNumbers {
     pub action: u32,
 }
 
-// The pair that a table is refused for.
-pub fn pair_numbers(x: FaultyPair) -> PairNumbers
-    ensures { (result.state ≡ x.state) × (result.action ≡ x.action) }
+// The pair that a file's table is refused for; 0 and 0 where there is none.
+pub fn pair_numbers(read: &Result<DecodedProgram, RefusedAt>) -> PairNumbers
+    ensures { let o = outcome_of read.now in (result.state ≡ o.pair.state) × (result.action ≡ o.pair.action) }
 {
-    PairNumbers {
-        state: x.state as u32,
-        action: x.action as u32,
+    let pair = match read {
+        Ok(_) => None,
+        Err(e) => e.refusal.pair(),
+    };
+    match pair {
+        None => PairNumbers {
+            state: 0,
+            action: 0,
+        },
+        Some(pair) => PairNumbers {
+            state: u32::from(pair.state),
+            action: u32::from(pair.action),
+        },
     }
 }
 
@@ -260,22 +282,22 @@ pub struct RoomNumbers {
 }
 
 // What an exchange has to be lent.
-pub fn room_numbers(a: RoomAnswer) -> RoomNumbers
-    requires { RoomFits a }
-    ensures { (result.refusal ≡ room_refusal a) × (result.line ≡ room_line a) × (result.nodes ≡ room_nodes a)
-        × (result.marks ≡ room_marks a) × (result.work ≡ room_work a) }
+pub fn room_numbers(a: Result<ExchangeRoom, RefusedAt>) -> RoomNumbers
+    requires { RoomFits (room_answer_by a) }
+    ensures { (result.refusal ≡ room_refusal (room_answer_by a)) × (result.line ≡ room_line (room_answer_by a)) × (result.nodes ≡ room_nodes (room_answer_by a))
+        × (result.marks ≡ room_marks (room_answer_by a)) × (result.work ≡ room_work (room_answer_by a)) }
 {
     match a {
-        RoomAnswer::Needs(nodes, marks, work) => RoomNumbers {
+        Ok(room) => RoomNumbers {
             refusal: 0,
             line: 0,
-            nodes: nodes as u32,
-            marks: marks as u32,
-            work: work as u32,
+            nodes: u32::from(room.nodes),
+            marks: room.marks as u32,
+            work: room.work as u32,
         },
-        RoomAnswer::Refused(n, at) => RoomNumbers {
-            refusal: n as u32,
-            line: at as u32,
+        Err(e) => RoomNumbers {
+            refusal: u32::from(e.refusal.number()),
+            line: e.line as u32,
             nodes: 0,
             marks: 0,
             work: 0,

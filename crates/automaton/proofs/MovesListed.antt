@@ -2,11 +2,11 @@
 use mathlib.Core.Path.{◌≡◌, refl, sym, ◌∙◌}
 use mathlib.Core.Bool.{Bool, true, false, ◌&&◌, ◌||◌, or-false, and-false}
 use mathlib.Core.List.{List, map}
-use Prim.Native.Nat.{ℕ, min, ◌+◌, ◌*◌, ◌^◌, ◌≤◌, ◌<◌}
+use Prim.Native.Nat.{ℕ, ◌+◌, ◌*◌, ◌^◌, ◌≤◌, ◌<◌}
 use native.Mathlib.Omega.{arith}
 use native.Mathlib.Decide.{ℕ_discrete}
 use lib.Dec.{eqb, ltb}
-use lib.ListN.{length, take, get_or, set, replicate, length-set, length-replicate, get_or-eq_default}
+use lib.ListN.{length, get_or, set, replicate, length-set, length-replicate, get_or-eq_default}
 use lib.Seq.{get_or-set_same, get_or-set_other}
 use borrow.Author.Tests.{eqb-true, eqb-false, eq-eqb, ne_eqb, ltb-true, ltb-false}
 use Rattle.base.specs.Bits.{bit, with_bit}
@@ -115,30 +115,30 @@ asks_listed : (q a s : ℕ) → Asks (λ ks. listed q a s (map transition_of ks)
 unfolding listed
 asks_listed q a s = record { empty = refl; first = λ x xs. refl }
 
-pub record Allowed (keys : List ℕ) (n i : ℕ) (sets : List ℕ) : Type 0 where
+pub record Allowed (keys : List ℕ) (i : ℕ) (sets : List ℕ) : Type 0 where
   pub shape : Sets sets
   pub told : (q a s : ℕ) → q < max_states → a < max_labels → s < max_states
-      → Deciding (λ ks. listed q a s (map transition_of ks)) keys n i (bit s (get_or sets (a * max_states + q) 0))
+      → Deciding (λ ks. listed q a s (map transition_of ks)) keys i (bit s (get_or sets (a * max_states + q) 0))
 
-pub allowed_none : (keys : List ℕ) (n : ℕ) → Allowed keys n 0 (replicate next_states_size 0)
-allowed_none keys n =
+pub allowed_none : (keys : List ℕ) → Allowed keys 0 (replicate next_states_size 0)
+allowed_none keys =
     record {
       shape = empty_sets;
-      told = λ q a s hq ha hs. deciding_none (λ ks. listed q a s (map transition_of ks)) keys n (no_bit (a * max_states + q) s);
+      told = λ q a s hq ha hs. deciding_none (λ ks. listed q a s (map transition_of ks)) keys (no_bit (a * max_states + q) s);
     }
   where
     no_bit : (i s : ℕ) → bit s (get_or (replicate next_states_size 0) i 0) ≡ false
     no_bit i s = rw (zeros next_states_size i) (short_bit 0 s 0 (omega arith) (omega arith))
 
-module _ {keys : List ℕ} {n i : ℕ} {sets : List ℕ} (t : Allowed keys n i sets) where
-  pub allowed_more : i < n → i < length keys → Allowed keys n (i + 1) (with_transition (transition_of (get_or keys i 0)) sets)
-  allowed_more h k =
+module _ {keys : List ℕ} {i : ℕ} {sets : List ℕ} (t : Allowed keys i sets) where
+  pub allowed_more : i < length keys → Allowed keys (i + 1) (with_transition (transition_of (get_or keys i 0)) sets)
+  allowed_more h =
       let x = transition_of (get_or keys i 0) in
       record {
         shape = transition_sets x t.shape;
-        told = λ q a s hq ha hs. deciding_more (asks_listed q a s) (t.told q a s hq ha hs) h k (transition_told x t.shape q a s hq ha hs);
+        told = λ q a s hq ha hs. deciding_more (asks_listed q a s) (t.told q a s hq ha hs) h (transition_told x t.shape q a s hq ha hs);
       }
 
-  pub allowed_all : {ts : List Transition} → min n (length keys) ≤ i → ts ≡ map transition_of (take n keys) → Listed ts sets
+  pub allowed_all : {ts : List Transition} → length keys ≤ i → ts ≡ map transition_of keys → Listed ts sets
   allowed_all h e =
       record { shape = t.shape; listed_at = λ q a s hq ha hs. rw e (deciding_all (asks_listed q a s) (t.told q a s hq ha hs) h) }

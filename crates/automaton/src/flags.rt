@@ -20,11 +20,8 @@ fn flags_of(states: States) -> StateFlags
     let list = states.list;
     let count = in_use(states.count, MAX_STATES);
     let mut flags = [0u8; MAX_STATES];
-    let mut i: usize = 0;
-    while i < count {
-        let q = list[i] as usize;
-        set_flag(&mut flags, q);
-        i = i + 1;
+    for state in &list[..count] {
+        set_flag(&mut flags, usize::from(*state));
     }
     StateFlags { flags }
 }

@@ -17,7 +17,7 @@ pub struct Range {
 pub fn label_fits(routines: u8, actions: u8, a: u8) -> bool
     ensures { result ≡ label_fits routines actions a }
 {
-    (a < actions) | ((FIRST_CALL <= a) & ((a as u16) < FIRST_CALL as u16 + routines as u16))
+    a < actions || (FIRST_CALL <= a && u16::from(a) < u16::from(FIRST_CALL) + u16::from(routines))
 }
 
 // Whether it is the label of a transition, which may also be that of a return.
@@ -25,11 +25,11 @@ pub fn event_fits(routines: u8, actions: u8, l: u8) -> bool
     ensures { result ≡ event_fits routines actions l }
 {
     label_fits(routines, actions, l)
-        | ((FIRST_RETURN <= l) & ((l as u16) < FIRST_RETURN as u16 + routines as u16))
+        || (FIRST_RETURN <= l && u16::from(l) < u16::from(FIRST_RETURN) + u16::from(routines))
 }
 
 pub fn is_in_range(n: Range, q: u8, l: u8) -> bool
     ensures { result ≡ in_range n.routines n.states n.actions q l }
 {
-    (q < n.states) & event_fits(n.routines, n.actions, l)
+    q < n.states && event_fits(n.routines, n.actions, l)
 }

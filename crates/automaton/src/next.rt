@@ -50,11 +50,9 @@ fn add_transition(sets: &mut [u16], key: u32)
     ensures { sets.new ≡ with_transition (transition_of key) sets.old }
 {
     let t = transition(key);
-    if t.before < MAX_STATES as u32 {
-        if t.after < MAX_STATES as u32 {
-            let at = t.label as usize * MAX_STATES + t.before as usize;
-            add_state(sets, at, t.after as u8);
-        }
+    if t.before < MAX_STATES as u32 && t.after < MAX_STATES as u32 {
+        let at = t.label as usize * MAX_STATES + t.before as usize;
+        add_state(sets, at, t.after as u8);
     }
 }
 
@@ -64,10 +62,8 @@ fn listed_moves(transitions: Transitions) -> NextStates
     let keys = transitions.keys;
     let count = in_use(transitions.count, MAX_TRANSITIONS);
     let mut sets = [0u16; NEXT_STATES_SIZE];
-    let mut i: usize = 0;
-    while i < count {
-        add_transition(&mut sets, keys[i]);
-        i = i + 1;
+    for key in &keys[..count] {
+        add_transition(&mut sets, *key);
     }
     NextStates { sets }
 }
@@ -86,11 +82,8 @@ fn heard_labels(transitions: Transitions) -> HeardLabels
     let keys = transitions.keys;
     let count = in_use(transitions.count, MAX_TRANSITIONS);
     let mut flags = [0u8; MAX_LABELS];
-    let mut i: usize = 0;
-    while i < count {
-        let at = label_of(keys[i]);
-        set_flag(&mut flags, at);
-        i = i + 1;
+    for key in &keys[..count] {
+        set_flag(&mut flags, label_of(*key));
     }
     HeardLabels { flags }
 }
@@ -103,10 +96,11 @@ fn stayed_at(heard: &[u8], n: Range, i: usize, old: u16) -> u16
 {
     let l = i / MAX_STATES;
     let q = (i % MAX_STATES) as u8;
-    if !is_set(heard, l) & is_in_range(n, q, l as u8) {
-        return with_state(old, q);
+    if !is_set(heard, l) && is_in_range(n, q, l as u8) {
+        with_state(old, q)
+    } else {
+        old
     }
-    old
 }
 
 // The calls and returns that are not heard leave every state alone.
@@ -116,11 +110,8 @@ fn stay_unheard(heard: &[u8], n: Range, sets: &mut [u16])
         → Heard r.transitions heard.now → Listed r.transitions sets.old
         → Answers r n.routines sets.new }
 {
-    let mut i: usize = FIRST_CALL as usize * MAX_STATES;
-    while i < NEXT_STATES_SIZE {
-        let set = stayed_at(heard, n, i, sets[i]);
-        sets[i] = set;
-        i = i + 1;
+    for i in usize::from(FIRST_CALL) * MAX_STATES..NEXT_STATES_SIZE {
+        sets[i] = stayed_at(heard, n, i, sets[i]);
     }
 }
 
@@ -148,11 +139,10 @@ pub fn next_states(r: DecodedAutomaton, routines: u8) -> NextStates
 pub fn next_after(sets: &[u16], q: u8, l: u8) -> u16
     ensures { result ≡ set_at sets.now q l }
 {
-    if (q as usize) < MAX_STATES {
-        let at = l as usize * MAX_STATES + q as usize;
-        if at < sets.len() {
-            return sets[at];
-        }
+    let at = usize::from(l) * MAX_STATES + usize::from(q);
+    if usize::from(q) < MAX_STATES && at < sets.len() {
+        sets[at]
+    } else {
+        0
     }
-    0
 }

@@ -31,7 +31,7 @@ pub fn no_transitions() -> Transitions
 pub fn transition_key(before: u8, label: u8, after: u8) -> u32
     ensures { transition_of result ≡ record { before = before; label = label; after = after } }
 {
-    ((before as u32) * 256 + (label as u32)) * 256 + (after as u32)
+    (u32::from(before) * 256 + u32::from(label)) * 256 + u32::from(after)
 }
 
 // The parts of a transition's key.

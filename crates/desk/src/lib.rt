@@ -12,7 +12,6 @@ use answers::{
     analyze_numbers, block_numbers, next_numbers, pair_numbers, repair_numbers, room_numbers,
     sizes_numbers, verdict_numbers, write_numbers,
 };
-use program::chosen::sizes_of;
 
 // Is this file accepted? The line of its refusal is set.
 pub fn palthrenni_read(file: &[u8], line: &mut u32) -> u32
@@ -36,9 +35,8 @@ pub fn palthrenni_read(file: &[u8], line: &mut u32) -> u32
           second = [];
         }) }
 {
-    let r = reader::read(file);
-    let v = r.verdict;
-    let numbers = verdict_numbers(v);
+    let read = reader::read(file);
+    let numbers = verdict_numbers(&read);
     *line = numbers.line;
     numbers.refusal
 }
@@ -73,11 +71,9 @@ pub fn palthrenni_sizes(
           second = [];
         }) }
 {
-    let r = reader::read(file);
-    let v = r.verdict;
-    let z = sizes_of(r.program);
-    let numbers = verdict_numbers(v);
-    let told = sizes_numbers(v, z);
+    let read = reader::read(file);
+    let numbers = verdict_numbers(&read);
+    let told = sizes_numbers(&read);
     *line = numbers.line;
     *routines = told.routines;
     *nodes = told.nodes;
@@ -109,11 +105,9 @@ pub fn palthrenni_faulty_pair(file: &[u8], line: &mut u32, state: &mut u32, acti
           second = [];
         }) }
 {
-    let r = reader::read(file);
-    let v = r.verdict;
-    let pair = r.pair;
-    let numbers = verdict_numbers(v);
-    let told = pair_numbers(pair);
+    let read = reader::read(file);
+    let numbers = verdict_numbers(&read);
+    let told = pair_numbers(&read);
     *line = numbers.line;
     *state = told.state;
     *action = told.action;
@@ -289,8 +283,8 @@ pub fn palthrenni_prune(file: &[u8], marks: &mut [u8], work: &mut [u8], line: &m
           second = [];
         }) }
 {
-    let v = prune::prune(file, marks, work);
-    let numbers = verdict_numbers(v);
+    let pruned = prune::prune(file, marks, work);
+    let numbers = verdict_numbers(&pruned);
     *line = numbers.line;
     numbers.refusal
 }

@@ -14,7 +14,7 @@ use Rattle.program.specs.WellFormed.{WellFormed}
 use Rattle.program.proofs.FramesFitBytes.{edge_bytes}
 use Rattle.edit.specs.Edits.{labelled, edge_of_step, old_edge, new_edge}
 use Rattle.edit.specs.Editing.{same_edge, has_edge, without, edit_refusal, wanted_by, Applies}
-use Rattle.edit.specs.Parts.{Keyed, KeyedRead, refusal_by}
+use Rattle.edit.specs.Parts.{Keyed, refusal_by}
 use Rattle.edit.specs.declared.Label.{Label}
 use Rattle.edit.specs.declared.Step.{Step}
 use Rattle.edit.specs.declared.Edit.{Edit}
@@ -37,12 +37,8 @@ FitsRead p (Refused n) = Unit
 
 -- ---- so that its edges have keys
 
-fits_keyed : (p : Program) → WellFormed p → (e : Edit) → Fits p e → Keyed e
+pub fits_keyed : (p : Program) → WellFormed p → (e : Edit) → Fits p e → Keyed e
 fits_keyed p w e f = record { old = edge_bytes p w (old_edge e) f.old; new = edge_bytes p w (new_edge e) f.new }
-
-pub read_keyed : (p : Program) → WellFormed p → (r : EditRead) → FitsRead p r → KeyedRead r
-read_keyed p w (Read e) f = fits_keyed p w e f
-read_keyed p w (Refused n) f = tt
 
 -- ---- the refusals 14 to 16
 

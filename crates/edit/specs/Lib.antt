@@ -1,3 +1,4 @@
 pub mod Edits
+pub mod EditReads
 pub mod Editing
 pub mod Parts

@@ -5,17 +5,11 @@ use Rattle.program.specs.Frames.{edge_frame}
 use Rattle.edit.specs.Edits.{old_edge, new_edge}
 use Rattle.edit.specs.declared.Edit.{Edit}
 use Rattle.edit.specs.declared.Edit.TheVariants.{Add, Drop, Replace}
-use Rattle.edit.specs.EditReads.{EditRead}
-use Rattle.edit.specs.EditReads.{Read, Refused}
 
 -- both edges of an edit are of bytes, so that each has a key
 pub record Keyed (e : Edit) : Type 0 where
   pub old : Bytes (edge_frame (old_edge e))
   pub new : Bytes (edge_frame (new_edge e))
-
-abbrev pub KeyedRead : EditRead → Type 0
-KeyedRead (Read e) = Keyed e
-KeyedRead (Refused n) = Unit
 
 -- the refusal of an edit (14 to 16), or 0: by whether its old edge is there, whether its new one is, and whether the
 -- table is full

@@ -17,26 +17,14 @@ use tables::{insert_key, remove_key};
 pub fn relabelled(s: Step, l: Label) -> Step
     ensures { result ≡ relabelled s l }
 {
-    Step {
-        routine: s.routine,
-        source: s.source,
-        label: l,
-        target: s.target,
-    }
+    Step { label: l, ..s }
 }
 
 // The program with these edges for its own.
 pub fn with_edges(p: DecodedProgram, edges: Edges) -> DecodedProgram
     ensures { program_of result ≡ with_edges (program_of p) (map edge_of (edge_keys_of edges)) }
 {
-    let nodes = p.nodes;
-    let automaton = p.automaton;
-    DecodedProgram {
-        routines: p.routines,
-        nodes,
-        edges,
-        automaton,
-    }
+    DecodedProgram { edges, ..p }
 }
 
 // The program with one step more. Only an edge of bytes has a key, and an edit that would make more edges than there is

@@ -36,9 +36,7 @@ pub fn old_step(e: Edit) -> Step
     ensures { result ≡ old_step e }
 {
     match e {
-        Edit::Add(s) => s,
-        Edit::Drop(s) => s,
-        Edit::Replace(s, _) => s,
+        Edit::Add(s) | Edit::Drop(s) | Edit::Replace(s, _) => s,
     }
 }
 
@@ -47,8 +45,7 @@ pub fn new_step(e: Edit) -> Step
     ensures { result ≡ new_step e }
 {
     match e {
-        Edit::Add(s) => s,
-        Edit::Drop(s) => s,
+        Edit::Add(s) | Edit::Drop(s) => s,
         Edit::Replace(s, l) => relabelled(s, l),
     }
 }

@@ -26,10 +26,3 @@ pub enum Edit {
     Drop(Step),
     Replace(Step, Label),
 }
-
-// An edit that was read, or the refusal of its line (12 to 16).
-#[derive(Clone, Copy)]
-pub enum EditRead {
-    Read(Edit),
-    Refused(u8),
-}

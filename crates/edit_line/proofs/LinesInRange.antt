@@ -15,11 +15,12 @@ use Rattle.program.specs.Frames.{num}
 use Rattle.program.specs.Reading.{edge_in}
 use Rattle.program.specs.WellFormed.{WellFormed}
 use Rattle.edit.specs.Edits.{event_of, label_number, edge_of_step}
-use Rattle.edit.specs.Parts.{KeyedRead}
+use Rattle.edit.specs.Parts.{Keyed}
 use Rattle.edit.specs.declared.Label.TheVariants.{Action, Call}
+use Rattle.edit.specs.declared.Edit.{Edit}
 use Rattle.edit.specs.declared.Edit.TheVariants.{Add, Drop, Replace}
 use Rattle.edit.specs.EditReads.{Read, Refused}
-use Rattle.edit.proofs.EditRefusals.{Fits, FitsRead, read_keyed}
+use Rattle.edit.proofs.EditRefusals.{Fits, FitsRead, fits_keyed}
 use Rattle.edit_line.specs.EditLines.{only_line, bad_line, out_of_range, step_in, edit_in, edit_from, read_edit}
 use Rattle.base.proofs.Bools.{neither}
 
@@ -81,5 +82,5 @@ read_fits p line = go (bad_line l) (out_of_range p l) (edit_fits p l)
     go false true h = tt
     go false false h = h refl refl
 
-pub line_keyed : (p : Program) → WellFormed p → (line : List ℕ) → KeyedRead (read_edit p line)
-line_keyed p w line = read_keyed p w (read_edit p line) (read_fits p line)
+pub line_keyed : (p : Program) → WellFormed p → (line : List ℕ) → {e : Edit} → Read e ≡ read_edit p line → Keyed e
+line_keyed p w line {e} h = fits_keyed p w e (rw (← h) at (read_fits p line))

@@ -1,1 +1,2 @@
 pub mod EditLines
+pub mod Parts

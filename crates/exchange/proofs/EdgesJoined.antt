@@ -2,10 +2,10 @@
 use mathlib.Core.Path.{◌≡◌, refl, ap, sym, ◌∙◌}
 use mathlib.Core.Bool.{Bool, true, false, not}
 use mathlib.Core.List.{List, [], ◌∷◌, ◌++◌, map}
-use Prim.Native.Nat.{ℕ, zero, suc, ◌+◌, ◌≤◌, ◌<◌}
+use Prim.Native.Nat.{ℕ, zero, suc, ◌≤◌, ◌<◌}
 use native.Mathlib.Omega.{arith}
 use lib.Dec.{leb}
-use lib.ListN.{length, take, drop, get_or, length-append, length-map, take-append-drop, get_or-append}
+use lib.ListN.{length, take, drop, get_or, length-append, take-append-drop, get_or-append}
 use lib.Seq.{take_at, drop_at, get_or_at, get_or-take, length-take-le}
 use borrow.Author.Tests.{ltb-true, leb-true, leb-false, eqb-true, eqb-false, lt-ltb, not-true}
 use Rattle.tables.specs.Keys.{Ascending, inserted_key, FirstFrom}
@@ -79,7 +79,3 @@ module _ {low f at : ℕ} {ks : List ℕ} (begins : Begins low f) (first : First
   all_joined lo (m ∷ ms) o s =
       ap (map edge_of) (one_joined m ms o.0 s.1) ∙ edges_inserted m (with_new ms)
       ∙ ap (inserted (edge_of m)) (all_joined (edge_key (edge_of m)) ms o.1 s.1)
-
--- there is room for as many keys as for the edges that they stand for
-pub room_left : (ks ms : List ℕ) {es : List Edge} {size : ℕ} → map edge_of ks ≡ es → length es + length (map edge_of ms) ≤ size → length ks + length ms ≤ size
-room_left ks ms e h = let k = rw (← e) at h in omega (arith, length-map ks edge_of, length-map ms edge_of)

@@ -1,4 +1,3 @@
-pub mod NodesChanged
 pub mod OtherRoutines
 pub mod TablesJoined
 pub mod EdgesJoined

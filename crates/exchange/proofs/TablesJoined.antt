@@ -3,9 +3,9 @@ use mathlib.Core.Path.{◌≡◌, ap, sym, ◌∙◌}
 use mathlib.Core.List.{List, ◌++◌, append_assoc}
 use Prim.Native.Nat.{ℕ, min, ◌+◌, ◌-◌, ◌≤◌}
 use native.Mathlib.Omega.{arith}
-use lib.ListN.{length, take, drop, length-append, length-take}
+use lib.ListN.{length, take, drop, length-take}
 use lib.Seq.{length-take-le, take-take, take-add, drop_at}
-use Rattle.base.proofs.EntriesInUse.{in_use_same, in_use_length}
+use Rattle.base.proofs.EntriesInUse.{in_use_same}
 use Rattle.tables.specs.Keys.{Holds}
 use Rattle.program.specs.Sizes.{max_edges}
 
@@ -27,24 +27,7 @@ module _ {xs ys : List ℕ} {n m at : ℕ} (j : Joining xs n at ys m) {u : ℕ} 
   new_used : take u ys ≡ take m ys
   new_used = in_use_same m ys j.new_size used
 
-  pub new_fits : u ≤ length ys
-  new_fits = omega (arith, j.new_size)
-
-  pub new_counted : u ≡ length (take u ys)
-  new_counted = rw new_used (in_use_length m ys j.new_size used)
-
-  pub middle_fits : at + length (take u ys) ≤ length xs
-  middle_fits = rw new_used (omega (arith, j.counted, j.inside, j.room, j.old_size))
-
   module _ {with_new : List ℕ} {r : ℕ} (middle : Holds with_new r (take at xs ++ take u ys)) where
-    pub end_fits : length with_new ≡ length xs → r + length (take (n - at) (drop at xs)) ≤ length with_new
-    end_fits l =
-        let a = length-append (take at xs) (take u ys) in
-        let b = length-take at xs in
-        let e = length-take (n - at) (drop at xs) in
-        let k = in_use_length m ys j.new_size used in
-        omega (arith, l, j.counted, j.inside, j.room, j.old_size, middle.as_many, new_counted)
-
     pub end_joined : {all : List ℕ} {k : ℕ} → Holds all k (take r with_new ++ take (n - at) (drop at xs))
         → take k all ≡ take at (take n xs) ++ (take m ys ++ drop at (take n xs))
     end_joined h =

@@ -22,26 +22,15 @@ pub fn with_nodes(n: Nodes, f: u8, nodes: u8) -> Nodes
     if at < MAX_ROUTINES {
         list[at] = nodes;
     }
-    Nodes {
-        count: n.count,
-        list,
-    }
+    Nodes { list, ..n }
 }
 
 // The program in which routine f has so many nodes.
 pub fn program_with_nodes(p: DecodedProgram, f: u8, count: u8) -> DecodedProgram
     ensures { program_of result ≡ with_nodes (program_of p) f count }
 {
-    let counts = p.nodes;
-    let nodes = with_nodes(counts, f, count);
-    let edges = p.edges;
-    let automaton = p.automaton;
-    DecodedProgram {
-        routines: p.routines,
-        nodes,
-        edges,
-        automaton,
-    }
+    let nodes = with_nodes(p.nodes, f, count);
+    DecodedProgram { nodes, ..p }
 }
 
 // The edges of every routine but f.
@@ -60,8 +49,7 @@ pub fn others_of(t: Edges, f: u8) -> Edges
 pub fn without_routine(p: DecodedProgram, f: u8) -> DecodedProgram
     ensures { program_of result ≡ emptied f (program_of p) }
 {
-    let edges = p.edges;
-    with_edges(p, others_of(edges, f))
+    with_edges(p, others_of(p.edges, f))
 }
 
 // The table with new keys before the one at `at`. That is a place among the keys of the table, whose count is exact
@@ -87,18 +75,9 @@ pub fn exchanged(p: DecodedProgram, x: DecodedExchange) -> DecodedProgram
     requires { Fits (exchange_of x) (program_of p) }
     ensures { program_of result ≡ exchanged_program (exchange_of x) (program_of p) }
 {
-    let before = p.edges;
-    let rest = others_of(before, x.routine);
+    let rest = others_of(p.edges, x.routine);
     let at = first_from(&rest.keys, rest.count, first_key(x.routine as u32));
-    let new = x.edges;
-    let edges = joined(rest, at, new);
-    let counts = p.nodes;
-    let nodes = with_nodes(counts, x.routine, x.nodes);
-    let automaton = p.automaton;
-    DecodedProgram {
-        routines: p.routines,
-        nodes,
-        edges,
-        automaton,
-    }
+    let edges = joined(rest, at, x.edges);
+    let nodes = with_nodes(p.nodes, x.routine, x.nodes);
+    DecodedProgram { nodes, edges, ..p }
 }

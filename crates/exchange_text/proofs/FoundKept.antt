@@ -1,15 +1,11 @@
--- What was found, and an exchange, by their parts as they are kept.
+-- What was found, by its parts as they are kept.
 use Prim.Native.Nat.{ℕ}
 use mathlib.Core.Path.{◌≡◌}
 use mathlib.Core.Bool.{Bool}
 use mathlib.Core.List.{List}
 use Rattle.program.specs.Program.{Edge}
-use Rattle.exchange.specs.Changes.{Exchange}
 use Rattle.exchange_text.specs.Parts.{Found}
 
 pub found_parts : (r : Found) {last : ℕ} {o a c : Bool} {es : List Edge} → last ≡ r.last → o ≡ r.outside → a ≡ r.astray → c ≡ r.crowded → es ≡ r.edges
     → record { last = last; outside = o; astray = a; crowded = c; edges = es } ≡ r
 found_parts r p q s t u = λ i. record { last = p i; outside = q i; astray = s i; crowded = t i; edges = u i }
-
-pub exchange_parts : (r : Exchange) {f n : ℕ} {es : List Edge} → f ≡ r.routine → n ≡ r.nodes → es ≡ r.edges → record { routine = f; nodes = n; edges = es } ≡ r
-exchange_parts r p q s = λ i. record { routine = p i; nodes = q i; edges = s i }

@@ -6,7 +6,6 @@ mod scan;
 
 ghost use Rattle.std.specs.Prelude.{◌≡◌};
 ghost use Rattle.program.specs.Decoded.{program_of};
-ghost use Rattle.exchange.specs.Changes.{Refused};
 ghost use Rattle.exchange_text.specs.ExchangeText.{wanted_exchange};
 ghost use Rattle.exchange_text.specs.Decoded.{read_of};
 
@@ -14,43 +13,20 @@ use exchange::DecodedExchange;
 use frames::number;
 use line::{bounded_by, is_bad};
 use program::DecodedProgram;
-use program::edges::no_edges;
+use program::refusal::Refusal;
 use ranges::limits_of;
 use scan::{after_line, conclude, start_scan};
 use text::read_line;
 
-// The exchange that was read, and 0; or the refusal of its text, with any exchange beside it.
-#[derive(Clone, Copy)]
-pub struct DecodedRead {
-    pub refusal: u8,
-    pub exchange: DecodedExchange,
-}
-
-// A text with a bad line.
-fn refuse() -> DecodedRead
-    ensures { read_of result ≡ Refused 12 }
-{
-    let edges = no_edges();
-    let exchange = DecodedExchange {
-        routine: 0,
-        nodes: 0,
-        edges,
-    };
-    DecodedRead {
-        refusal: 12,
-        exchange,
-    }
-}
-
 // The exchange that a text says for a program, or the first refusal of 12, 13, 21, 16 and 23 that it meets. A bad line
 // (12) decides at once; the other refusals wait for the end, for each is over the whole text before the next.
-pub fn wanted_exchange(p: DecodedProgram, text: &[u8]) -> DecodedRead
+pub fn wanted_exchange(p: DecodedProgram, text: &[u8]) -> Result<DecodedExchange, Refusal>
     ensures { read_of result ≡ wanted_exchange (program_of p) text.now }
 {
     let read = read_line(text, 0);
     let first = read.line;
     if is_bad(first) {
-        return refuse();
+        return Err(Refusal::EditLine);
     }
     let h = bounded_by(limits_of(p), first);
     let f = number(first, 1);
@@ -60,7 +36,7 @@ pub fn wanted_exchange(p: DecodedProgram, text: &[u8]) -> DecodedRead
         let next = read_line(text, at);
         let l = next.line;
         if is_bad(l) {
-            return refuse();
+            return Err(Refusal::EditLine);
         }
         s = after_line(s, h, f, l);
         at = next.next;

@@ -15,7 +15,7 @@ pub fn is_bad(l: Line) -> bool
     ensures { result ≡ bad_frame l }
 {
     let k = kind_of(l);
-    (l.count == 0) | !((k == 2) | (k == 3)) | !(l.count == size_of(0, k))
+    l.count == 0 || !(k == 2 || k == 3) || l.count != size_of(0, k)
 }
 
 // 13, by what bounds the numbers: no more of a program has to be known.
@@ -30,21 +30,15 @@ pub fn is_astray(f: u8, last: u64, l: Line) -> bool
     ensures { result ≡ astray f last l }
 {
     let k = kind_of(l);
-    !(k == 3) | !(number(l, 1) == f) | !(last < key_of(k, l))
+    k != 3 || number(l, 1) != f || key_of(k, l) <= last
 }
 
 // With the count of nodes that a frame 52 says.
 fn with_count(h: Limits, l: Line) -> Limits
     ensures { limits_of result ≡ with_nodes (limits_of h) (num l 1) (num l 2) }
 {
-    let n = h.nodes;
-    let nodes = with_nodes(n, number(l, 1), number(l, 2));
-    Limits {
-        routines: h.routines,
-        states: h.states,
-        actions: h.actions,
-        nodes,
-    }
+    let nodes = with_nodes(h.nodes, number(l, 1), number(l, 2));
+    Limits { nodes, ..h }
 }
 
 // What bounds all lines, by the first: a leading frame 52's count of nodes is taken for its routine.
@@ -52,7 +46,8 @@ pub fn bounded_by(h: Limits, first: Line) -> Limits
     ensures { limits_of result ≡ bounded_by (first ∷ []) (limits_of h) }
 {
     if kind_of(first) == 2 {
-        return with_count(h, first);
+        with_count(h, first)
+    } else {
+        h
     }
-    h
 }

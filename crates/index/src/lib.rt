@@ -37,15 +37,10 @@ fn link_edge(index: &mut [u16], f: u8, n: u8, i: u16)
     requires { (length index.old ≡ index_size) × (i < max_edges) }
     ensures { index.new ≡ with_edge f n i index.old }
 {
-    if (f as usize) < MAX_ROUTINES {
-        if (n as usize) < MAX_NODES {
-            link(
-                index,
-                f as usize * MAX_NODES + n as usize,
-                NEXT_EDGES + i as usize,
-                i,
-            );
-        }
+    let f = usize::from(f);
+    let n = usize::from(n);
+    if f < MAX_ROUTINES && n < MAX_NODES {
+        link(index, f * MAX_NODES + n, NEXT_EDGES + usize::from(i), i);
     }
 }
 
@@ -56,9 +51,9 @@ fn link_caller(index: &mut [u16], label: u8, i: u16)
     ensures { index.new ≡ with_caller label i index.old }
 {
     if is_call(label) {
-        let g = called_by(label) as usize;
+        let g = usize::from(called_by(label));
         if g < MAX_ROUTINES {
-            link(index, FIRST_CALLERS + g, NEXT_CALLERS + i as usize, i);
+            link(index, FIRST_CALLERS + g, NEXT_CALLERS + usize::from(i), i);
         }
     }
 }
@@ -81,37 +76,28 @@ pub fn index_of(keys: &[u32]) -> Index
 {
     let count = keys.len();
     let mut places = [count as u16; INDEX_SIZE];
-    let mut i: usize = count;
-    while 0 < i {
-        i = i - 1;
+    for i in (0..count).rev() {
         link_key(&mut places, keys[i], i as u16);
     }
     Index { places }
-}
-
-fn wide(x: u16) -> usize
-    ensures { result ≡ x }
-{
-    x as usize
 }
 
 // Entry i of the part that begins at a place. Past the end there is 0; the sum is made only where it does not wrap.
 fn entry(index: &[u16], part: usize, i: usize) -> usize
     ensures { result ≡ get_or index.now (part + i) 0 }
 {
-    if part <= index.len() {
-        if i < index.len() - part {
-            return wide(index[part + i]);
-        }
+    if part <= index.len() && i < index.len() - part {
+        usize::from(index[part + i])
+    } else {
+        0
     }
-    0
 }
 
 // The first edge from node n of routine f.
 pub fn first_edge(index: &[u16], f: u8, n: u8) -> usize
     ensures { result ≡ get_or index.now (node_place f n) 0 }
 {
-    entry(index, f as usize * MAX_NODES, n as usize)
+    entry(index, usize::from(f) * MAX_NODES, usize::from(n))
 }
 
 // The next edge after edge i from the same node.
@@ -125,7 +111,7 @@ pub fn next_edge(index: &[u16], i: usize) -> usize
 pub fn first_caller(index: &[u16], g: u8) -> usize
     ensures { result ≡ get_or index.now (routine_place g) 0 }
 {
-    entry(index, FIRST_CALLERS, g as usize)
+    entry(index, FIRST_CALLERS, usize::from(g))
 }
 
 // The next edge after edge i that calls the same routine.

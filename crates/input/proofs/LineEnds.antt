@@ -1,16 +1,18 @@
 -- Where a line ends, and where the file does.
-use mathlib.Core.Path.{◌≡◌, refl, ap, ◌∙◌}
+use mathlib.Core.Path.{◌≡◌, refl, sym, ap, ◌∙◌}
 use mathlib.Core.Logic.{◌≢◌}
-use mathlib.Core.Bool.{Bool, true, false, cond, ◌&&◌}
+use mathlib.Core.Bool.{Bool, true, false, cond, ◌&&◌, and-true}
 use mathlib.Core.List.{List, [], ◌∷◌}
 use Prim.Native.Nat.{ℕ, suc, ◌+◌, ◌-◌, ◌<◌, ◌≤◌}
-use native.Mathlib.Nat.{add-zero}
 use native.Mathlib.Numerals.{add-one}
 use native.Mathlib.Omega.{arith}
+use native.Mathlib.Decide.{ℕ_discrete}
 use lib.Dec.{eqb}
 use lib.ListN.{length, get_or, take, drop, length-drop, drop_of_length-le}
-use lib.Seq.{drop-cons, drop-drop, get_or-drop}
+use lib.Seq.{drop-cons, drop-drop}
 use borrow.Author.Tests.{eqb-true, eq-eqb, ne_eqb}
+use Rattle.std.specs.Cmp.Lexicographic.{pointwise}
+use Rattle.base.proofs.Bools.{same_test}
 use Rattle.text.specs.Lines.{glue, lines, first_line}
 use Rattle.text.proofs.LinesSplit.{lines_first, after_line}
 use Rattle.input.specs.Input.{starts_end, file_size, first_size}
@@ -64,10 +66,16 @@ starts_so b s = go (eqb b 0x34) refl
     go true e = let n : eqb b 10 ≡ false = rw (eqb-true b 0x34 e) in rw (n, first_byte s)
     go false e = rw e
 
-pub starts_at : (s : List ℕ) (at : ℕ) → at < length s → eqb (get_or s at 0) 0x34 && eqb (get_or s (at + 1) 0) 0x35 ≡ starts_end (first_line (drop at s))
-starts_at s at h =
-    let e : get_or s (at + 1) 0 ≡ get_or (drop (suc at) s) 0 0 = rw (get_or-drop (suc at) s 0 0, add-zero, add-one) in
-    rw (e, drop-cons s at 0 h) (starts_so (get_or s at 0) (drop (suc at) s))
+swapped : (a b : ℕ) → eqb a b ≡ eqb b a
+swapped a b =
+    same_test (eqb a b) (eqb b a) (λ h. eq-eqb b a (sym (eqb-true a b h))) (λ h. eq-eqb a b (sym (eqb-true b a h)))
+
+-- a text starts with 45 just where its first line does
+pub starts_with_end : (s : List ℕ) → pointwise eqb (0x34 ∷ 0x35 ∷ []) (take 2 s) ≡ starts_end (first_line s)
+unfolding first_line
+starts_with_end [] = refl
+starts_with_end (b ∷ []) = rw (swapped 0x34 b) (starts_so b [])
+starts_with_end (b ∷ c ∷ s) = rw (swapped 0x34 b, swapped 0x35 c, and-true (eqb c 0x35)) (starts_so b (c ∷ s))
 
 -- ---- the length of a line: a loop goes on to its 0A
 
@@ -92,11 +100,17 @@ module _ {s : List ℕ} {from i : ℕ} (w : Within s from i) where
   pub within_stop : i < length s → get_or s i 0 ≡ 10 → i + 1 - from ≡ first_size (lines (drop from s))
   within_stop h n = omega (arith, w.far, w.whole, one_on s i h true (eq-eqb (get_or s i 0) 10 n))
 
-  pub within_end : length s ≤ i → i - from ≡ first_size (lines (drop from s))
+  pub within_end : length s ≤ i → (from ≤ length s → i ≤ length s) → length s - from ≡ first_size (lines (drop from s))
   unfolding first_line
-  within_end h =
+  within_end h k =
       let e : length (first_line (drop i s)) ≡ 0 = rw (drop_of_length-le s h) in
-      omega (arith, w.far, w.whole, e)
+      elim (ℕ_discrete (from - length s) 0) [
+        | yes z ↦ omega (arith, w.whole, e, k (omega arith))
+        | no z ↦
+            let l : length s ≤ from = omega arith in
+            let f : length (first_line (drop from s)) ≡ 0 = rw (drop_of_length-le s l) in
+            omega (arith, first-size (drop from s), f)
+      ]
 
 -- ---- the length of the file: a loop takes a line after the other
 

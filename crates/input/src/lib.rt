@@ -13,25 +13,19 @@ fn starts_end(input: &[u8], at: usize) -> bool
     requires { at < length input.now }
     ensures { result ≡ starts_end (first_line (drop at input.now)) }
 {
-    let next = at + 1;
-    if next < input.len() {
-        return (input[at] == 0x34) & (input[next] == 0x35);
-    }
-    false
+    input[at..].starts_with(b"45")
 }
 
 // How many bytes the line that starts at a position has; 0 where nothing is left.
 pub fn line_size(input: &[u8], from: usize) -> usize
     ensures { result ≡ first_size (lines (drop from input.now)) }
 {
-    let mut i = from;
-    while i < input.len() {
-        if input[i] == 10 {
+    for i in from..input.len() {
+        if input[i] == b'\n' {
             return i + 1 - from;
         }
-        i = i + 1;
     }
-    i - from
+    input.len().saturating_sub(from)
 }
 
 // How many bytes the file of an input has: through its first line that starts with 45, or all of them.

@@ -1,13 +1,14 @@
 -- The sizes that a well-formed program chooses: the largest count of nodes, and that there is room for them.
-use mathlib.Core.Path.{◌≡◌, refl, sym, ap, ◌∙◌}
+use mathlib.Core.Path.{◌≡◌, refl, sym, ◌∙◌}
 use mathlib.Core.Bool.{Bool, true, false, cond}
 use mathlib.Core.List.{List, [], ◌∷◌}
-use Prim.Native.Nat.{ℕ, zero, suc, min, ◌≤◌, ◌<◌}
+use Prim.Native.Nat.{ℕ, zero, suc, max, ◌≤◌}
 use native.Mathlib.Omega.{arith}
 use native.Mathlib.Nat.{le_refl}
 use lib.Dec.{leb}
-use lib.ListN.{length, get_or, take, drop, length-take, drop_of_length-le}
-use lib.Seq.{drop-cons, get_or-take}
+use lib.ListN.{get_or}
+use Rattle.std.specs.List.{fold, reduce}
+use Rattle.std.specs.Option.{unwrap_or}
 use borrow.Author.Tests.{leb-true, leb-false}
 use Rattle.program.specs.Sizes.{max_nodes, marks_most}
 use Rattle.program.specs.Program.{Program, nodes_fit}
@@ -46,25 +47,21 @@ admitted p w =
       product = leb-true (numbers (sizes_of p)) marks_most w.sized;
     }
 
--- ---- the largest, from the last to the first
+-- ---- the own largest is what std makes of the numbers
 
-module _ (l : List ℕ) (c : ℕ) (few : c ≤ length l) where
-  pub largest_none : largest (drop c (take c l)) ≡ 0
-  unfolding largest
-  largest_none =
-      let z : length (take c l) ≤ c = omega (arith, length-take c l) in
-      rw (drop_of_length-le (take c l) z)
+larger : (n m : ℕ) → cond (leb m n) n m ≡ max n m
+larger n m = go (leb m n) refl
+  where
+    go : (t : Bool) → leb m n ≡ t → cond t n m ≡ max n m
+    go true e = let h = leb-true m n e in omega arith
+    go false e = let h = leb-false m n e in omega arith
 
-  pub largest_step : (i m : ℕ) → i < c → m ≡ largest (drop (suc i) (take c l)) → cond (leb m (get_or l i 0)) (get_or l i 0) m ≡ largest (drop i (take c l))
-  unfolding largest
-  largest_step i m h e =
-      ap (λ (y : ℕ). cond (leb y (get_or l i 0)) (get_or l i 0) y) e
-      ∙ sym (ap largest (drop-cons (take c l) i 0 (omega (arith, length-take c l)) ∙ ap (λ (x : ℕ). x ∷ drop (suc i) (take c l)) (get_or-take c l i 0 h)))
+folded : (n : ℕ) (ns : List ℕ) → fold max n ns ≡ max n (largest ns)
+unfolding largest
+folded n [] = omega arith
+folded n (m ∷ ns) = folded (max n m) ns ∙ rw (larger m (largest ns)) (omega arith)
 
--- a count above the length means all
-pub take_min : (n : ℕ) (l : List ℕ) → take (min n (length l)) l ≡ take n l
-take_min zero l = let e : min zero (length l) ≡ 0 = omega arith in rw e
-take_min (suc n) [] = let e : min (suc n) zero ≡ 0 = omega arith in rw e
-take_min (suc n) (x ∷ l) =
-    let e : min (suc n) (suc (length l)) ≡ suc (min n (length l)) = omega arith in
-    rw e (ap (λ (t : List ℕ). x ∷ t) (take_min n l))
+pub largest_is : (ns : List ℕ) → unwrap_or (reduce max ns) 0 ≡ largest ns
+unfolding largest
+largest_is [] = refl
+largest_is (n ∷ ns) = folded n ns ∙ sym (larger n (largest ns))

@@ -1,7 +1,8 @@
 -- The refusals as the code has them, and the numbers of the table of refusals that they stand for.
-use Rattle.std.specs.Prelude.{ℕ, ◌≡◌, Result, Ok, Err}
+use Rattle.std.specs.Prelude.{ℕ, ◌≡◌, Option, Some, None, Result, Ok, Err}
 use Rattle.rows.specs.Rows.{Pair, no_pair}
 use Rattle.rows.specs.Decoded.{pair_of}
+use Rattle.rows.specs.declared.FaultyPair.{FaultyPair}
 use Rattle.rows.specs.declared.TableFault.{TableFault}
 use Rattle.rows.specs.declared.TableFault.TheVariants.{NotMet, MetTwice}
 use Rattle.program.specs.Verdicts.{Verdict, Accepted, Refused}
@@ -50,6 +51,11 @@ number_met (Err e) = number e
 abbrev pub verdict_by : {A : Type 0} → Result A RefusedAt → Verdict
 verdict_by (Ok x) = Accepted
 verdict_by (Err e) = Refused (number e.refusal) e.line
+
+-- a pair, where there is one
+abbrev pub pair_told : Option FaultyPair → Pair
+pair_told None = no_pair
+pair_told (Some x) = pair_of x
 
 -- the pair that a table is refused for: none where another refusal decides
 abbrev pub pair_in : Refusal → Pair

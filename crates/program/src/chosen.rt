@@ -1,5 +1,5 @@
 // The sizes that a decoded program chooses.
-ghost use Rattle.std.specs.Prelude.{◌≡◌, cond, leb};
+ghost use Rattle.std.specs.Prelude.{◌≡◌};
 ghost use Rattle.program.specs.Chosen.{largest, sizes_of};
 ghost use Rattle.program.specs.Decoded.{nodes_of, program_of};
 
@@ -7,28 +7,13 @@ use crate::sizes::{MAX_ROUTINES, Sizes};
 use crate::{DecodedProgram, Nodes};
 use tables::in_use;
 
-fn larger(n: u8, m: u8) -> u8
-    ensures { result ≡ cond (leb m n) n m }
-{
-    if m <= n {
-        return n;
-    }
-    m
-}
-
-// The largest count of nodes, from the last routine to the first.
+// The largest count of nodes.
 fn largest_of(nodes: Nodes) -> u8
     ensures { result ≡ largest (nodes_of nodes) }
 {
     let list = nodes.list;
     let count = in_use(nodes.count, MAX_ROUTINES);
-    let mut most: u8 = 0;
-    let mut i: usize = count;
-    while 0 < i {
-        i = i - 1;
-        most = larger(list[i], most);
-    }
-    most
+    list[..count].iter().copied().max().unwrap_or(0)
 }
 
 pub fn sizes_of(p: DecodedProgram) -> Sizes

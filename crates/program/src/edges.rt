@@ -42,11 +42,12 @@ pub fn edge_key(routine: u8, source: u8, label: u8, target: u8) -> u32
 pub fn edge(key: u32) -> DecodedEdge
     ensures { edge_view result ≡ edge_of key }
 {
+    let [routine, source, label, target] = key.to_be_bytes();
     DecodedEdge {
-        routine: (key / 0x1000000) as u8,
-        source: (key / 0x10000 % 256) as u8,
-        label: (key / 0x100 % 256) as u8,
-        target: (key % 256) as u8,
+        routine,
+        source,
+        label,
+        target,
     }
 }
 
@@ -54,7 +55,7 @@ pub fn edge(key: u32) -> DecodedEdge
 pub fn first_key(f: u32) -> u64
     ensures { (k : ℕ) → (k < result → (edge_of k).routine < f) × (result ≤ k → f ≤ (edge_of k).routine) }
 {
-    f as u64 * 0x1000000
+    u64::from(f) * 0x1000000
 }
 
 // Whether the label of an edge is that of a call.

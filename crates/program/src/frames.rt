@@ -5,5 +5,5 @@ ghost use Rattle.program.specs.Frames.{packed};
 pub fn pack(a: u8, b: u8, c: u8, d: u8) -> u32
     ensures { result ≡ packed a b c d }
 {
-    (((a as u32) * 256 + (b as u32)) * 256 + (c as u32)) * 256 + (d as u32)
+    u32::from_be_bytes([a, b, c, d])
 }

@@ -1,6 +1,6 @@
 // Why a file, a line, an edit or a buffer is refused.
 ghost use Rattle.std.specs.Prelude.{◌≡◌};
-ghost use Rattle.program.specs.Refusals.{number, Refuses};
+ghost use Rattle.program.specs.Refusals.{number, pair_told, pair_in, Refuses};
 
 use rows::{FaultyPair, TableFault};
 
@@ -65,6 +65,16 @@ impl Refusal {
             Refusal::TooLarge => 23,
             Refusal::TooLargeToSave => 24,
             Refusal::ForeignSaved => 25,
+        }
+    }
+
+    // The pair that a table is refused for; no other refusal has one.
+    pub fn pair(self) -> Option<FaultyPair>
+        ensures { pair_told result ≡ pair_in self }
+    {
+        match self {
+            Refusal::PairNotMet(pair) | Refusal::PairMetTwice(pair) => Some(pair),
+            _ => None,
         }
     }
 }

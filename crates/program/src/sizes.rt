@@ -23,26 +23,20 @@ pub struct Sizes {
     pub states: u8,
 }
 
-fn wide(x: u8) -> usize
-    ensures { (result ≡ x) × (result < 256) }
-{
-    x as usize
-}
-
 // One digit more, in a base that is a byte: the only product of two variables. So many digits fit: hence the
 // `requires`.
 pub fn with_digit(h: usize, base: u8, l: u8) -> usize
     requires { h ≤ 2 ^ 48 }
     ensures { (result ≡ h * base + l) × (result ≤ h * 255 + 255) }
 {
-    h * wide(base) + wide(l)
+    h * usize::from(base) + usize::from(l)
 }
 
 // How many configurations have a number: the length of the marks.
 pub fn length_of(z: Sizes) -> usize
     ensures { (result ≡ numbers z) × (result < 2 ^ 32) }
 {
-    let a = with_digit(wide(z.routines), z.nodes, 0);
+    let a = with_digit(usize::from(z.routines), z.nodes, 0);
     let b = with_digit(a, z.states, 0);
     with_digit(b, z.states, 0)
 }

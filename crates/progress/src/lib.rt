@@ -20,7 +20,7 @@ use frames::{edge_in, key_of, kind_of, number, row_in};
 use program::edges::Edges;
 use program::{DecodedProgram, Nodes, no_program};
 use rows::{Rows, add_row};
-use tables::{with_byte, with_key};
+use tables::with_entry;
 use text::Line;
 
 // What is known after some frames, but for the rows.
@@ -44,25 +44,16 @@ pub fn start_reader() -> Reader
     }
 }
 
-// One key more at the end, where it is wanted.
-fn add_key(keys: &mut [u32], count: usize, yes: bool, key: u32) -> usize
-    requires { yes ≡ true → count < length keys.old }
-    ensures { take result keys.new ≡ more yes key (take count keys.old) }
-{
-    if yes {
-        return with_key(keys, count, key);
-    }
-    count
-}
-
-fn add_byte(list: &mut [u8], count: usize, yes: bool, x: u8) -> usize
+// One entry more at the end, where it is wanted.
+fn add_entry<T: Copy>(list: &mut [T], count: usize, yes: bool, x: T) -> usize
     requires { yes ≡ true → count < length list.old }
     ensures { take result list.new ≡ more yes x (take count list.old) }
 {
     if yes {
-        return with_byte(list, count, x);
+        with_entry(list, count, x)
+    } else {
+        count
     }
-    count
 }
 
 fn add_transition(t: Transitions, yes: bool, key: u32) -> Transitions
@@ -70,7 +61,7 @@ fn add_transition(t: Transitions, yes: bool, key: u32) -> Transitions
     ensures { transition_keys_of result ≡ more yes key (transition_keys_of t) }
 {
     let mut keys = t.keys;
-    let count = add_key(&mut keys, t.count, yes, key);
+    let count = add_entry(&mut keys, t.count, yes, key);
     Transitions { count, keys }
 }
 
@@ -79,7 +70,7 @@ fn add_state(s: States, yes: bool, q: u8) -> States
     ensures { states_of result ≡ more yes q (states_of s) }
 {
     let mut list = s.list;
-    let count = add_byte(&mut list, s.count, yes, q);
+    let count = add_entry(&mut list, s.count, yes, q);
     States { count, list }
 }
 
@@ -88,7 +79,7 @@ fn add_node(n: Nodes, yes: bool, nodes: u8) -> Nodes
     ensures { nodes_of result ≡ more yes nodes (nodes_of n) }
 {
     let mut list = n.list;
-    let count = add_byte(&mut list, n.count, yes, nodes);
+    let count = add_entry(&mut list, n.count, yes, nodes);
     Nodes { count, list }
 }
 
@@ -97,7 +88,7 @@ fn add_edge(t: Edges, yes: bool, key: u32) -> Edges
     ensures { edge_keys_of result ≡ more yes key (edge_keys_of t) }
 {
     let mut keys = t.keys;
-    let count = add_key(&mut keys, t.count, yes, key);
+    let count = add_entry(&mut keys, t.count, yes, key);
     Edges { count, keys }
 }
 
@@ -169,7 +160,8 @@ pub fn rows_after(states: u8, t: Rows, l: Line) -> Rows
     ensures { rows_of result ≡ more (eqb (kind l) 5) (row_in states l) (rows_of t) }
 {
     if kind_of(l) == 5 {
-        return add_row(t, row_in(states, l));
+        add_row(t, row_in(states, l))
+    } else {
+        t
     }
-    t
 }

@@ -14,24 +14,25 @@ ghost use Rattle.program.specs.Reading.{read_file};
 ghost use Rattle.writer.specs.Answers.{refusal};
 ghost use Rattle.repair.specs.Repairs.{afterwards, changed_by, wanted_by, repaired, plain, reanalyzed};
 ghost use Rattle.repair.specs.Repairs.{InsideOutNumber};
+ghost use Rattle.repair.specs.RepairAnswers.{repair_answer_by};
+ghost use Rattle.writer.specs.WriteAnswers.{write_answer_by};
 
 use analysis::check_own;
 use callgraph::routines::bits_of;
 use checks::checked_program;
-use edit::{Edit, EditRead};
+use edit::Edit;
 use edit_line::wanted_edit;
 use program::chosen::sizes_of;
-use program::{DecodedProgram, Length, Verdict};
+use program::DecodedProgram;
+use program::refusal::RefusedAt;
 use update::mend;
-use writer::WriteAnswer;
 use writer::put::write_program;
 
-// So many bytes were written, and these routines were reanalyzed, a bit each; or nothing was done, and a refusal says
-// why, at which line.
-#[derive(Clone, Copy)]
-pub enum RepairAnswer {
-    Repaired(usize, u32),
-    Refused(u8, usize),
+// What a repair has done: so many bytes were written, and these routines were reanalyzed, a bit each.
+#[derive(Clone, Copy, Debug, PartialEq, Eq)]
+pub struct Repair {
+    pub written: usize,
+    pub reanalyzed: u32,
 }
 
 // Marks that are not the program's own are refused. Else they are repaired, and the changed program is written.
@@ -42,29 +43,24 @@ fn repair_own(
     marks: &mut [u8],
     output: &mut [u8],
     work: &mut [u8],
-) -> RepairAnswer
+) -> Result<Repair, RefusedAt>
     requires well_formed { WellFormed (program_of p) × Applies e (program_of p) }
     requires marks_len { (length marks.old ≡ numbers (sizes_of (program_of p))) × (output_size ≤ length output.old)
         × (length work.old ≡ numbers (sizes_of (program_of p))) }
-    ensures { (afterwards (plain result) marks.new output.new work.new []
+    ensures { (afterwards (plain (repair_answer_by result)) marks.new output.new work.new []
         ≡ changed_by (step e) (program_of p) marks.old output.old work.old [])
-        × (inward ≡ true → InsideOutNumber (eqb (refusal (plain result)) 0) (Read (step e)) (program_of p)
-        (reanalyzed result)) }
+        × (inward ≡ true → InsideOutNumber (eqb (refusal (plain (repair_answer_by result))) 0) (Read (step e)) (program_of p)
+        (reanalyzed (repair_answer_by result))) }
 {
-    let own = check_own(p, marks, work);
-    match own {
-        Verdict::Refused(n, at) => RepairAnswer::Refused(n, at),
-        Verdict::Accepted => {
-            let z = sizes_of(p);
-            let mended = mend(inward, z, p, e, marks, work);
-            let changed = mended.program;
-            let routines = mended.routines;
-            let flags = routines.flags;
-            let bits = bits_of(&flags);
-            let size = write_program(output, changed);
-            RepairAnswer::Repaired(size, bits)
-        }
-    }
+    check_own(p, marks, work)?;
+    let z = sizes_of(p);
+    let mended = mend(inward, z, p, e, marks, work);
+    let reanalyzed = bits_of(&mended.routines.flags);
+    let written = write_program(output, mended.program);
+    Ok(Repair {
+        written,
+        reanalyzed,
+    })
 }
 
 // The refusals of the edit line (12 to 16); else the marks are left to check.
@@ -75,21 +71,18 @@ fn repair_wanted(
     text: &[u8],
     output: &mut [u8],
     work: &mut [u8],
-) -> RepairAnswer
+) -> Result<Repair, RefusedAt>
     requires well_formed { WellFormed (program_of p) }
     requires marks_len { (length marks.old ≡ numbers (sizes_of (program_of p))) × (output_size ≤ length output.old)
         × (length work.old ≡ numbers (sizes_of (program_of p))) }
-    ensures { (afterwards (plain result) marks.new output.new work.new []
+    ensures { (afterwards (plain (repair_answer_by result)) marks.new output.new work.new []
         ≡ wanted_by (wanted_change EditLine (program_of p) text.now) (program_of p) marks.old
         output.old work.old [])
-        × (inward ≡ true → InsideOutNumber (eqb (refusal (plain result)) 0)
-        (wanted_change EditLine (program_of p) text.now) (program_of p) (reanalyzed result)) }
+        × (inward ≡ true → InsideOutNumber (eqb (refusal (plain (repair_answer_by result))) 0)
+        (wanted_change EditLine (program_of p) text.now) (program_of p) (reanalyzed (repair_answer_by result))) }
 {
-    let wanted = wanted_edit(p, text);
-    match wanted {
-        EditRead::Refused(n) => RepairAnswer::Refused(n, 0),
-        EditRead::Read(e) => repair_own(inward, p, e, marks, output, work),
-    }
+    let e = wanted_edit(p, text)?;
+    repair_own(inward, p, e, marks, output, work)
 }
 
 // Either repair: the inside-out one where that is asked for, else the forward one. Only the inside-out repair promises
@@ -101,36 +94,21 @@ fn repair_file(
     text: &[u8],
     output: &mut [u8],
     work: &mut [u8],
-) -> RepairAnswer
-    ensures { (afterwards (plain result) marks.new output.new work.new []
+) -> Result<Repair, RefusedAt>
+    ensures { (afterwards (plain (repair_answer_by result)) marks.new output.new work.new []
         ≡ repaired EditLine file.now marks.old text.now output.old
         work.old [])
-        × (inward ≡ true → InsideOutNumber (eqb (refusal (plain result)) 0)
+        × (inward ≡ true → InsideOutNumber (eqb (refusal (plain (repair_answer_by result))) 0)
         (wanted_change EditLine (read_file file.now).program text.now)
-        (read_file file.now).program (reanalyzed result)) }
+        (read_file file.now).program (reanalyzed (repair_answer_by result))) }
 {
-    let marks_length = Some(marks.len());
-    let output_length = Some(output.len());
-    let work_length = Some(work.len());
-    let r = checked_program(file, marks_length, output_length, work_length);
-    let v = r.verdict;
-    match v {
-        Verdict::Refused(n, at) => RepairAnswer::Refused(n, at),
-        Verdict::Accepted => {
-            let p = r.program;
-            repair_wanted(inward, p, marks, text, output, work)
-        }
-    }
-}
-
-// The answer without the routines, for those who ask for the marks and the file only.
-pub fn without_routines(a: RepairAnswer) -> WriteAnswer
-    ensures { result ≡ plain a }
-{
-    match a {
-        RepairAnswer::Repaired(size, _) => WriteAnswer::Written(size),
-        RepairAnswer::Refused(n, at) => WriteAnswer::Refused(n, at),
-    }
+    let p = checked_program(
+        file,
+        Some(marks.len()),
+        Some(output.len()),
+        Some(work.len()),
+    )?;
+    repair_wanted(inward, p, marks, text, output, work)
 }
 
 // Either repair of a file and its marks by an edit line: the inside-out one where that is asked for, else the forward
@@ -143,13 +121,13 @@ pub fn repair_with(
     text: &[u8],
     output: &mut [u8],
     work: &mut [u8],
-) -> WriteAnswer
-    ensures { afterwards result marks.new output.new work.new []
+) -> Result<usize, RefusedAt>
+    ensures { afterwards (write_answer_by result) marks.new output.new work.new []
         ≡ repaired EditLine file.now marks.old text.now output.old
         work.old [] }
 {
-    let a = repair_file(inside_out, file, marks, text, output, work);
-    without_routines(a)
+    let repair = repair_file(inside_out, file, marks, text, output, work)?;
+    Ok(repair.written)
 }
 
 // The inside-out repair: the same, and the answer says which routines were reanalyzed.
@@ -159,12 +137,12 @@ pub fn repair_inside_out(
     text: &[u8],
     output: &mut [u8],
     work: &mut [u8],
-) -> RepairAnswer
-    ensures { (afterwards (plain result) marks.new output.new work.new []
+) -> Result<Repair, RefusedAt>
+    ensures { (afterwards (plain (repair_answer_by result)) marks.new output.new work.new []
         ≡ repaired EditLine file.now marks.old text.now output.old
         work.old [])
-        × InsideOutNumber (eqb (refusal (plain result)) 0) (wanted_change EditLine (read_file file.now).program
-        text.now) (read_file file.now).program (reanalyzed result) }
+        × InsideOutNumber (eqb (refusal (plain (repair_answer_by result))) 0) (wanted_change EditLine (read_file file.now).program
+        text.now) (read_file file.now).program (reanalyzed (repair_answer_by result)) }
 {
     repair_file(true, file, marks, text, output, work)
 }

@@ -17,22 +17,26 @@ ghost use Rattle.writer.specs.Answers.{refusal};
 ghost use Rattle.analysis.specs.Answers.{owned};
 ghost use Rattle.repair.specs.Repairs.{afterwards, zeroed, changed_by, measured, measured_by, wanted_by, repaired, plain};
 ghost use Rattle.repair.specs.Repairs.{reanalyzed, InsideOutNumber};
+ghost use Rattle.program.specs.Refusals.{verdict_by};
+ghost use Rattle.writer.specs.WriteAnswers.{write_answer_by};
+ghost use Rattle.repair.specs.RepairAnswers.{repair_answer_by};
 ghost use Rattle.rewrite.specs.Parts.{Measured};
+ghost use Rattle.rewrite.specs.RoomAnswers.{room_answer_by};
 ghost use Rattle.rewrite.specs.Room.{room_wanted, room_answer};
 
 use analysis::check_own;
 use callgraph::routines::bits_of;
 use checks::checked_program;
 use exchange::DecodedExchange;
-use exchange::lengths::{lengths_of, lengths_refusal, sizes_after};
+use exchange::lengths::{check_lengths, lengths_of, sizes_after};
 use exchange_text::wanted_exchange;
 use program::chosen::sizes_of;
 use program::sizes::Sizes;
-use program::{DecodedProgram, Length, Verdict};
+use program::DecodedProgram;
+use program::refusal::RefusedAt;
 use reader::read;
-use repair::{RepairAnswer, without_routines};
+use repair::Repair;
 use stages::{clear_whole, mend_exchange};
-use writer::WriteAnswer;
 use writer::put::write_program;
 
 // An exchange, with the sizes of the program before it and after it.
@@ -45,11 +49,11 @@ struct SizedExchange {
 
 // Marks that are not the program's own are refused (17), by an analysis in a part of the working buffer, which is all
 // zero afterwards. The caller has measured the buffers: hence the `requires`.
-fn check_own_within(p: DecodedProgram, marks: &[u8], work: &mut [u8]) -> Verdict
+fn check_own_within(p: DecodedProgram, marks: &[u8], work: &mut [u8]) -> Result<(), RefusedAt>
     requires well_formed { WellFormed (program_of p) }
     requires marks_len { (length marks.now ≡ numbers (sizes_of (program_of p)))
         × (numbers (sizes_of (program_of p)) ≤ length work.old) }
-    ensures { (result ≡ owned (program_of p) marks.now) × (work.new ≡ zeroed work.old) }
+    ensures { (verdict_by result ≡ owned (program_of p) marks.now) × (work.new ≡ zeroed work.old) }
 {
     let size = marks.len();
     let own = check_own(p, marks, &mut work[..size]);
@@ -67,30 +71,26 @@ fn exchange_own(
     output: &mut [u8],
     work: &mut [u8],
     second: &mut [u8],
-) -> RepairAnswer
+) -> Result<Repair, RefusedAt>
     requires well_formed { WellFormed (program_of p) × Fits (exchange_of s.exchange) (program_of p)
         × (s.before ≡ sizes_of (program_of p)) × (s.after ≡ sizes_after (exchange_of s.exchange) (program_of p)) }
     requires measured { Measured s.before s.after marks.now output.old work.old second.old }
-    ensures { (afterwards (plain result) marks.now output.new work.new second.new
+    ensures { (afterwards (plain (repair_answer_by result)) marks.now output.new work.new second.new
         ≡ changed_by (whole (exchange_of s.exchange)) (program_of p) marks.now output.old
         work.old second.old)
-        × (inward ≡ true → InsideOutNumber (eqb (refusal (plain result)) 0) (Read (whole (exchange_of s.exchange)))
-        (program_of p) (reanalyzed result)) }
+        × (inward ≡ true → InsideOutNumber (eqb (refusal (plain (repair_answer_by result))) 0) (Read (whole (exchange_of s.exchange)))
+        (program_of p) (reanalyzed (repair_answer_by result))) }
 {
-    let own = check_own_within(p, marks, work);
-    match own {
-        Verdict::Refused(n, at) => RepairAnswer::Refused(n, at),
-        Verdict::Accepted => {
-            let x = s.exchange;
-            let mended = mend_exchange(inward, s.before, s.after, p, x, marks, second, work);
-            let changed = mended.program;
-            let routines = mended.routines;
-            let flags = routines.flags;
-            let bits = bits_of(&flags);
-            let size = write_program(output, changed);
-            RepairAnswer::Repaired(size, bits)
-        }
-    }
+    check_own_within(p, marks, work)?;
+    let mended = mend_exchange(
+        inward, s.before, s.after, p, s.exchange, marks, second, work,
+    );
+    let reanalyzed = bits_of(&mended.routines.flags);
+    let written = write_program(output, mended.program);
+    Ok(Repair {
+        written,
+        reanalyzed,
+    })
 }
 
 // The lengths that the text decides on (9, 11); else the marks are left to check. The text, the marks' length and the
@@ -103,35 +103,25 @@ fn exchange_measured(
     output: &mut [u8],
     work: &mut [u8],
     second: &mut [u8],
-) -> RepairAnswer
+) -> Result<Repair, RefusedAt>
     requires well_formed { WellFormed (program_of p) × Fits (exchange_of exchange) (program_of p) }
     requires marks_len { (length marks.now ≡ numbers (sizes_of (program_of p))) × (output_size ≤ length output.old) }
-    ensures { (afterwards (plain result) marks.now output.new work.new second.new
+    ensures { (afterwards (plain (repair_answer_by result)) marks.now output.new work.new second.new
         ≡ measured_by (measured (whole (exchange_of exchange)) (program_of p) work.old second.old)
         (whole (exchange_of exchange)) (program_of p) marks.now output.old work.old
         second.old)
-        × (inward ≡ true → InsideOutNumber (eqb (refusal (plain result)) 0) (Read (whole (exchange_of exchange)))
-        (program_of p) (reanalyzed result)) }
+        × (inward ≡ true → InsideOutNumber (eqb (refusal (plain (repair_answer_by result))) 0) (Read (whole (exchange_of exchange)))
+        (program_of p) (reanalyzed (repair_answer_by result))) }
 {
     let before = sizes_of(p);
     let after = sizes_after(p, exchange);
-    let n = lengths_refusal(lengths_of(before, after), second.len(), work.len());
-    if n == 0 {
-        return exchange_own(
-            inward,
-            p,
-            SizedExchange {
-                before,
-                after,
-                exchange,
-            },
-            marks,
-            output,
-            work,
-            second,
-        );
-    }
-    RepairAnswer::Refused(n, 0)
+    check_lengths(lengths_of(before, after), second.len(), work.len())?;
+    let sized = SizedExchange {
+        before,
+        after,
+        exchange,
+    };
+    exchange_own(inward, p, sized, marks, output, work, second)
 }
 
 // The refusals of the text (12, 13, 21, 16, 23); else its lengths are left to check.
@@ -143,22 +133,17 @@ fn exchange_wanted(
     output: &mut [u8],
     work: &mut [u8],
     second: &mut [u8],
-) -> RepairAnswer
+) -> Result<Repair, RefusedAt>
     requires well_formed { WellFormed (program_of p) }
     requires marks_len { (length marks.now ≡ numbers (sizes_of (program_of p))) × (output_size ≤ length output.old) }
-    ensures { (afterwards (plain result) marks.now output.new work.new second.new
+    ensures { (afterwards (plain (repair_answer_by result)) marks.now output.new work.new second.new
         ≡ wanted_by (wanted_change ExchangeText (program_of p) text.now) (program_of p) marks.now
         output.old work.old second.old)
-        × (inward ≡ true → InsideOutNumber (eqb (refusal (plain result)) 0)
-        (wanted_change ExchangeText (program_of p) text.now) (program_of p) (reanalyzed result)) }
+        × (inward ≡ true → InsideOutNumber (eqb (refusal (plain (repair_answer_by result))) 0)
+        (wanted_change ExchangeText (program_of p) text.now) (program_of p) (reanalyzed (repair_answer_by result))) }
 {
-    let wanted = wanted_exchange(p, text);
-    let n = wanted.refusal;
-    if n == 0 {
-        let exchange = wanted.exchange;
-        return exchange_measured(inward, p, exchange, marks, output, work, second);
-    }
-    RepairAnswer::Refused(n, 0)
+    let exchange = wanted_exchange(p, text)?;
+    exchange_measured(inward, p, exchange, marks, output, work, second)
 }
 
 // Either repair: the inside-out one where that is asked for, else the forward one. Only the inside-out repair promises
@@ -171,25 +156,16 @@ fn exchange_file(
     output: &mut [u8],
     work: &mut [u8],
     second: &mut [u8],
-) -> RepairAnswer
-    ensures { (afterwards (plain result) marks.now output.new work.new second.new
+) -> Result<Repair, RefusedAt>
+    ensures { (afterwards (plain (repair_answer_by result)) marks.now output.new work.new second.new
         ≡ repaired ExchangeText file.now marks.now text.now output.old
         work.old second.old)
-        × (inward ≡ true → InsideOutNumber (eqb (refusal (plain result)) 0)
+        × (inward ≡ true → InsideOutNumber (eqb (refusal (plain (repair_answer_by result))) 0)
         (wanted_change ExchangeText (read_file file.now).program text.now)
-        (read_file file.now).program (reanalyzed result)) }
+        (read_file file.now).program (reanalyzed (repair_answer_by result))) }
 {
-    let marks_length = Some(marks.len());
-    let output_length = Some(output.len());
-    let r = checked_program(file, marks_length, output_length, None);
-    let v = r.verdict;
-    match v {
-        Verdict::Refused(n, at) => RepairAnswer::Refused(n, at),
-        Verdict::Accepted => {
-            let p = r.program;
-            exchange_wanted(inward, p, marks, text, output, work, second)
-        }
-    }
+    let p = checked_program(file, Some(marks.len()), Some(output.len()), None)?;
+    exchange_wanted(inward, p, marks, text, output, work, second)
 }
 
 // The forward exchange of a file and its marks by a text. The marks must be the file's own, and are left alone. A refusal
@@ -202,13 +178,13 @@ pub fn exchange_forward(
     output: &mut [u8],
     work: &mut [u8],
     second: &mut [u8],
-) -> WriteAnswer
-    ensures { afterwards result marks.now output.new work.new second.new
+) -> Result<usize, RefusedAt>
+    ensures { afterwards (write_answer_by result) marks.now output.new work.new second.new
         ≡ repaired ExchangeText file.now marks.now text.now output.old
         work.old second.old }
 {
-    let a = exchange_file(false, file, marks, text, output, work, second);
-    without_routines(a)
+    let repair = exchange_file(false, file, marks, text, output, work, second)?;
+    Ok(repair.written)
 }
 
 // The inside-out exchange: the same, and the answer says which routines were reanalyzed.
@@ -219,48 +195,42 @@ pub fn exchange_inside_out(
     output: &mut [u8],
     work: &mut [u8],
     second: &mut [u8],
-) -> RepairAnswer
-    ensures { (afterwards (plain result) marks.now output.new work.new second.new
+) -> Result<Repair, RefusedAt>
+    ensures { (afterwards (plain (repair_answer_by result)) marks.now output.new work.new second.new
         ≡ repaired ExchangeText file.now marks.now text.now output.old
         work.old second.old)
-        × InsideOutNumber (eqb (refusal (plain result)) 0) (wanted_change ExchangeText (read_file file.now).program
-        text.now) (read_file file.now).program (reanalyzed result) }
+        × InsideOutNumber (eqb (refusal (plain (repair_answer_by result))) 0) (wanted_change ExchangeText (read_file file.now).program
+        text.now) (read_file file.now).program (reanalyzed (repair_answer_by result)) }
 {
     exchange_file(true, file, marks, text, output, work, second)
 }
 
 // What an exchange has to be lent: the largest count of nodes of the new program, the length of its marks, and that of
-// the working buffer; or the first refusal of the file or the text.
-#[derive(Clone, Copy)]
-pub enum RoomAnswer {
-    Needs(u8, usize, usize),
-    Refused(u8, usize),
+// the working buffer.
+#[derive(Clone, Copy, Debug, PartialEq, Eq)]
+pub struct ExchangeRoom {
+    pub nodes: u8,
+    pub marks: usize,
+    pub work: usize,
 }
 
 // The same for a program that was read.
-fn room_wanted(p: DecodedProgram, text: &[u8]) -> RoomAnswer
-    ensures { result ≡ room_wanted (program_of p) text.now }
+fn room_wanted(p: DecodedProgram, text: &[u8]) -> Result<ExchangeRoom, RefusedAt>
+    ensures { room_answer_by result ≡ room_wanted (program_of p) text.now }
 {
-    let wanted = wanted_exchange(p, text);
-    let n = wanted.refusal;
-    if n == 0 {
-        let after = sizes_after(p, wanted.exchange);
-        let lengths = lengths_of(sizes_of(p), after);
-        return RoomAnswer::Needs(after.nodes, lengths.second, lengths.work);
-    }
-    RoomAnswer::Refused(n, 0)
+    let exchange = wanted_exchange(p, text)?;
+    let after = sizes_after(p, exchange);
+    let lengths = lengths_of(sizes_of(p), after);
+    Ok(ExchangeRoom {
+        nodes: after.nodes,
+        marks: lengths.second,
+        work: lengths.work,
+    })
 }
 
-pub fn exchange_room(file: &[u8], text: &[u8]) -> RoomAnswer
-    ensures { result ≡ room_answer file.now text.now }
+pub fn exchange_room(file: &[u8], text: &[u8]) -> Result<ExchangeRoom, RefusedAt>
+    ensures { room_answer_by result ≡ room_answer file.now text.now }
 {
-    let r = read(file);
-    let v = r.verdict;
-    match v {
-        Verdict::Refused(n, at) => RoomAnswer::Refused(n, at),
-        Verdict::Accepted => {
-            let p = r.program;
-            room_wanted(p, text)
-        }
-    }
+    let p = read(file)?;
+    room_wanted(p, text)
 }

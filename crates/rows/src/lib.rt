@@ -10,7 +10,7 @@ ghost use Rattle.rows.specs.Decoded.{row_of, row_keys_of, rows_of, pair_of, faul
 use automaton::sizes::MAX_TRANSITIONS;
 use automaton::transitions::{Transitions, transition_key};
 use base::bits::has_bit;
-use tables::{in_use, with_key};
+use tables::{in_use, with_entry};
 
 pub const MAX_ROWS: usize = 256;
 
@@ -152,7 +152,7 @@ pub fn table_of(rows: Rows, states: u8, actions: u8) -> Result<Transitions, Tabl
             action: (i % per_state) as u8,
         };
         let next = settled(met_by(&row_keys[..used], pair), pair)?;
-        count = with_key(&mut keys, i, transition_key(pair.state, pair.action, next));
+        count = with_entry(&mut keys, i, transition_key(pair.state, pair.action, next));
     }
     Ok(Transitions { count, keys })
 }

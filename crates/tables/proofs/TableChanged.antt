@@ -1,13 +1,15 @@
 -- A table that is changed in place, one entry after the other.
 use mathlib.Core.Path.{◌≡◌, refl, sym, ap, ◌∙◌}
 use mathlib.Core.Bool.{Bool, true, false, ◌&&◌}
-use mathlib.Core.List.{List, [], ◌∷◌, ◌++◌, append-nil, append_assoc}
-use Prim.Native.Nat.{ℕ, zero, suc, min, ◌+◌, ◌≤◌, ◌<◌}
+use mathlib.Core.List.{List, [], ◌∷◌, ◌++◌, append-nil}
+use Prim.Native.Nat.{ℕ, zero, suc, min, ◌+◌, ◌-◌, ◌≤◌, ◌<◌}
 use native.Mathlib.Numerals.{add-one}
 use native.Mathlib.Omega.{arith}
 use lib.Dec.{ltb, leb, eqb}
-use lib.ListN.{length, take, drop, get_or, set, length-take, length-set, drop_of_length-le}
-use lib.Seq.{append_snoc, length-take-le, take_all, take-suc, take-take, take-set-lt, drop-set-lt, take-suc-set}
+use lib.ListN.{length, take, drop, get_or, set, length-take, length-drop, length-set, drop_of_length-le}
+use lib.Seq.{paste, append_snoc, length-take-le, take-take, take-set-lt, drop-set-lt, take-suc-set}
+use Rattle.std.proofs.lemmas.List.{set-append_left, drop-take}
+use Rattle.std.proofs.lemmas.List.Edits.{take-paste, length-paste}
 use borrow.Author.Tests.{ltb-true, leb-true, eqb-true, eqb-false, lt-ltb, le-ltb, le-leb}
 use Rattle.tables.specs.Keys.{inserted_key, between, without_between, without_key, FirstFrom, Holds}
 use Rattle.base.proofs.EntriesInUse.{entry, in_use_all}
@@ -38,63 +40,28 @@ inserted_at key (k ∷ ks) (suc at) f =
       not-below = λ h. f.not-below (omega arith);
     })))
 
--- at i, the moved key goes before those from i on
-pub record Putting (key : ℕ) (old xs : List ℕ) (n moved i : ℕ) : Type 0 where
-  pub long : length xs ≡ length old
-  pub within : i ≤ n
-  pub rest : take i xs ++ (moved ∷ drop i (take n xs)) ≡ inserted_key key (take n old)
-
-pub put_start : (key : ℕ) (xs : List ℕ) (n : ℕ) {at : ℕ} → FirstFrom (key + 1) (take n xs) at → Putting key xs xs n key at
-put_start key xs n {at} f =
+-- those from `at` on move up by one place, and the key goes there
+pub key_put : (key : ℕ) (xs : List ℕ) (n at : ℕ) → n < length xs → FirstFrom (key + 1) (take n xs) at
+    → Holds (set (paste xs (at + 1) (drop at xs) (n - at)) at key) (n + 1) (inserted_key key (take n xs))
+key_put key xs n at h f =
     let w : at ≤ n = omega (arith, f.within, length-take n xs) in
-    record { long = refl; within = w; rest = rw (← (take-take at n xs w)) (inserted_at key (take n xs) at f) }
-
-module _ {key : ℕ} {old xs : List ℕ} {n moved i : ℕ} (p : Putting key old xs n moved i) where
-  pub put_turn : i < n → i < length xs → Putting key old (set xs i moved) n (get_or xs i 0) (i + 1)
-  put_turn h k =
-      record {
-        long = simp length-set p.long;
-        within = omega arith;
-        rest =
-            rw (one_more xs i moved k, take-set-lt n xs i moved h, drop-set-lt (i + 1) (take n xs) i moved (omega arith), append_snoc, ← (entry n xs i h k))
-            p.rest;
-      }
-
-  pub put_end : n ≤ i → {new : List ℕ} {r : ℕ} → Holds new r (take n xs ++ (moved ∷ [])) → Holds new r (inserted_key key (take n old))
-  put_end h t =
-      let e : i ≡ n = omega (arith, p.within) in
-      let l : length (take n xs) ≤ n = rw (length-take n xs) (omega arith) in
-      rw (rw (e, drop_of_length-le (take n xs) l) at p.rest) at t
-
--- ---- more entries at the end
-
--- at i, the first i of them are there
-pub record Adding (old more xs : List ℕ) (n i : ℕ) : Type 0 where
-  pub long : length xs ≡ length old
-  pub within : i ≤ length more
-  pub are : take (n + i) xs ≡ take n old ++ take i more
-
-pub add_start : (xs more : List ℕ) (n : ℕ) → Adding xs more xs n 0
-add_start xs more n =
-    let e : n + 0 ≡ n = omega arith in
-    record { long = refl; within = omega arith; are = rw e (sym (append-nil (take n xs))) }
-
-module _ {old more xs : List ℕ} {n i : ℕ} (p : Adding old more xs n i) where
-  pub add_turn : i < length more → n + i < length xs → Adding old more (set xs (n + i) (get_or more i 0)) n (i + 1)
-  add_turn h k =
-      let e : n + (i + 1) ≡ n + i + 1 = omega arith in
-      record {
-        long = simp length-set p.long;
-        within = omega arith;
-        are =
-            rw (e, one_more xs (n + i) (get_or more i 0) k, p.are, add-one i, take-suc more i 0 h)
-            (append_assoc (take n old) (take i more) (get_or more i 0 ∷ []));
-      }
-
-  pub add_end : length more ≤ i → n + length more ≤ length old → Holds xs (n + i) (take n old ++ more)
-  add_end h l =
-      let e : i ≡ length more = omega (arith, p.within) in
-      holds xs (n + i) _ (omega (arith, p.long)) (rw (← (take_all i more (omega arith))) p.are)
+    let up : List ℕ = paste xs (at + 1) (drop at xs) (n - at) in
+    let rest : List ℕ = take (n - at) (drop at xs) in
+    let m : at + 1 + (n - at) ≡ n + 1 = omega arith in
+    let k : at + (n - at) ≡ n = omega arith in
+    let l : n - at ≤ length (drop at xs) = omega (arith, length-drop at xs) in
+    let moved : take (n + 1) up ≡ take (at + 1) xs ++ rest =
+    ap (λ (k : ℕ). take k up) (sym m) ∙ take-paste xs (at + 1) (drop at xs) (n - at) (omega arith) l in
+    let i : at < length (take (at + 1) xs) = omega (arith, length-take (at + 1) xs) in
+    let put : set (take (at + 1) xs) at key ≡ take at xs ++ (key ∷ []) =
+    sym (take-set-lt (at + 1) xs at key (omega arith)) ∙ one_more xs at key (omega arith) in
+    let e : take (n + 1) (set up at key) ≡ take at (take n xs) ++ (key ∷ drop at (take n xs)) =
+    take-set-lt (n + 1) up at key (omega arith)
+    ∙ rw (moved, set-append_left (take (at + 1) xs) rest at key i, put, append_snoc, take-take at n xs w)
+    (ap (λ (l : List ℕ). take at xs ++ (key ∷ l)) (sym (rw k at (drop-take at (n - at) xs)))) in
+    holds (set up at key) (n + 1) _
+    (omega (arith, length-set up at key, length-paste xs (at + 1) (drop at xs) (n - at) (omega arith) l))
+    (e ∙ inserted_at key (take n xs) at f)
 
 -- ---- all keys but those between two numbers: those after them move down
 

@@ -37,6 +37,6 @@ pub record FirstFrom (low : ℕ) (ks : List ℕ) (at : ℕ) : Type 0 where
   pub not-below : at < length ks → low ≤ get_or ks at 0
 
 -- so many entries of an array are in use, and they are these
-pub record Holds (entries : List ℕ) (n : ℕ) (ks : List ℕ) : Type 0 where
+pub record Holds {A : Type 0} (entries : List A) (n : ℕ) (ks : List A) : Type 0 where
   pub are : take n entries ≡ ks
   pub as_many : n ≡ length ks

@@ -8,10 +8,7 @@ ghost use Rattle.tables.specs.Keys.{member, inserted_key, between, without_betwe
 pub fn in_use(count: usize, size: usize) -> usize
     ensures { result ≡ min count size }
 {
-    if count < size {
-        return count;
-    }
-    size
+    count.min(size)
 }
 
 // Whether a key is in a table.
@@ -19,14 +16,7 @@ pub fn has_key(keys: &[u32], count: usize, key: u32) -> bool
     ensures { result ≡ member key (take count keys.now) }
 {
     let used = in_use(count, keys.len());
-    let mut i: usize = 0;
-    while i < used {
-        if keys[i] == key {
-            return true;
-        }
-        i = i + 1;
-    }
-    false
+    keys[..used].contains(&key)
 }
 
 // Where the keys that are not below `low` begin, in a table that ascends: the first that is not below it, or the end.
@@ -34,28 +24,15 @@ pub fn first_from(keys: &[u32], count: usize, low: u64) -> usize
     ensures { FirstFrom low (take count keys.now) result }
 {
     let used = in_use(count, keys.len());
-    let mut i: usize = 0;
-    while i < used {
-        if low <= keys[i] as u64 {
-            return i;
-        }
-        i = i + 1;
-    }
-    i
+    keys[..used]
+        .iter()
+        .position(|key| low <= u64::from(*key))
+        .unwrap_or(used)
 }
 
-// The table with one key more at its end. Each changes the slice and returns the new count; the caller has judged that
+// The list with one entry more at its end. Each changes the slice and returns the new count; the caller has judged that
 // there is room, where more is to go in: hence each `requires`.
-pub fn with_key(keys: &mut [u32], count: usize, key: u32) -> usize
-    requires { count < length keys.old }
-    ensures { Holds keys.new result (take count keys.old ++ (key ∷ [])) }
-{
-    keys[count] = key;
-    count + 1
-}
-
-// The same for a list of bytes.
-pub fn with_byte(list: &mut [u8], count: usize, x: u8) -> usize
+pub fn with_entry<T: Copy>(list: &mut [T], count: usize, x: T) -> usize
     requires { count < length list.old }
     ensures { Holds list.new result (take count list.old ++ (x ∷ [])) }
 {
@@ -68,15 +45,10 @@ pub fn insert_key(keys: &mut [u32], count: usize, key: u32) -> usize
     requires { count < length keys.old }
     ensures { Holds keys.new result (inserted_key key (take count keys.old)) }
 {
-    let mut moved = key;
-    let mut i = first_from(keys, count, key as u64 + 1);
-    while i < count {
-        let k = keys[i];
-        keys[i] = moved;
-        moved = k;
-        i = i + 1;
-    }
-    with_key(keys, count, moved)
+    let at = first_from(keys, count, u64::from(key) + 1);
+    keys.copy_within(at..count, at + 1);
+    keys[at] = key;
+    count + 1
 }
 
 // The table with more keys at its end.
@@ -84,19 +56,16 @@ pub fn with_keys(keys: &mut [u32], count: usize, more: &[u32]) -> usize
     requires { count + length more.now ≤ length keys.old }
     ensures { Holds keys.new result (take count keys.old ++ more.now) }
 {
-    let mut i: usize = 0;
-    while i < more.len() {
-        keys[count + i] = more[i];
-        i = i + 1;
-    }
-    count + i
+    let end = count + more.len();
+    keys[count..end].copy_from_slice(more);
+    end
 }
 
 // Whether a key is between two numbers: not below the first, and below the second.
 fn is_between(low: u64, high: u64, key: u32) -> bool
     ensures { result ≡ between low high key }
 {
-    (low <= key as u64) & ((key as u64) < high)
+    (low..high).contains(&u64::from(key))
 }
 
 // The table without the keys between two numbers.
@@ -104,15 +73,13 @@ pub fn remove_between(keys: &mut [u32], count: usize, low: u64, high: u64) -> us
     ensures { Holds keys.new result (without_between low high (take count keys.old)) }
 {
     let used = in_use(count, keys.len());
-    let mut kept: usize = 0;
-    let mut i: usize = 0;
-    while i < used {
+    let mut kept = 0;
+    for i in 0..used {
         let k = keys[i];
         if !is_between(low, high, k) {
             keys[kept] = k;
-            kept = kept + 1;
+            kept += 1;
         }
-        i = i + 1;
     }
     kept
 }
@@ -121,5 +88,6 @@ pub fn remove_between(keys: &mut [u32], count: usize, low: u64, high: u64) -> us
 pub fn remove_key(keys: &mut [u32], count: usize, key: u32) -> usize
     ensures { Holds keys.new result (without_key key (take count keys.old)) }
 {
-    remove_between(keys, count, key as u64, key as u64 + 1)
+    let key = u64::from(key);
+    remove_between(keys, count, key, key + 1)
 }

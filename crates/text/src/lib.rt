@@ -1,9 +1,9 @@
 // Lines of hexadecimal: reading one at a position, and writing one.
 #![tactic(auto)]
 
-ghost use Rattle.std.specs.Prelude.{◌≡◌, [], ◌∷◌, ◌<◌, ◌≤◌, ◌+◌, ◌*◌, length, take};
+ghost use Rattle.std.specs.Prelude.{◌≡◌, [], ◌∷◌, ◌<◌, ◌≤◌, ◌+◌, ◌*◌, length, take, unwrap_or, IfSome};
 ghost use Rattle.std.proofs.lemmas.List.Edits.{sets};
-ghost use Rattle.text.specs.Hex.{digit, joined, two_digits, hex_digit, hex, hex_line};
+ghost use Rattle.text.specs.Hex.{digit, two_digits, hex_digit, hex, hex_line};
 ghost use Rattle.text.specs.Lines.{max_numbers, line_of, line_at, grown};
 
 // How many numbers of a line are kept; no format has a longer line.
@@ -23,43 +23,26 @@ pub struct ReadLine {
     pub next: usize,
 }
 
-// The value of a digit, or 16.
-pub fn digit_value(b: u8) -> u8
-    ensures { result ≡ digit b }
+// The value of a digit, where a byte is one.
+pub fn digit_value(b: u8) -> Option<u8>
+    ensures value { unwrap_or result 16 ≡ digit b }
+    ensures below { IfSome result (λ d. d < 16) }
 {
-    if b < 48 {
-        return 16;
+    match b {
+        b'0'..=b'9' => Some(b - b'0'),
+        b'A'..=b'F' => Some(b - b'A' + 10),
+        _ => None,
     }
-    if b <= 57 {
-        return b - 48;
-    }
-    if b < 65 {
-        return 16;
-    }
-    if b <= 70 {
-        return b - 55;
-    }
-    16
 }
 
-// The number that two digits' values make, or 256.
-fn join(h: u8, l: u8) -> u16
-    ensures { result ≡ joined h l }
+// The number that two bytes make, where both are digits.
+fn pair(a: u8, b: u8) -> Option<u8>
+    ensures value { unwrap_or result 256 ≡ two_digits a b }
+    ensures below { IfSome result (λ x. x < 256) }
 {
-    if h < 16 {
-        if l < 16 {
-            return (h as u16) * 16 + (l as u16);
-        }
-        return 256;
-    }
-    256
-}
-
-// The number that two bytes make, or 256.
-fn pair(a: u8, b: u8) -> u16
-    ensures { result ≡ two_digits a b }
-{
-    join(digit_value(a), digit_value(b))
+    let high = digit_value(a)?;
+    let low = digit_value(b)?;
+    Some(high * 16 + low)
 }
 
 // One number more; only the first ones are kept.
@@ -67,12 +50,10 @@ fn grow(l: Line, x: u8, end: usize) -> Line
     requires { l.count < end }
     ensures { result ≡ grown l x }
 {
-    let n = l.count;
     let mut longer = l;
-    longer.count = n + 1;
-    if n < MAX_NUMBERS {
-        longer.numbers[n] = x;
-        return longer;
+    longer.count = l.count + 1;
+    if l.count < MAX_NUMBERS {
+        longer.numbers[l.count] = x;
     }
     longer
 }
@@ -89,34 +70,27 @@ pub fn no_line() -> Line
 pub fn read_line(s: &[u8], at: usize) -> ReadLine
     ensures { result ≡ line_at s.now at }
 {
+    let bad = ReadLine {
+        line: no_line(),
+        next: 0,
+    };
     let mut l = no_line();
     let mut i = at;
     while i < s.len() {
-        let a = s[i];
         let j = i + 1;
-        if a == 10 {
+        if s[i] == b'\n' {
             return ReadLine { line: l, next: j };
         }
         if s.len() <= j {
-            return ReadLine {
-                line: no_line(),
-                next: 0,
-            };
+            return bad;
         }
-        let x = pair(a, s[j]);
-        if 256 <= x {
-            return ReadLine {
-                line: no_line(),
-                next: 0,
-            };
-        }
+        let Some(x) = pair(s[i], s[j]) else {
+            return bad;
+        };
         i = j + 1;
-        l = grow(l, x as u8, i);
+        l = grow(l, x, i);
     }
-    ReadLine {
-        line: no_line(),
-        next: 0,
-    }
+    bad
 }
 
 // The digit for a number below 16. Its two callers pass a quotient and a remainder by 16.
@@ -124,10 +98,7 @@ fn hex_digit(n: u8) -> u8
     requires { n < 16 }
     ensures { result ≡ hex_digit n }
 {
-    if n < 10 {
-        return 48 + n;
-    }
-    55 + n
+    if n < 10 { b'0' + n } else { b'A' + (n - 10) }
 }
 
 // Two digits at a position.
@@ -149,15 +120,10 @@ pub fn put_line(out: &mut [u8], at: usize, l: Line) -> usize
     ensures value { result ≡ at + 2 * l.count + 1 }
     ensures out_after { out.new ≡ sets out.old at (hex_line (take l.count l.numbers)) }
 {
-    let v = l.numbers;
-    let n = l.count;
-    let mut i = at;
-    let mut k: usize = 0;
-    while k < n {
-        put_number(out, i, v[k]);
-        i = i + 2;
-        k = k + 1;
+    for k in 0..l.count {
+        put_number(out, at + 2 * k, l.numbers[k]);
     }
-    out[i] = 10;
-    i + 1
+    let end = at + 2 * l.count;
+    out[end] = b'\n';
+    end + 1
 }

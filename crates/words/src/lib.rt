@@ -12,10 +12,7 @@ pub fn has_flag(words: &[u64], at: usize) -> bool
     ensures { result ≡ is_set (flags_of words.now) at }
 {
     let i = at / WORD_BITS;
-    if i < words.len() {
-        return (words[i] >> (at % WORD_BITS)) % 2 == 1;
-    }
-    false
+    i < words.len() && (words[i] >> (at % WORD_BITS)) % 2 == 1
 }
 
 // The flags from a place on, as many as a word has: they are in two words. A shift by all 64 bits is none, so that the
@@ -26,12 +23,12 @@ pub fn bits_from(words: &[u64], at: usize) -> u64
     let i = at / WORD_BITS;
     let s = at % WORD_BITS;
     if i + 1 < words.len() {
-        return (words[i] >> s) | ((words[i + 1] << 1) << (63 - s));
+        (words[i] >> s) | ((words[i + 1] << 1) << (63 - s))
+    } else if i < words.len() {
+        words[i] >> s
+    } else {
+        0
     }
-    if i < words.len() {
-        return words[i] >> s;
-    }
-    0
 }
 
 // A place past the end is no flag's, and sets none.
@@ -40,7 +37,7 @@ pub fn set_at(words: &mut [u64], at: usize)
 {
     let i = at / WORD_BITS;
     if i < words.len() {
-        words[i] = words[i] | (1 << (at % WORD_BITS));
+        words[i] |= 1 << (at % WORD_BITS);
     }
 }
 
@@ -62,13 +59,11 @@ pub fn first_set(words: &[u64], from: usize) -> usize
     requires words_len_bound { length words.now ≤ max_words }
     ensures { FirstFlag (flags_of words.now) result }
 {
-    let mut i = from / WORD_BITS;
-    while i < words.len() {
+    for i in from / WORD_BITS..words.len() {
         let word = words[i];
         if word != 0 {
-            return i * WORD_BITS + u64::trailing_zeros(word) as usize;
+            return i * WORD_BITS + word.trailing_zeros() as usize;
         }
-        i = i + 1;
     }
     words.len() * WORD_BITS
 }

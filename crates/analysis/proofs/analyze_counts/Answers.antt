@@ -6,10 +6,6 @@ use Rattle.program.specs.Decoded.{program_of}
 use Rattle.analysis.proofs.LimitDecides.{own_sized}
 use Rattle.analysis.proofs.analyze_counts.Goals as goal
 
-pub hand_over-answer-requires : goal.hand_over-answer-requires
-hand_over-answer-requires c =
-    (c.sizes_of-z.ensures, c.requires.well_formed, c.analyze_program-stop.ensures, c.requires.marks_len.0)
-
 pub analyze_program-stop-requires : goal.analyze_program-stop-requires
 analyze_program-stop-requires c =
     let e = c.sizes_of-z.ensures in

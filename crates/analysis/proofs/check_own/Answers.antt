@@ -8,7 +8,7 @@ returns-then-is_own c =
     let o = c.is_own.ensures in
     (own_accepted (program_of c.args.p) _ (sym o.0 ∙ c.if-is_own.true), o.1)
 
-pub returns : goal.returns
-returns c =
+pub returns-else-is_own : goal.returns-else-is_own
+returns-else-is_own c =
     let o = c.is_own.ensures in
     (foreign_refused (program_of c.args.p) _ (sym o.0 ∙ c.if-is_own.false), o.1)

@@ -1,20 +1,58 @@
-use Rattle.analysis.proofs.AnswersByChecks.{ready, next_answered}
-use mathlib.Core.Path.{◌∙◌}
+-- `analysis::next_violation` meets its contract: the file and the lengths are checked, then the marks, and the first violation is sought.
+use Rattle.std.proofs.Common.{◌≡◌, ℕ, length, refl, sym, ap, subst, ◌∙◌, rules}
+use Rattle.std.proofs.lemmas.Result.{err_from_is_err_and}
+use Rattle.std.specs.Prelude.{Option, Ok}
+use Rattle.automaton.specs.Sizes.{max_states}
+use Rattle.program.specs.Chosen.{numbers}
+use Rattle.program.specs.Decoded.{program_of}
+use Rattle.program.specs.Verdicts.{Verdict}
+use Rattle.program.specs.declared.sizes.Sizes.{Sizes}
+use Rattle.reach.specs.Marks.{violations, violations_from, first_from, within}
+use Rattle.analysis.specs.Answers.{found_of, found_by}
+use Rattle.analysis.specs.NextAnswers.{next_answer_by}
+use Rattle.analysis.proofs.AnswersByChecks.{next_answered, own_found, found_is}
+use Rattle.analysis.proofs.LimitDecides.{own_sized}
 use Rattle.analysis.proofs.next_violation.Goals as goal
 
-pub search_own-requires : goal.search_own-requires
-search_own-requires c =
-    let r = ready c.checked_program-r.ensures c.in-Accepted.is in
-    record { well_formed = r.0; marks_len = r.1 }
-
-pub returns-in-Refused : goal.returns-in-Refused
-returns-in-Refused c =
+pub returns-in_err-p : goal.returns-in_err-p
+returns-in_err-p c =
     let z = c.args in
-    next_answered z.file.now z.marks.now z.work.now c.checked_program-r.ensures c.in-Refused.is z.low
+    let p = err_from_is_err_and c.from_residual.result c.from_residual.ensures.1 in
+    rw (p.1, p.2) (next_answered z.file.now z.marks.now z.work.now c.in_err-p.ensures.verdict refl z.low)
 
-pub returns-in-Accepted : goal.returns-in-Accepted
-returns-in-Accepted c =
+pub returns-in_err-check_own : goal.returns-in_err-check_own
+returns-in_err-check_own c =
     let z = c.args in
-    let w = next_answered z.file.now z.marks.now z.work.now c.checked_program-r.ensures c.in-Accepted.is z.low in
-    let a = c.search_own.ensures in
-    (a.0 ∙ w.0, a.1 ∙ w.1)
+    let k = c.in_ok-p.ensures in
+    let w = next_answered z.file.now z.marks.now z.work.now k.verdict k.passed.program z.low in
+    let o = c.in_err-check_own.ensures in
+    let r = c.from_residual-in_err-check_own in
+    let p = err_from_is_err_and r.result r.ensures.1 in
+    rw (p.1, p.2) (ap (λ (v : Verdict). found_by v (first_from z.low (violations (program_of c.in_ok-p.p)))) o.0 ∙ w.0, o.1 ∙ w.1)
+
+pub first_violation-i-requires : goal.first_violation-i-requires
+first_violation-i-requires c =
+    let k = c.in_ok-p.ensures.passed in
+    let e = c.sizes_of.ensures in
+    let s = own_sized (program_of c.in_ok-p.p) e k.well_formed in
+    let r = c.rejecting_flags-rejecting in
+    let o = r.type_inv in
+    let f : length r.result.flags ≡ max_states = search (rules, o) in
+    (s.usable, s.admitted, k.sized.marks-length ∙ ap numbers (sym e), f)
+
+pub returns : goal.returns
+returns c =
+    let z = c.args in
+    let k = c.in_ok-p.ensures in
+    let p = program_of c.in_ok-p.p in
+    let w = next_answered z.file.now z.marks.now z.work.now k.verdict k.passed.program z.low in
+    let o = c.in_ok-check_own.ensures in
+    let i = c.first_violation-i in (
+      ap (λ (n : Option ℕ). next_answer_by (Ok n)) c.then_some.ensures
+          ∙ found_is (length z.marks.now) i.result ∙ ap (λ (n : ℕ). found_of (within n i.result)) k.passed.sized.marks-length
+          ∙ own_found p _ z.low i.result (sym o.0)
+          (subst (λ (y : Sizes). first_from z.low (violations_from y p z.marks.now 0) ≡ within (numbers y) i.result) c.sizes_of.ensures
+          (i.ensures p c.rejecting_flags-rejecting.ensures))
+          ∙ w.0,
+      o.1 ∙ w.1,
+    )

@@ -19,7 +19,7 @@ first-bad c = c.is_bad.ensures ∙ ap (λ (x : ReadLine). bad_frame x.line) c.re
 pub returns-then-is_bad : goal.returns-then-is_bad
 returns-then-is_bad c =
     let a = c.args in
-    c.refuse.ensures ∙ sym (begins_bad (program_of a.p) a.text.now (sym (first-bad (goal.at.returns-then-is_bad c).After-is_bad) ∙ c.if-is_bad.true))
+    sym (begins_bad (program_of a.p) a.text.now (sym (first-bad (goal.at.returns-then-is_bad c).After-is_bad) ∙ c.if-is_bad.true))
 
 pub loop-at-init : goal.loop-at-init
 loop-at-init c =
@@ -43,7 +43,7 @@ not-bad c = sym (judged (goal.at.Else-is_bad-2 c).After-is_bad-in-loop-at) ∙ c
 
 pub returns-then-is_bad-2 : goal.returns-then-is_bad-2
 returns-then-is_bad-2 c =
-    c.refuse-then-is_bad-2.ensures ∙ sym (meets_bad _ _ _ _ _ _ c.loop-at.invariant (in-text (goal.at.returns-then-is_bad-2 c).After-is_bad-in-loop-at) (sym (judged (goal.at.returns-then-is_bad-2 c).After-is_bad-in-loop-at) ∙ c.if-is_bad-2.true))
+    sym (meets_bad _ _ _ _ _ _ c.loop-at.invariant (in-text (goal.at.returns-then-is_bad-2 c).After-is_bad-in-loop-at) (sym (judged (goal.at.returns-then-is_bad-2 c).After-is_bad-in-loop-at) ∙ c.if-is_bad-2.true))
 
 pub loop-at-smaller : goal.loop-at-smaller
 loop-at-smaller c =

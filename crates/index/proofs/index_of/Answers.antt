@@ -3,9 +3,6 @@ use native.Mathlib.Omega.{arith}
 use Rattle.index.proofs.EdgesIndexed.{indexing_none, indexing_more, indexing_all}
 use Rattle.index.proofs.index_of.Goals as goal
 
-pub overflow_cast-places : goal.overflow_cast-places
-overflow_cast-places c = omega (arith, c.requires)
-
 pub loop-i-init : goal.loop-i-init
 loop-i-init c = indexing_none c.args.keys.now c.requires
 

@@ -1,12 +1,10 @@
 use native.Mathlib.Omega.{arith}
+use mathlib.Core.Path.{◌∙◌}
 use Rattle.input.proofs.LineEnds.{within_start, within_more, within_stop, within_end}
 use Rattle.input.proofs.line_size.Goals as goal
 
 pub loop-i-init : goal.loop-i-init
 loop-i-init c = within_start _ _
-
-pub overflow_sub-result : goal.overflow_sub-result
-overflow_sub-result c = omega (arith, c.loop-i.invariant.far)
 
 pub returns-then-input-i-eq10 : goal.returns-then-input-i-eq10
 returns-then-input-i-eq10 c = within_stop c.loop-i.invariant (omega arith) c.if-input-i-eq10.true
@@ -14,8 +12,5 @@ returns-then-input-i-eq10 c = within_stop c.loop-i.invariant (omega arith) c.if-
 pub loop-i-preserved : goal.loop-i-preserved
 loop-i-preserved c = within_more c.loop-i.invariant (omega arith) c.if-input-i-eq10.false
 
-pub overflow_sub-result-2 : goal.overflow_sub-result-2
-overflow_sub-result-2 c = c.loop-i.invariant.far
-
 pub returns : goal.returns
-returns c = within_end c.loop-i.invariant (omega arith)
+returns c = c.saturating_sub.ensures ∙ within_end c.loop-i.invariant (omega arith) (λ h. omega arith)

@@ -1,24 +1,12 @@
--- `input::starts_end` meets its contract: past the text's end there is no 5.
-use mathlib.Core.Path.{◌≡◌, refl, sym, ◌∙◌}
-use mathlib.Core.Bool.{Bool, true, false, ◌&&◌}
-use Prim.Native.Nat.{◌+◌}
-use lib.Dec.{eqb}
-use lib.ListN.{get_or, get_or-eq_default}
-use native.Mathlib.Omega.{arith}
-use Rattle.input.proofs.LineEnds.{starts_at}
+-- `input::starts_end` meets its contract: what is left of the text starts with 45 where its first line does.
+use Rattle.std.proofs.Common.{◌≡◌, ◌∙◌, ◌-◌, length, take, drop, arith}
+use Rattle.std.proofs.lemmas.Slice.{between_to_end}
+use Rattle.input.proofs.LineEnds.{starts_with_end}
 use Rattle.input.proofs.starts_end.Goals as goal
-
-pub returns-then-next-input : goal.returns-then-next-input
-returns-then-next-input c =
-    let a = c.args in
-    starts_at a.input.now a.at (omega arith)
-
-none : (t : Bool) → t && false ≡ false
-none true = refl
-none false = refl
 
 pub returns : goal.returns
 returns c =
-    let a = c.args in
-    let e : get_or a.input.now (a.at + 1) 0 ≡ 0 = get_or-eq_default a.input.now 0 (omega arith) in
-    sym (none (eqb (get_or a.input.now a.at 0) 0x34)) ∙ rw e at (starts_at a.input.now a.at (omega arith))
+    let s = c.args.input.now in
+    let at = c.args.at in
+    let rest : take (length s - at) (drop at s) ≡ drop at s = between_to_end s at (length s) (omega arith) in
+    rw rest at c.starts_with.ensures.value ∙ starts_with_end (drop at s)

@@ -5,7 +5,7 @@ use Rattle.program.specs.Sizes.{max_edges}
 use Rattle.progress.proofs.ListsKept.{room_for}
 use Rattle.progress.proofs.add_edge.Goals as goal
 
-pub add_key-count-requires : goal.add_key-count-requires
-add_key-count-requires c =
+pub add_entry-count-requires : goal.add_entry-count-requires
+add_entry-count-requires c =
     let size : length c.args.t.keys ≡ max_edges = search rules in
     room_for c.args.t.count c.args.t.keys size c.requires

@@ -5,7 +5,7 @@ use Rattle.program.specs.Sizes.{max_routines}
 use Rattle.progress.proofs.ListsKept.{room_for}
 use Rattle.progress.proofs.add_node.Goals as goal
 
-pub add_byte-count-requires : goal.add_byte-count-requires
-add_byte-count-requires c =
+pub add_entry-count-requires : goal.add_entry-count-requires
+add_entry-count-requires c =
     let size : length c.args.n.list ≡ max_routines = search rules in
     room_for c.args.n.count c.args.n.list size c.requires

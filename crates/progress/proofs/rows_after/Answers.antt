@@ -23,5 +23,5 @@ returns-then-kind_of-eq5 c =
     rw (eq-eqb (kind z.l) 5 (is_row (goal.at.returns-then-kind_of-eq5 c).Then-kind_of-eq5))
     (map_more row_of true _ (row_in z.states z.l) (row_keys_of z.t) _ c.add_row.ensures c.row_in.ensures)
 
-pub returns : goal.returns
-returns c = rw (ne_eqb (kind c.args.l) 5 (λ e. c.if-kind_of-eq5.false (c.kind_of.ensures ∙ e)))
+pub returns-else-kind_of-eq5 : goal.returns-else-kind_of-eq5
+returns-else-kind_of-eq5 c = rw (ne_eqb (kind c.args.l) 5 (λ e. c.if-kind_of-eq5.false (c.kind_of.ensures ∙ e)))

@@ -31,12 +31,12 @@ returns-in_err-next c =
 pub loop-i-preserved : goal.loop-i-preserved
 loop-i-preserved c =
     let t = c.loop-i.invariant.0 in
-    let k = c.with_key-count in
+    let k = c.with_entry-count in
     let room : c.loop-i.i < length c.loop-i.keys = omega (arith, t.size, few_pairs c.requires.0 c.requires.1) in
     let n = one_more _ _ _ _ room k.ensures in (
       rw (← n) (
           tabling_more t c.transition_key.result (omega arith) room (sym (ap pair_refusal c.met_by.ensures.0) ∙ sym c.in_ok-next.ensures.refusal)
-          (rw (← c.met_by.ensures.1, ← c.in_ok-next.ensures.next) c.transition_key.ensures) k.auto.keys k.ensures
+          (rw (← c.met_by.ensures.1, ← c.in_ok-next.ensures.next) c.transition_key.ensures) k.auto.list k.ensures
           ),
       n,
     )

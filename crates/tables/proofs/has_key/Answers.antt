@@ -1,18 +1,18 @@
-use mathlib.Core.Path.{refl}
-use native.Mathlib.Omega.{arith}
-use borrow.Author.Tests.{eq-eqb, ne_eqb}
-use Rattle.base.proofs.EntriesInUse.{found, passed, none_left}
-use Rattle.tables.proofs.KeysAsked.{asks_member}
+-- `tables::has_key` meets its contract: the own membership is that of std.
+use Rattle.std.proofs.Common.{rules, ◌≡◌, ℕ, List, ◌||◌, refl}
+use Rattle.std.specs.List.{list_any}
+use Rattle.std.proofs.lemmas.List.Recursion.{same_from_clauses}
+use lib.Dec.{eqb}
+use Rattle.base.proofs.EntriesInUse.{in_use_all}
+use Rattle.tables.specs.Keys.{member}
 use Rattle.tables.proofs.has_key.Goals as goal
 
-pub loop-i-init : goal.loop-i-init
-loop-i-init c = record { decide = refl }
-
-pub returns-then-keys-i : goal.returns-then-keys-i
-returns-then-keys-i c = found (asks_member _) c.loop-i.invariant (omega arith) (omega arith) (eq-eqb _ _ c.if-keys-i.true)
-
-pub loop-i-preserved : goal.loop-i-preserved
-loop-i-preserved c = passed (asks_member _) c.loop-i.invariant (omega arith) (omega arith) (ne_eqb _ _ c.if-keys-i.false)
+member_any : (key : ℕ) (keys : List ℕ) → member key keys ≡ list_any (λ y. eqb y key) keys
+unfolding member
+member_any key =
+    same_from_clauses (member key) (list_any (λ y. eqb y key)) (λ y b. eqb y key || b) refl (λ _ _. refl) (λ _ _. refl)
 
 pub returns : goal.returns
-returns c = none_left (asks_member _) c.loop-i.invariant (omega arith)
+returns c =
+    let a = c.args in
+    rw (← (in_use_all a.count a.keys.now), member_any) (search rules)

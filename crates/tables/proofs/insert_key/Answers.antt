@@ -1,13 +1,6 @@
-use native.Mathlib.Omega.{arith}
-use Rattle.tables.proofs.TableChanged.{put_start, put_turn, put_end}
+-- `tables::insert_key` meets its contract: the keys from the first that is above it move up by one place.
+use Rattle.tables.proofs.TableChanged.{key_put}
 use Rattle.tables.proofs.insert_key.Goals as goal
 
-pub loop-i-init : goal.loop-i-init
-loop-i-init c = put_start _ _ _ c.first_from-i.ensures
-
-pub loop-i-preserved : goal.loop-i-preserved
-loop-i-preserved c = put_turn c.loop-i.invariant (omega arith) (omega arith)
-
 pub returns : goal.returns
-returns c =
-    put_end c.loop-i.invariant (omega arith) c.with_key.ensures
+returns c = rw c.copy_within.ensures.after (key_put _ _ _ _ c.requires (rw c.from.ensures at c.first_from-at.ensures))

@@ -9,11 +9,13 @@ loop-i-init c = keep_start _ _ _ _ c.in_use-used.ensures
 
 pub loop-i-preserved : goal.loop-i-preserved
 loop-i-preserved c =
+    let told = sym c.is_between.ensures in
+    let kept = c.loop-i.invariant in
     elim c.if-not-is_between.branch [
       | then-not-is_between w ↦
-          rw (w.keys-is, w.kept-is) (keep_one c.loop-i.invariant (omega arith) (omega arith) (sym c.is_between.ensures ∙ w.if-not-is_between.true))
+          rw (w.keys-is, w.kept-is) (keep_one kept (omega arith) (omega arith) (told ∙ w.if-not-is_between.true))
       | else-not-is_between w ↦
-          rw (w.keys-is, w.kept-is) (keep_not c.loop-i.invariant (omega arith) (omega arith) (sym c.is_between.ensures ∙ w.if-not-is_between.false))
+          rw (w.keys-is, w.kept-is) (keep_not kept (omega arith) (omega arith) (told ∙ w.if-not-is_between.false))
     ]
 
 pub returns : goal.returns

@@ -3,4 +3,4 @@ use Rattle.tables.proofs.TableChanged.{without_next}
 use Rattle.tables.proofs.remove_key.Goals as goal
 
 pub returns : goal.returns
-returns c = rw (without_next _ _) at c.remove_between.ensures
+returns c = rw (without_next, c.from-key.ensures) at c.remove_between.ensures

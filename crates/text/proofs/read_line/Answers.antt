@@ -12,28 +12,31 @@ bytes p = p.args.s.now
 pub loop-i-init : goal.loop-i-init
 loop-i-init c = rw c.no_line-l.ensures (starts _ _)
 
-pub returns-then-a-eq10 : goal.returns-then-a-eq10
-returns-then-a-eq10 c =
-    stops _ _ _ _ c.loop-i.invariant (at_stop (bytes (goal.at.returns-then-a-eq10 c).At-loop-i) c.loop-i.i (search rules) c.if-a-eq10.true)
+pub returns-then-s-i-eq10 : goal.returns-then-s-i-eq10
+returns-then-s-i-eq10 c =
+    stops _ _ _ _ c.loop-i.invariant (at_stop (bytes (goal.at.returns-then-s-i-eq10 c).At-loop-i) c.loop-i.i (search rules) c.if-s-i-eq10.true)
 
 pub returns-then-s-j : goal.returns-then-s-j
 returns-then-s-j c =
-    fails _ _ _ _ c.loop-i.invariant _ c.no_line.ensures (at_odd (bytes (goal.at.returns-then-s-j c).At-loop-i) c.loop-i.i (search rules) c.if-a-eq10.false (search rules))
+    fails _ _ _ _ c.loop-i.invariant _ c.no_line.ensures
+    (at_odd (bytes (goal.at.returns-then-s-j c).At-loop-i) c.loop-i.i (search rules) c.if-s-i-eq10.false (search rules))
 
-pub returns-then-x-ge256 : goal.returns-then-x-ge256
-returns-then-x-ge256 c =
-    fails _ _ _ _ c.loop-i.invariant _ c.no_line-then-x-ge256.ensures
-    (at_bad (bytes (goal.at.returns-then-x-ge256 c).At-loop-i) c.loop-i.i (search rules) c.if-a-eq10.false (search rules) (search rules))
+pub returns-in_default : goal.returns-in_default
+returns-in_default c =
+    let e = c.in_default.ensures.value in
+    fails _ _ _ _ c.loop-i.invariant _ c.no_line.ensures
+    (at_bad (bytes (goal.at.returns-in_default c).At-loop-i) c.loop-i.i (search rules) c.if-s-i-eq10.false (search rules) (omega (arith, e)))
 
 pub grow-l-requires : goal.grow-l-requires
 grow-l-requires c = omega (arith, count_le _ _ _ _ c.loop-i.invariant)
 
 pub loop-i-preserved : goal.loop-i-preserved
 loop-i-preserved c =
-    rw (c.grow-l.ensures, c.pair-x.ensures)
+    let e = c.in-Some.ensures in
+    rw (c.grow-l.ensures, e.value)
     (goes_on _ _ _ _ c.loop-i.invariant _
-    (at_more (bytes (goal.at.loop-i-preserved c).At-loop-i) c.loop-i.i (search rules) c.if-a-eq10.false (search rules) (search rules)))
+    (at_more (bytes (goal.at.loop-i-preserved c).At-loop-i) c.loop-i.i (search rules) c.if-s-i-eq10.false (search rules) (rw e.value at e.below)))
 
 pub returns : goal.returns
 returns c =
-    fails _ _ _ _ c.loop-i.invariant _ c.no_line-2.ensures (at_end (bytes (goal.at.returns c).At-loop-i) c.loop-i.i (search rules))
+    fails _ _ _ _ c.loop-i.invariant _ c.no_line.ensures (at_end (bytes (goal.at.returns c).At-loop-i) c.loop-i.i (search rules))

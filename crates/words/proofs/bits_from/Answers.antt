@@ -7,12 +7,12 @@ use Rattle.words.proofs.bits_from.Goals as goal
 pub returns-then-i-words : goal.returns-then-i-words
 returns-then-i-words c =
     let a = c.args in
-    flags_joined a.words.now a.at (omega (arith, c.shared_slice_known-1.given (a.at / 64)))
+    flags_joined a.words.now a.at (omega (arith, c.type_inv.words (a.at / 64)))
 
 pub returns-then-i-words-2 : goal.returns-then-i-words-2
 returns-then-i-words-2 c =
     let a = c.args in
-    flags_last a.words.now a.at (omega (arith, c.shared_slice_known-then-i-words-2-1.given (a.at / 64))) (omega arith)
+    flags_last a.words.now a.at (omega (arith, c.type_inv.words (a.at / 64))) (omega arith)
 
-pub returns : goal.returns
-returns c = flags_past c.args.words.now c.args.at (omega arith)
+pub returns-else-i-words-2 : goal.returns-else-i-words-2
+returns-else-i-words-2 c = flags_past c.args.words.now c.args.at (omega arith)

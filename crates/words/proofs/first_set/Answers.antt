@@ -1,25 +1,15 @@
 use native.Mathlib.Omega.{arith}
-use lib.Count.{trailing_le}
-use lib.ListN.{get_or}
 use Rattle.words.proofs.FirstFlagFound.{none_lower, none_more, first_found, none_found}
 use Rattle.words.proofs.first_set.Goals as goal
 
 pub loop-i-init : goal.loop-i-init
 loop-i-init c = none_lower _ (omega arith) c.requires.none_below
 
-pub overflow_cast-result : goal.overflow_cast-result
-overflow_cast-result c =
-    omega (arith, trailing_le 64 (get_or c.args.words.now c.loop-i.i 0))
-
-pub overflow_add-result : goal.overflow_add-result
-overflow_add-result c =
-    omega (arith, trailing_le 64 (get_or c.args.words.now c.loop-i.i 0))
-
 pub returns-then-word-ne0 : goal.returns-then-word-ne0
 returns-then-word-ne0 c =
     let i = c.loop-i.i in
     let ws = c.args.words.now in
-    first_found ws i (omega arith) c.loop-i.invariant (omega (arith, c.shared_slice_known-1.given i)) c.if-word-ne0.true
+    first_found ws i (omega arith) c.loop-i.invariant (omega (arith, c.type_inv.words i)) c.if-word-ne0.true
 
 pub loop-i-preserved : goal.loop-i-preserved
 loop-i-preserved c =

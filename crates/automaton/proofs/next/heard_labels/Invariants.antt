@@ -1,10 +1,6 @@
--- `automaton::next::heard_labels` meets its contract. The loop's invariant: each flag, with the keys from `i` on, decides.
-use Prim.Native.Nat.{◌-◌}
+-- `automaton::next::heard_labels` meets its contract. The loop's invariant: each flag, with the keys from the next on, decides.
 use Rattle.automaton.proofs.TablesFilled.{Hearing}
 use Rattle.automaton.proofs.next.heard_labels.Given as goal
 
-abbrev pub invariant-loop-i : goal.invariant-loop-i
-invariant-loop-i l = Hearing l.keys l.count l.i l.flags
-
-abbrev pub decreases-loop-i : goal.decreases-loop-i
-decreases-loop-i l = l.count - l.i
+abbrev pub invariant-loop-key : goal.invariant-loop-key
+invariant-loop-key l = Hearing l.key-items l.key-index l.flags

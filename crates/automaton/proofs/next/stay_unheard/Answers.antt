@@ -1,40 +1,35 @@
-use Prim.Native.Nat.{◌<◌}
 use mathlib.Core.Path.{◌∙◌, ap, sym}
 use native.Mathlib.Omega.{arith}
-use lib.ListN.{length}
-use Rattle.automaton.specs.Sizes.{next_states_size}
 use Rattle.automaton.specs.NextStates.{stayed_at}
 use Rattle.base.proofs.BytesFilled.{filling_more, filling_all}
 use Rattle.automaton.proofs.LabelsUnheard.{stayed_start, stayed_value, stayed_all}
 use Rattle.automaton.proofs.next.stay_unheard.Goals as goal
-use Rattle.automaton.proofs.next.stay_unheard.Goals.{At-loop-i}
 
 pub loop-i-init : goal.loop-i-init
 loop-i-init c =
     let n = c.args.n in
-    (stayed_start n.routines n.states n.actions c.args.heard.now c.args.sets.now c.requires, omega arith)
+    rw c.from-i.ensures (stayed_start n.routines n.states n.actions c.args.heard.now c.args.sets.now c.requires)
+
+pub bounds-sets-i : goal.bounds-sets-i
+bounds-sets-i c = omega (arith, c.loop-i.invariant.len)
+
+pub bounds-sets-i-in-loop-i : goal.bounds-sets-i-in-loop-i
+bounds-sets-i-in-loop-i c = omega (arith, c.loop-i.invariant.len)
 
 pub loop-i-preserved : goal.loop-i-preserved
 loop-i-preserved c =
-    let w = c.loop-i.invariant.0 in
+    let w = c.loop-i.invariant in
     let n = c.args.n in
-    let e = c.stayed_at-set.ensures ∙ ap (stayed_at n.routines n.states n.actions c.args.heard.now c.loop-i.i) (w.left c.loop-i.i (omega arith)) in
-    (filling_more w (omega arith) (stayed_value n.routines n.states n.actions c.args.heard.now c.args.sets.now c.loop-i.i _ c.loop-i.invariant.1 e), omega (arith, c.loop-i.invariant.1))
+    let i = c.loop-i.i in
+    let hs = c.args.heard.now in
+    let left = ap (stayed_at n.routines n.states n.actions hs i) (w.left i (omega arith)) in
+    let rule = stayed_value n.routines n.states n.actions hs c.args.sets.now i _ (omega arith) (c.stayed_at.ensures ∙ left) in
+    filling_more w (omega arith) rule
+
+pub shape_of-sets : goal.shape_of-sets
+shape_of-sets c = c.loop-i.invariant.len ∙ sym c.requires.size
 
 pub returns : goal.returns
 returns c r states actions ranged heard listed =
     let n = c.args.n in
-    stayed_all r n.routines ranged listed heard (rw (states, actions) (filling_all c.loop-i.invariant.0 (omega arith)))
-
--- the table keeps its size
-room : (p : At-loop-i) → p.loop-i.i < next_states_size → p.loop-i.i < length p.loop-i.sets
-room p h = omega (arith, p.loop-i.invariant.0.len)
-
-pub bounds-sets-i : goal.bounds-sets-i
-bounds-sets-i c = room (goal.at.bounds-sets-i c).At-loop-i (omega arith)
-
-pub bounds-sets-i-in-loop-i : goal.bounds-sets-i-in-loop-i
-bounds-sets-i-in-loop-i c = room (goal.at.bounds-sets-i-in-loop-i c).At-loop-i (omega arith)
-
-pub shape_of-sets : goal.shape_of-sets
-shape_of-sets c = c.loop-i.invariant.0.len ∙ sym c.requires.size
+    stayed_all r n.routines ranged listed heard (rw (states, actions) (filling_all c.loop-i.invariant (omega arith)))

@@ -14,4 +14,4 @@ parts q a s h k =
     cc
 
 pub returns : goal.returns
-returns c = parts _ _ _ (search rules) (search rules)
+returns c = rw (c.from.ensures, c.from-2.ensures, c.from-3.ensures) (parts _ _ _ (search rules) (search rules))

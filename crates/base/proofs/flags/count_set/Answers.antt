@@ -1,22 +1,18 @@
-use Rattle.std.proofs.Common.{ap}
-use mathlib.Core.Bool.{not}
-use native.Mathlib.Omega.{arith}
-use borrow.Author.Tests.{eq-eqb, ne_eqb}
-use Rattle.base.proofs.BytesCounted.{counts_set, counted_one, counted_none, counted_all}
-use Rattle.base.proofs.flags.count_set.Goals.{then-flags-i-ne0, else-flags-i-ne0}
+-- `base::flags::count_set` meets its contract: the own count is that of std.
+use Rattle.std.proofs.Common.{rules, ◌≡◌, ℕ, ◌+◌, Bool, true, false, not, cond, List, refl, arith}
+use Rattle.std.specs.List.{count_by}
+use Rattle.std.proofs.lemmas.List.Recursion.{is_count_by}
+use lib.Dec.{eqb}
+use Rattle.base.specs.Flags.{count_set}
 use Rattle.base.proofs.flags.count_set.Goals as goal
 
-pub loop-i-init : goal.loop-i-init
-loop-i-init c = (omega arith, record { total = omega arith })
-
-pub loop-i-preserved : goal.loop-i-preserved
-loop-i-preserved c =
-    elim c.if-flags-i-ne0.branch [
-      | then-flags-i-ne0 w ↦
-          rw w.n-is (omega arith, counted_one counts_set c.loop-i.invariant.1 (omega arith) (ap not (ne_eqb _ _ w.if-flags-i-ne0.true)))
-      | else-flags-i-ne0 w ↦
-          rw w.n-is (omega arith, counted_none counts_set c.loop-i.invariant.1 (omega arith) (ap not (eq-eqb _ _ w.if-flags-i-ne0.false)))
-    ]
+counted : (flags : List ℕ) → count_set flags ≡ count_by (λ b. not (eqb b 0)) flags
+unfolding count_set
+counted = is_count_by count_set (λ b. not (eqb b 0)) refl (λ b bs. one (eqb b 0) (count_set bs))
+  where
+    one : (e : Bool) (n : ℕ) → cond e 0 1 + n ≡ cond (not e) (1 + n) n
+    one true n = omega arith
+    one false n = refl
 
 pub returns : goal.returns
-returns c = counted_all counts_set c.loop-i.invariant.1 c.loop-i-test.false
+returns c = rw (counted c.args.flags.now) (search rules)

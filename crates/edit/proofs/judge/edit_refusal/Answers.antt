@@ -9,12 +9,6 @@ use Rattle.edit.proofs.judge.edit_refusal.Goals.{Start}
 size : (z : Start) → length z.args.t.keys ≡ max_edges
 size z = search rules
 
-pub has_step-old-requires : goal.has_step-old-requires
-has_step-old-requires c = rw c.old_step.ensures c.requires.old
-
-pub has_step-new-requires : goal.has_step-new-requires
-has_step-new-requires c = rw c.new_step.ensures c.requires.new
-
 pub returns : goal.returns
 returns c =
     let t = c.args.t in

@@ -1,15 +1,10 @@
 use mathlib.Core.Path.{◌≡◌, ap, ◌∙◌}
 use mathlib.Core.List.{map}
-use native.Mathlib.Omega.{arith}
 use Rattle.program.specs.Decoded.{edge_keys_of, edge_of, program_of}
 use Rattle.exchange.specs.Changing.{others, inserted_all, exchanged_program}
 use Rattle.exchange.proofs.OtherRoutines.{none_own}
-use Rattle.exchange.proofs.EdgesJoined.{all_joined, room_left}
+use Rattle.exchange.proofs.EdgesJoined.{all_joined}
 use Rattle.exchange.proofs.apply.exchanged.Goals as goal
-
-pub joined-edges-requires : goal.joined-edges-requires
-joined-edges-requires c =
-    record { count_value = (c.others_of-rest.ensures.1, omega (arith, c.first_from-at.ensures.within, c.others_of-rest.ensures.1)); len_bound = room_left (edge_keys_of c.others_of-rest.result) (edge_keys_of c.args.x.edges) c.others_of-rest.ensures.0 c.requires.edges_limited }
 
 pub returns : goal.returns
 unfolding exchanged_program

@@ -1,6 +1,8 @@
 use mathlib.Core.Path.{◌≡◌, ◌∙◌}
 use lib.ListN.{length}
 use borrow.Author.Rules.{rules}
+use Rattle.std.proofs.Common.{arith}
+use Rattle.std.proofs.lemmas.Grind.{common_steps}
 use Rattle.program.specs.Sizes.{max_edges}
 use Rattle.edit.proofs.EditRefusals.{full_table}
 use Rattle.exchange_text.proofs.FoundKept.{found_parts}
@@ -13,5 +15,6 @@ size z = search rules
 pub returns : goal.returns
 returns c =
     let t = c.args.s.edges in
-    found_parts _ (c.key_of.ensures ∙ rw c.kind_of.ensures) (rw c.is_outside.ensures) (rw c.is_astray.ensures) (rw (full_table t.count t.keys (size (goal.at.returns c).Start)))
-    (c.add_edge-edges.ensures ∙ rw c.edge_in.ensures)
+    let full = full_table t.count t.keys (size (goal.at.returns c).Start) in
+    found_parts _ (c.key_of.ensures ∙ rw c.kind_of.ensures) (grind (arith, common_steps)) (grind (arith, common_steps)) (grind (arith, common_steps, full))
+    (c.add_edge.ensures ∙ rw c.edge_in.ensures)

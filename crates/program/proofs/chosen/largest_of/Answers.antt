@@ -1,43 +1,22 @@
-use Prim.Native.Nat.{suc, ◌-◌, ◌<◌}
-use mathlib.Core.Path.{◌≡◌, sym, ap, ◌∙◌}
-use lib.ListN.{length}
-use native.Mathlib.Omega.{arith}
-use borrow.Author.Rules.{rules}
+-- `program::chosen::largest_of` meets its contract: the own largest is that of std.
+use Rattle.std.proofs.Common.{rules, ◌≡◌, sym, ap, ◌∙◌, length, take, max}
+use Rattle.std.specs.List.{reduce}
+use Rattle.std.proofs.lemmas.Iterator.{YieldsList-from_slice}
+use Rattle.std.proofs.lemmas.Iterator.Adapters.{option_map_id}
+use Rattle.std.proofs.lemmas.Iterator.Consumers.{YieldsList-from_copied, max_from_yields_List}
+use Rattle.base.proofs.EntriesInUse.{in_use_same}
 use Rattle.program.specs.Sizes.{max_routines}
 use Rattle.program.specs.Chosen.{largest}
-use Rattle.program.proofs.ChosenSizes.{largest_none, largest_step, take_min}
+use Rattle.program.proofs.ChosenSizes.{largest_is}
 use Rattle.program.proofs.chosen.largest_of.Goals as goal
-use Rattle.program.proofs.chosen.largest_of.Goals.{At-loop-i}
-
-room : (p : At-loop-i) → length p.args.nodes.list ≡ max_routines
-room p = search rules
-
-pub loop-i-init : goal.loop-i-init
-loop-i-init c =
-    let u = c.in_use-count.ensures in
-    let room : length c.args.nodes.list ≡ max_routines = search rules in
-    (omega arith, sym (largest_none c.args.nodes.list c.in_use-count.result (omega arith)))
-
-pub bounds-list-i : goal.bounds-list-i
-bounds-list-i c = omega (arith, c.in_use-count.ensures, c.loop-i.invariant.0)
-
-pub loop-i-preserved : goal.loop-i-preserved
-loop-i-preserved c =
-    let u = c.in_use-count.ensures in
-    let i = c.loop-i.i in
-    let list = c.args.nodes.list in
-    let r = room (goal.at.loop-i-preserved c).At-loop-i in
-    let h : 0 < i = omega (arith, c.loop-i-test) in
-    let e : suc (i - 1) ≡ i = omega arith in (
-      omega (arith, c.loop-i.invariant.0),
-      c.larger-most.ensures ∙ largest_step list c.in_use-count.result (omega arith) (i - 1) c.loop-i.most (omega (arith, c.loop-i.invariant.0)) (rw e c.loop-i.invariant.1),
-    )
 
 pub returns : goal.returns
 returns c =
     let n = c.args.nodes in
-    let u = c.in_use-count.ensures in
-    let r = room (goal.at.returns c).At-loop-i in
-    let z : c.loop-i.i ≡ 0 = omega (arith, c.loop-i-test) in
-    let e = rw z at c.loop-i.invariant.1 in
-    e ∙ ap largest (rw u (rw r at (take_min n.count n.list)))
+    let room : length n.list ≡ max_routines = search rules in
+    let used = take c.in_use-count.result n.list in
+    let road = YieldsList-from_copied (YieldsList-from_slice used (cc)) in
+    let most : c.max.result ≡ reduce max used =
+    sym (option_map_id _) ∙ max_from_yields_List c.copied.result _ c.max.ensures.ran road in
+    c.unwrap_or.ensures ∙ rw most (largest_is used)
+    ∙ ap largest (in_use_same n.count n.list room c.in_use-count.ensures)

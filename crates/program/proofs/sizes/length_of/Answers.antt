@@ -9,6 +9,6 @@ pub returns : goal.returns
 unfolding numbers
 returns c = (
   c.with_digit.ensures.0 ∙ add-zero _
-      ∙ rw (c.with_digit-b.ensures.0, add-zero, c.with_digit-a.ensures.0, add-zero, c.wide.ensures.0),
+      ∙ rw (c.with_digit-b.ensures.0, add-zero, c.with_digit-a.ensures.0, add-zero, c.from.ensures),
   omega arith,
 )

@@ -1,4 +1,0 @@
-use Rattle.edit_line.proofs.line.edit_or.Goals as goal
-
-pub returns : goal.returns
-returns c = cc

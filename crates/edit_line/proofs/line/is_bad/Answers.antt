@@ -1,4 +1,0 @@
-use Rattle.edit_line.proofs.line.is_bad.Goals as goal
-
-pub returns : goal.returns
-returns c = cc

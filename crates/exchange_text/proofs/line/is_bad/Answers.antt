@@ -1,4 +1,0 @@
-use Rattle.exchange_text.proofs.line.is_bad.Goals as goal
-
-pub returns : goal.returns
-returns c = cc
