@@ -18,7 +18,7 @@ use Rattle.reach.proofs.Numbers.{state_small}
 use Rattle.reach.proofs.ShapeKept.{marks-length}
 use Rattle.reach.proofs.MarksShown.{count_small}
 use Rattle.writer.specs.Parts.{RoomFor, Put}
-use Rattle.writer.specs.WriteAnswers.{Written}
+use Rattle.std.specs.Prelude.{Ok}
 use Rattle.writer.proofs.FramesPut.{put_both, long_append, long_one}
 use Rattle.listing.specs.Listing.{frame_at, listed_from, listing}
 use Rattle.listing.proofs.ListingPut.{frames_long}
@@ -72,7 +72,7 @@ listing_room marks o h = omega (arith, listing_long marks)
 module _ (marks o : List ℕ) where
   -- the frames and the end, one after the other
   pub frames_written : {a out : List ℕ} {at r c : ℕ} → length (text_of marks) ≤ length o → c ≡ count_set marks → Put (listing saved_kind old_sizes (replicate max_states 1) marks) o a 0 at
-      → Put (end_frame c ∷ []) a out at r → Wrote (text_of marks) o out (Written r)
+      → Put (end_frame c ∷ []) a out at r → Wrote (text_of marks) o out (Ok r)
   unfolding text_of
   frames_written h e x y =
       let w = put_both (rw (listed_set marks 0) at x) (rw e at y) in

@@ -11,8 +11,8 @@ use crate::old::old_sizes;
 use automaton::sizes::MAX_STATES;
 use base::flags::count_set;
 use listing::{LINE_SIZE, frame_line, put_listing};
+use program::refusal::{Refusal, RefusedAt};
 use text::{Line, put_line};
-use writer::WriteAnswer;
 use writer::put::end_line;
 
 const SAVED_KIND: u8 = 0x4D;
@@ -64,17 +64,17 @@ pub fn is_text_of(s: &[u8], marks: &[u8]) -> bool
     is_line(&s[at..], end_line(count_set(marks)))
 }
 
-// Writes the text of old marks at the start of the output, unless this is too short (10). There is a flag for each
+// Writes the text of old marks at the start of the output, unless this is too short. There is a flag for each
 // number: hence the `requires`.
-pub fn write_frames(marks: &[u8], output: &mut [u8]) -> WriteAnswer
+pub fn write_frames(marks: &[u8], output: &mut [u8]) -> Result<usize, RefusedAt>
     requires { length marks.now ≡ numbers old_sizes }
     ensures { Wrote (text_of marks.now) output.old output.new result }
 {
     let count = count_set(marks);
     if output.len() < LINE_SIZE * count + END_SIZE {
-        return WriteAnswer::Refused(10, 0);
+        return Err(Refusal::OutputShort.into());
     }
     let every_state = [1u8; MAX_STATES];
     let at = put_listing(SAVED_KIND, old_sizes(), marks, &every_state, output);
-    WriteAnswer::Written(put_line(output, at, end_line(count)))
+    Ok(put_line(output, at, end_line(count)))
 }

@@ -45,8 +45,7 @@ pub fn is_too_large(p: DecodedProgram) -> bool
     ensures { result ≡ too_large (program_of p) }
 {
     let z = sizes_of(p);
-    let transitions = transition_count(p);
-    (OLD_NODES < z.nodes) | ((OLD_STATES < z.states) | (OLD_TRANSITIONS < transitions))
+    OLD_NODES < z.nodes || OLD_STATES < z.states || OLD_TRANSITIONS < transition_count(p)
 }
 
 // The old marks of a program, whatever was there before. It is asked of accepted programs of that time, and the marks are

@@ -2,7 +2,7 @@
 use mathlib.Core.Path.{◌≡◌, sym, ap, subst, ◌∙◌}
 use mathlib.Core.List.{List}
 use Prim.Native.Nat.{ℕ}
-use lib.ListN.{length, replicate}
+use lib.ListN.{length}
 use Rattle.program.specs.Decoded.{program_of}
 use Rattle.analysis.specs.Answers.{same}
 use Rattle.saved.specs.Saved.{saved_text, text_of}
@@ -13,9 +13,6 @@ use Rattle.saved.proofs.FramesWritten.{old_long}
 use Rattle.saved.proofs.MovesAnswered.{foreign_refused, own_moved}
 use Rattle.saved.proofs.move_back.Goals as goal
 use Rattle.saved.proofs.move_back.Goals.{After-is_text_of}
-
-cleared : (s : After-is_text_of) → s.clear.new.flags ≡ replicate (length s.args.work.now) 0
-cleared s = s.clear.ensures
 
 -- the text is compared with the program's own
 compared : (s : After-is_text_of) → s.is_text_of.result ≡ same s.args.frames.now (saved_text (program_of s.args.p))
@@ -29,15 +26,16 @@ pub is_text_of-requires : goal.is_text_of-requires
 is_text_of-requires c =
     ap length c.analyze_old.ensures ∙ old_long (program_of c.args.p) ∙ sym old_numbers
 
-pub returns-then-is_text_of : goal.returns-then-is_text_of
-returns-then-is_text_of c =
-    let p = program_of c.args.p in
-    let e = c.analyze_old.ensures in (
-      own_moved back p c.args.frames.now c.args.output.now (sym (compared (goal.at.returns-then-is_text_of c).After-is_text_of) ∙ c.if-is_text_of.true)
-          (subst (λ (l : List ℕ). Wrote l c.args.output.now c.write_marks.new.output c.write_marks.result) e c.write_marks.ensures),
-      cleared (goal.at.returns-then-is_text_of c).After-is_text_of,
-    )
+pub returns-then-not-is_text_of : goal.returns-then-not-is_text_of
+returns-then-not-is_text_of c =
+    let z = c.args in
+    let s = compared (goal.at.returns-then-not-is_text_of c).After-is_text_of in
+    rw c.into.ensures (foreign_refused back (program_of z.p) z.frames.now z.output.now (sym s ∙ c.if-not-is_text_of.true), c.clear.ensures)
 
 pub returns : goal.returns
 returns c =
-    (foreign_refused back (program_of c.args.p) c.args.frames.now c.args.output.now (sym (compared (goal.at.returns c).After-is_text_of) ∙ c.if-is_text_of.false), cleared (goal.at.returns c).After-is_text_of)
+    let z = c.args in (
+      own_moved back (program_of z.p) z.frames.now z.output.now (sym (compared (goal.at.returns c).After-is_text_of) ∙ c.if-not-is_text_of.false)
+          (subst (λ (l : List ℕ). Wrote l z.output.now c.write_marks.new.output c.write_marks.result) c.analyze_old.ensures c.write_marks.ensures),
+      c.clear.ensures,
+    )

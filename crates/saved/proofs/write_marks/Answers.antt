@@ -10,7 +10,7 @@ use Rattle.saved.proofs.write_marks.Goals as goal
 pub returns-then-output-size : goal.returns-then-output-size
 returns-then-output-size c =
     let z = c.args in
-    short_refused z.marks.now z.output.now c.if-output-size.true
+    rw c.into.ensures (short_refused z.marks.now z.output.now c.if-output-size.true)
 
 pub returns : goal.returns
 returns c =

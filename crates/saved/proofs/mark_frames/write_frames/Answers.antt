@@ -36,7 +36,7 @@ overflow_add-count c = omega (arith, few c)
 pub returns-then-output-count : goal.returns-then-output-count
 returns-then-output-count c =
     let z = c.args in
-    short_refused (text_of z.marks.now) z.output.now (omega (arith, c.if-output-count.true, text_long z.marks.now, c.count_set-count.ensures))
+    rw c.into.ensures (short_refused (text_of z.marks.now) z.output.now (omega (arith, c.if-output-count.true, text_long z.marks.now, c.count_set-count.ensures)))
 
 pub put_listing-at-requires : goal.put_listing-at-requires
 put_listing-at-requires c =
