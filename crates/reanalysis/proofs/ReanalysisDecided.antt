@@ -1,4 +1,4 @@
--- The loops that decide whether a component is worked anew.
+-- The searches that decide whether a component is worked anew.
 use mathlib.Core.Path.{◌≡◌, refl, ◌∙◌}
 use mathlib.Core.Logic.{◌⊎◌, inl, inr, ◌≢◌}
 use mathlib.Core.Bool.{Bool, true, false, not}
@@ -42,9 +42,11 @@ pub record SomeOf (P : ℕ → Type 0) (n : ℕ) : Type 0 where
 
 -- as `any` answers it over a list
 abbrev pub AnyOf : (ℕ → Type 0) → List ℕ → Bool → Type 0
-AnyOf P xs r = MatchBool r ((k : ℕ) × (k < length xs) × HoldsAt P xs k) (AllWithin (λ x. ¬ (P x)) xs 0 (length xs))
+AnyOf P xs r =
+    MatchBool r ((k : ℕ) × (k < length xs) × HoldsAt P xs k) (AllWithin (λ x. ¬ (P x)) xs 0 (length xs))
 
-pub any_item : (P : ℕ → Type 0) (xs : List ℕ) (r : Bool) → AnyOf P xs r → Says r (SomeOf (λ k. P (get_or xs k 0)) (length xs))
+pub any_item : (P : ℕ → Type 0) (xs : List ℕ) (r : Bool) → AnyOf P xs r
+    → Says r (SomeOf (λ k. P (get_or xs k 0)) (length xs))
 any_item P xs true h = said_yes (record { at = h.0; below = h.1; holds = h.2 0 })
 any_item P xs false h = said_no (λ d. h d.at 0 (omega arith) d.below d.holds)
 
@@ -53,7 +55,9 @@ any_number P n r h =
     let numbers = range_with_len 0 n in
     let e : (k : ℕ) → k < n → get_or numbers k 0 ≡ k = λ k b. get_or-range_with_len 0 n k 0 b ∙ omega arith in
     says_by
-    (λ d. let b : d.at < n = rw length-range_with_len at d.below in record { at = d.at; below = b; holds = rw (e d.at b) at d.holds })
+    (λ d.
+    let b : d.at < n = rw length-range_with_len at d.below in
+    record { at = d.at; below = b; holds = rw (e d.at b) at d.holds })
     (λ d. record { at = d.at; below = rw length-range_with_len d.below; holds = rw (e d.at d.below) d.holds })
     (any_item P numbers r h)
 
@@ -101,7 +105,8 @@ module _ {Z : Sizes} (U : Usable Z) (before marks : List ℕ) (g : ℕ) (hg : g 
           ];
         }
 
-    differs_apart : ((get_or before (summary Z g r q) 0 ≢ 0) × (¬ (Marked Z marks g 1 r q))) ⊎ ((get_or before (summary Z g r q) 0 ≡ 0) × Marked Z marks g 1 r q)
+    differs_apart : ((get_or before (summary Z g r q) 0 ≢ 0) × (¬ (Marked Z marks g 1 r q)))
+        ⊎ ((get_or before (summary Z g r q) 0 ≡ 0) × Marked Z marks g 1 r q)
         → DiffersAt Z before marks g r q
     differs_apart d =
         apart_set (get_or before (summary Z g r q) 0) (get_or marks (number Z g 1 r q) 0)

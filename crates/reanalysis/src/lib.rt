@@ -2,7 +2,7 @@
 // summaries are others than before.
 #![tactic(auto)]
 
-ghost use Rattle.std.specs.Prelude.{◌<◌, ◌≤◌, ◌⊎◌, length};
+ghost use Rattle.std.specs.Prelude.{◌<◌, ◌⊎◌, length};
 ghost use Rattle.program.specs.WellFormed.{WellFormed};
 ghost use Rattle.program.specs.Decoded.{edge_of, program_of};
 ghost use Rattle.reach.specs.Configurations.{Usable};
@@ -57,6 +57,7 @@ fn edge_differs(z: Sizes, members: &[u8], before: &[u64], marks: &[u8], key: u32
     g < z.routines && !is_set(members, g as usize) && summaries_differ(z, before, marks, g)
 }
 
+// Whether the edge of one of the keys is such.
 fn some_differ(z: Sizes, keys: &[u32], members: &[u8], before: &[u64], marks: &[u8]) -> bool
     requires { Usable z }
     ensures { Says result (SomeDiffering z members.now (flags_of before.now) marks.now
@@ -73,10 +74,8 @@ fn calls_differ(z: Sizes, p: DecodedProgram, members: &[u8], before: &[u64], mar
     ensures { Says result
         (CallsDiffering z (program_of p) members.now (flags_of before.now) marks.now) }
 {
-    let edges = p.edges;
-    let keys = edges.keys;
-    let count = in_use(edges.count, MAX_EDGES);
-    some_differ(z, &keys[..count], members, before, marks)
+    let count = in_use(p.edges.count, MAX_EDGES);
+    some_differ(z, &p.edges.keys[..count], members, before, marks)
 }
 
 // The component holds the changed routine, or calls one outside it whose summaries have changed. The reader accepts

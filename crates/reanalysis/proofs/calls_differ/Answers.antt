@@ -6,7 +6,13 @@ use lib.ListN.{length}
 use borrow.Author.Rules.{rules}
 use Rattle.program.specs.Sizes.{max_edges}
 use Rattle.callgraph.proofs.CallsByKey.{keys_of}
-use Rattle.reanalysis.proofs.ReanalysisDecided.{differing_call, call_differing, front_differing, differing_front, says_by}
+use Rattle.reanalysis.proofs.ReanalysisDecided.{
+  differing_call,
+  call_differing,
+  front_differing,
+  differing_front,
+  says_by,
+}
 use Rattle.reanalysis.proofs.calls_differ.Goals as goal
 use Rattle.reanalysis.proofs.calls_differ.Goals.{Start}
 
