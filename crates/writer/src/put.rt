@@ -52,10 +52,11 @@ fn entry_line(kind: u8, i: u8, x: u8) -> Line
 {
     if kind == 0x52 {
         let numbers = [0x52, i, x, 0, 0, 0, 0, 0];
-        return Line { count: 3, numbers };
+        Line { count: 3, numbers }
+    } else {
+        let numbers = [kind, x, 0, 0, 0, 0, 0, 0];
+        Line { count: 2, numbers }
     }
-    let numbers = [kind, x, 0, 0, 0, 0, 0, 0];
-    Line { count: 2, numbers }
 }
 
 fn edge_line(key: u32) -> Line
@@ -88,9 +89,10 @@ fn key_line(kind: u8, key: u32) -> Line
     ensures { result ≡ line_of (key_frame kind key) }
 {
     if kind == 0x53 {
-        return edge_line(key);
+        edge_line(key)
+    } else {
+        transition_line(key)
     }
-    transition_line(key)
 }
 
 // A frame of the kind for each entry of a list. The number of a routine is one byte: hence the first `requires`.
@@ -102,11 +104,9 @@ fn put_bytes(out: &mut [u8], at: usize, kind: u8, list: &[u8], count: usize) -> 
 {
     let used = in_use(count, list.len());
     let mut pos = at;
-    let mut i: usize = 0;
-    while i < used {
+    for i in 0..used {
         let l = entry_line(kind, i as u8, list[i]);
         pos = put_line(out, pos, l);
-        i = i + 1;
     }
     pos
 }
@@ -119,11 +119,9 @@ fn put_keys(out: &mut [u8], at: usize, kind: u8, keys: &[u32], count: usize) -> 
 {
     let used = in_use(count, keys.len());
     let mut pos = at;
-    let mut i: usize = 0;
-    while i < used {
+    for i in 0..used {
         let l = key_line(kind, keys[i]);
         pos = put_line(out, pos, l);
-        i = i + 1;
     }
     pos
 }

@@ -15,8 +15,5 @@ pub loop-i-preserved : goal.loop-i-preserved
 loop-i-preserved c =
     more c.loop-i.invariant c.loop-i-test.true _ c.entry_line-l.ensures (c.put_line-pos.ensures.value, c.put_line-pos.ensures.out_after)
 
-pub shape_of-out : goal.shape_of-out
-shape_of-out c = same_long c.loop-i.invariant.put
-
 pub returns : goal.returns
 returns c = all_put c.loop-i.invariant c.loop-i-test.false
