@@ -1,4 +1,4 @@
--- `analysis::next_violation` meets its contract: the file and the lengths are checked, then the marks, and the first violation is sought.
+-- `analysis::next_violation` meets its contract: what the checks pass is searched for the first violation.
 use Rattle.std.proofs.Common.{◌≡◌, ℕ, length, refl, sym, ap, subst, ◌∙◌, rules}
 use Rattle.std.proofs.lemmas.Result.{err_from_is_err_and}
 use Rattle.std.specs.Prelude.{Option, Ok, ltb}

@@ -1,4 +1,4 @@
--- `block_list::next_blocked` meets its contract: the file and the lengths are checked, then the marks, and the first configuration is sought.
+-- `block_list::next_blocked` meets its contract: what the checks pass is searched for the first place.
 use Rattle.std.proofs.Common.{ℕ, refl, sym, ap, ◌∙◌}
 use Rattle.std.proofs.lemmas.Result.{err_from_is_err_and}
 use Rattle.std.specs.Prelude.{Option, Ok, ltb}
