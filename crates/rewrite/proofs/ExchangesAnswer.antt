@@ -21,9 +21,8 @@ use Rattle.program.proofs.Theorems.{written_limited}
 use Rattle.writer.specs.WriteAnswers.{Written, Refused}
 use Rattle.reach.specs.Marks.{fresh_at}
 use Rattle.analysis.specs.Answers.{owned}
-use Rattle.exchange.specs.Changes.{Exchange, whole, ChangeRead, Read, Refused as Denied}
+use Rattle.exchange.specs.Changes.{Exchange, whole, ChangeRead}
 use Rattle.exchange.specs.Changing.{exchanged_program}
-use Rattle.exchange_text.specs.ExchangeText.{exchange_unless}
 use Rattle.exchange.specs.Lengths.{sizes_after, longer, lengths_of, length_rows}
 use Rattle.exchange.specs.Wanted.{Fits}
 use Rattle.exchange.proofs.Theorems.{exchanged_well_formed}
@@ -113,12 +112,3 @@ module _ (x : Exchange) (p : Program) (marks output work second : List ℕ) {z y
 -- a refusal says no routine
 pub number_none : {n : ℕ} (w : ChangeRead) (p : Program) → n ≢ 0 → InsideOutNumber (eqb n 0) w p 0
 number_none {n} w p h = number_refused n w p (omega (arith, h))
-
--- ---- the text
-
-module _ {w : ChangeRead} (n : ℕ) (x : Exchange) (e : exchange_unless n x ≡ w) where
-  pub text_read : n ≡ 0 → w ≡ Read (whole x)
-  text_read h = sym e ∙ rw h
-
-  pub text_refused : n ≢ 0 → w ≡ Denied n
-  text_refused h = sym e ∙ rw (ne_eqb n 0 h)

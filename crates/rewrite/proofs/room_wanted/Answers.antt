@@ -1,19 +1,14 @@
-use Rattle.rewrite.proofs.RoomAnswers.{room_read}
+use Rattle.std.proofs.lemmas.Result.{err_from_is_err_and}
 use Rattle.program.specs.Decoded.{program_of}
-use Rattle.exchange.specs.Decoded.{exchange_of}
-use borrow.Author.Tests.{ne_eqb}
+use Rattle.rewrite.proofs.RoomAnswers.{room_read, room_refused}
 use Rattle.rewrite.proofs.room_wanted.Goals as goal
 
-pub returns-then-n-eq0 : goal.returns-then-n-eq0
-returns-then-n-eq0 c =
-    let a = c.args in
-    let r = c.wanted_exchange-wanted.result in
-    let h = room_read (program_of a.p) a.text.now r.refusal (exchange_of r.exchange) c.wanted_exchange-wanted.ensures in
-    rw (c.lengths_of-lengths.ensures, c.sizes_of.ensures, c.sizes_after-after.ensures) (rw c.if-n-eq0.true at h)
+pub returns-in_err-exchange : goal.returns-in_err-exchange
+returns-in_err-exchange c =
+    let e = err_from_is_err_and c.from_residual.result c.from_residual.ensures.1 in
+    rw (e.1, e.2) (room_refused (program_of c.args.p) c.args.text.now c.in_err-exchange.ensures)
 
 pub returns : goal.returns
 returns c =
-    let a = c.args in
-    let r = c.wanted_exchange-wanted.result in
-    let h = room_read (program_of a.p) a.text.now r.refusal (exchange_of r.exchange) c.wanted_exchange-wanted.ensures in
-    rw (ne_eqb r.refusal 0 c.if-n-eq0.false) at h
+    let h = room_read (program_of c.args.p) c.args.text.now c.in_ok-exchange.ensures in
+    rw (c.lengths_of-lengths.ensures, c.sizes_of.ensures, c.sizes_after-after.ensures) h
