@@ -1,7 +1,13 @@
 -- What a function gives back, part by part.
-use mathlib.Core.Path.{◌≡◌, refl, ap}
+use mathlib.Core.Path.{◌≡◌, refl, ap, ◌∙◌}
 use mathlib.Core.List.{List}
 use Prim.Native.Nat.{ℕ}
+use Rattle.std.specs.Prelude.{Result, Ok, Err}
+use Rattle.program.specs.Reading.{Outcome, read_file}
+use Rattle.program.specs.Refusals.{verdict_by}
+use Rattle.program.specs.declared.DecodedProgram.{DecodedProgram}
+use Rattle.program.specs.declared.refusal.RefusedAt.{RefusedAt}
+use Rattle.outcome.specs.Outcome.{outcome_of}
 use Rattle.writer.specs.Answers.{refusal as writeRefusal, refusal_line as writeLine, written_length}
 use Rattle.writer.specs.WriteAnswers.{WriteAnswer}
 use Rattle.repair.specs.Repairs.{After}
@@ -33,3 +39,11 @@ same_repair routines x h =
     let n = rw e at h in
     same_back n.0 n.1 (same_size routines n.2) (ap (λ (a : After). a.marks) x) (ap (λ (a : After). a.output) x) (ap (λ (a : After). a.work) x)
     (ap (λ (a : After). a.second) x)
+
+-- the verdict of an answer is that of the outcome that it stands for
+pub outcome_verdict : (a : Result DecodedProgram RefusedAt) → verdict_by a ≡ (outcome_of a).verdict
+outcome_verdict (Ok p) = refl
+outcome_verdict (Err e) = refl
+
+pub read_verdict : (file : List ℕ) {a : Result DecodedProgram RefusedAt} → outcome_of a ≡ read_file file → verdict_by a ≡ (read_file file).verdict
+read_verdict file {a} e = outcome_verdict a ∙ ap (λ (o : Outcome). o.verdict) e

@@ -62,8 +62,7 @@ returns c =
     let h = sym c.in_ok-check_own.ensures.0 in
     let r = c.mend-mended.ensures in
     let m = own_marks (goal.at.returns c).In_ok-check_own c.sizes_of-z.ensures in
-    let k = mended_own a.inward a.e p m _ _ _ r.0 in
-    (
+    let k = mended_own a.inward a.e p m _ _ _ r.0 in (
       own_answer a.e p a.marks.now a.output.now a.work.now c.requires.marks_len.2 c.sizes_of-z.ensures h k c.write_program-written.ensures,
       λ i. bits_told (step a.e) p i r.1 c.bits_of-reanalyzed.ensures,
     )

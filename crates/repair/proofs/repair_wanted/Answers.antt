@@ -28,8 +28,7 @@ returns c =
     let a = c.args in
     let h = sym c.in_ok-e.ensures in
     let o = c.repair_own in
-    let y = repair_answer_by o.result in
-    (
+    let y = repair_answer_by o.result in (
       o.ensures.0 ∙ wanted_read (program_of a.p) a.marks.now a.text.now a.output.now a.work.now _ h,
       λ i. number_wanted (program_of a.p) a.text.now _ h (eqb (refusal (plain y)) 0) (reanalyzed y) (o.ensures.1 i),
     )

@@ -29,8 +29,7 @@ returns c =
     let z = c.args in
     let k = c.in_ok-p.ensures in
     let r = c.exchange_wanted.ensures in
-    let y = repair_answer_by c.exchange_wanted.result in
-    (
+    let y = repair_answer_by c.exchange_wanted.result in (
       r.0 ∙ checked_answer ExchangeText z.file.now z.marks.now z.text.now z.output.now z.work.now z.second.now k.verdict k.passed.program,
       λ i. number_checked ExchangeText z.file.now z.text.now k.passed.program (eqb (refusal (plain y)) 0) (reanalyzed y) (r.1 i),
     )

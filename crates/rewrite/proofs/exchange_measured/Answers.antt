@@ -51,10 +51,9 @@ returns c =
     let z = c.args in
     let x = exchange_of z.exchange in
     let r = c.exchange_own.ensures in
-    let m = met (goal.at.returns c).After-check_lengths in
-    (
+    let m = met (goal.at.returns c).After-check_lengths in (
       r.0
-      ∙ measured_answer x (program_of z.p) z.marks.now z.output.now z.work.now z.second.now c.sizes_of-before.ensures c.sizes_after-after.ensures
-      m (ap number_met c.in_ok-check_lengths.was),
+          ∙ measured_answer x (program_of z.p) z.marks.now z.output.now z.work.now z.second.now c.sizes_of-before.ensures c.sizes_after-after.ensures
+          m (ap number_met c.in_ok-check_lengths.was),
       r.1,
     )

@@ -10,7 +10,6 @@ use Rattle.exchange.specs.Decoded.{exchange_of}
 use Rattle.reach.specs.Marks.{fresh_at}
 use lib.ListN.{length, length-replicate}
 use Prim.Native.Nat.{ℕ}
-use borrow.Author.Rules.{rules}
 use native.Mathlib.Omega.{arith}
 use mathlib.Core.Path.{ap, sym, ◌∙◌}
 use Rattle.rewrite.proofs.exchange_own.Goals as goal
@@ -69,9 +68,8 @@ returns c =
     let p = program_of a.p in
     let x = exchange_in (goal.at.returns c).Start in
     let h = sym c.in_ok-check_own_within.ensures.0 in
-    let r = c.mend_exchange-mended.ensures in
-    (
+    let r = c.mend_exchange-mended.ensures in (
       own_answer x p a.marks.now a.output.now a.work.now a.second.now c.requires.well_formed.3 h r.0 (c.mend_exchange-mended.auto.work ∙ c.check_own_within.auto.work)
-      c.write_program-written.ensures,
+          c.write_program-written.ensures,
       λ i. bits_told (whole x) p i r.1 c.bits_of-reanalyzed.ensures,
     )

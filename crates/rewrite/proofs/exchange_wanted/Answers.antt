@@ -1,4 +1,4 @@
-use Rattle.std.proofs.Common.{◌≡◌, ◌≢◌, eqb, ap, subst, sym, ◌∙◌, arith}
+use Rattle.std.proofs.Common.{◌≢◌, eqb, ap, subst, sym, ◌∙◌, arith}
 use Rattle.std.proofs.lemmas.Result.{err_from_is_err_and}
 use Rattle.program.specs.Decoded.{program_of}
 use Rattle.program.specs.Refusals.{number}
@@ -36,8 +36,7 @@ returns c =
     let p = program_of z.p in
     let r = c.exchange_measured in
     let y = repair_answer_by r.result in
-    let h = c.in_ok-exchange.ensures in
-    (
+    let h = c.in_ok-exchange.ensures in (
       r.ensures.0 ∙ ap (λ (w : ChangeRead). wanted_by w p z.marks.now z.output.now z.work.now z.second.now) h,
       λ i. subst (λ (w : ChangeRead). InsideOutNumber (eqb (refusal (plain y)) 0) w p (reanalyzed y)) h (r.ensures.1 i),
     )
