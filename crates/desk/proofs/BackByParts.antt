@@ -45,5 +45,5 @@ pub outcome_verdict : (a : Result DecodedProgram RefusedAt) → verdict_by a ≡
 outcome_verdict (Ok p) = refl
 outcome_verdict (Err e) = refl
 
-pub read_verdict : (file : List ℕ) {a : Result DecodedProgram RefusedAt} → outcome_of a ≡ read_file file → verdict_by a ≡ (read_file file).verdict
-read_verdict file {a} e = outcome_verdict a ∙ ap (λ (o : Outcome). o.verdict) e
+pub read_verdict : (file : List ℕ) (a : Result DecodedProgram RefusedAt) → outcome_of a ≡ read_file file → verdict_by a ≡ (read_file file).verdict
+read_verdict file a e = outcome_verdict a ∙ ap (λ (o : Outcome). o.verdict) e
