@@ -67,6 +67,11 @@ same_decides r l k h = go r h (same l k) refl
 
 -- ---- the program's own marks, or foreign ones
 
+-- what a search gives: a number past the end says that there is none
+found_is : (t : Bool) (i : ℕ) → next_answer_by (Ok (then_some t i)) ≡ found_of (cond t (some i) none)
+found_is true i = refl
+found_is false i = refl
+
 module _ (p : Program) (marks : List ℕ) where
   pub own_accepted : same marks (fresh_marks p) ≡ true → Accepted ≡ owned p marks
   unfolding first_met
@@ -95,13 +100,5 @@ module _ (p : Program) (marks : List ℕ) where
       by_marks (λ v. v ≡ Refused n line → n ≡ 17) (λ t e. absurd (let z : ◌≡◌ {A = ℕ} 0 1 = cc in omega arith)) (λ t e. cc)
 
   pub own_found : (low i : ℕ) → owned p marks ≡ Accepted → first_from low (violations_from (sizes_of p) p marks 0) ≡ within (numbers (sizes_of p)) i
-      → found_of (within (numbers (sizes_of p)) i) ≡ found_by (owned p marks) (first_from low (violations p))
-  own_found low i e f = rw e (ap found_of (sym (rw (accepted_own e) at f)))
-
--- a search's result past the end says that there is none
-pub found_is : (size i : ℕ) → next_answer_by (Ok (then_some (ltb i size) i)) ≡ found_of (within size i)
-found_is size i = go (ltb i size)
-  where
-    go : (t : Bool) → next_answer_by (Ok (then_some t i)) ≡ found_of (cond t (some i) none)
-    go true = refl
-    go false = refl
+      → next_answer_by (Ok (then_some (ltb i (numbers (sizes_of p))) i)) ≡ found_by (owned p marks) (first_from low (violations p))
+  own_found low i e f = rw e (found_is (ltb i (numbers (sizes_of p))) i ∙ ap found_of (sym (rw (accepted_own e) at f)))

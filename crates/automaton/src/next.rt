@@ -46,6 +46,7 @@ fn add_state(sets: &mut [u16], at: usize, s: u8)
     }
 }
 
+#[tactic(auto, unfolding(crate::specs::NextStates::with_transition))]
 fn add_transition(sets: &mut [u16], key: u32)
     ensures { sets.new ≡ with_transition (transition_of key) sets.old }
 {

@@ -1,6 +1,6 @@
 -- The answer of the list of configurations at which runs are cut off: a function of everything lent. The checks and the
 -- working buffer afterwards are those of the list of violations.
-use Rattle.std.specs.Prelude.{ℕ, cond, List, ltb}
+use Rattle.std.specs.Prelude.{ℕ, List}
 use Rattle.std.proofs.Math.Option.{Option, some, none}
 use Rattle.program.specs.Reading.{read_file}
 use Rattle.program.specs.Verdicts.{Verdict}
@@ -21,10 +21,6 @@ block_by (verdict.Refused n line) b = block.Refused n line
 -- the first configuration not below the number at which runs are cut off is found, or none
 unfoldable pub block_answer : List ℕ → List ℕ → List ℕ → ℕ → BlockAnswer
 block_answer file marks work low = block_by (checked_own file marks work) (next_block (read_file file).program low)
-
--- what a search for the first number gives: one past the end says that nothing was found
-abbrev pub found_within : ℕ → ℕ → ℕ → BlockAnswer
-found_within size i k = cond (ltb i size) (block.Found i k) block.Nothing
 
 -- ---- the numbers of the answer; 0 where there is none
 

@@ -2,7 +2,7 @@
 // automaton does not allow there.
 #![tactic(auto)]
 
-ghost use Rattle.std.specs.Prelude.{◌≡◌, true, ◌<◌, length};
+ghost use Rattle.std.specs.Prelude.{◌≡◌, true, false, ◌<◌, length, MatchOption};
 ghost use Rattle.program.specs.Sizes.{max_routines, max_nodes};
 ghost use Rattle.program.specs.Chosen.{numbers, Admitted};
 ghost use Rattle.program.specs.Program.{Program};
@@ -27,13 +27,6 @@ use tables::in_use;
 
 // Told in the place of an edge where it is the return that is not allowed.
 pub const NO_EDGE: usize = 4294967295;
-
-// Whether runs are cut off at a configuration, and by which edge.
-#[derive(Clone, Copy)]
-struct Cut {
-    is_cut: bool,
-    edge: usize,
-}
 
 // Where runs are cut off: the number of the configuration, which is past the marks where there is none, and the place
 // of the edge.
@@ -62,14 +55,12 @@ fn first_barred(keys: &[u32], index: &[u16], next: &[u16], c: Configuration) -> 
 
 // Whether this edge calls g with root s from a marked configuration. A routine past the sizes has no label: hence the
 // `requires`, here and in what calls this.
+#[tactic(auto, unfolding(crate::specs::Parts::calls_with))]
 fn calls_with(z: Sizes, next: &[u16], marks: &[u8], e: DecodedEdge, g: u8, s: u8) -> bool
     requires { g < max_routines }
     ensures { result ≡ calls_with z next.now marks.now g s (edge_view e) }
 {
-    if e.label != FIRST_CALL + g {
-        return false;
-    }
-    caller_kept(z, next, marks, e, s)
+    e.label == FIRST_CALL + g && caller_kept(z, next, marks, e, s)
 }
 
 // Whether some marked configuration calls g with root s.
@@ -77,59 +68,53 @@ fn is_called(z: Sizes, keys: &[u32], next: &[u16], marks: &[u8], g: u8, s: u8) -
     requires { g < max_routines }
     ensures { result ≡ called_key z keys.now next.now marks.now g s }
 {
-    let mut i: usize = 0;
-    while i < keys.len() {
-        let e = edge(keys[i]);
-        if calls_with(z, next, marks, e, g, s) {
+    for key in keys {
+        if calls_with(z, next, marks, edge(*key), g, s) {
             return true;
         }
-        i = i + 1;
     }
     false
 }
 
 // Whether the exit of an activation that was called does not return.
+#[tactic(auto, unfolding(crate::specs::Parts::no_return_key))]
 fn has_no_return(z: Sizes, keys: &[u32], next: &[u16], marks: &[u8], c: Configuration) -> bool
     requires { c.routine < max_routines }
     ensures { result ≡ no_return_key z keys.now next.now marks.now c.routine c.node
         c.root c.state }
 {
-    if c.node != 1 {
-        return false;
-    }
-    if next_after(next, c.state, FIRST_RETURN + c.routine) != 0 {
-        return false;
-    }
-    is_called(z, keys, next, marks, c.routine, c.root)
+    c.node == 1
+        && next_after(next, c.state, FIRST_RETURN + c.routine) == 0
+        && is_called(z, keys, next, marks, c.routine, c.root)
 }
 
-// Whether runs are cut off at the configuration of number i. The marks have been measured, and the index is that of the
-// keys: hence the `requires`.
-fn cut_of(z: Sizes, keys: &[u32], index: &[u16], next: &[u16], marks: &[u8], i: usize) -> Cut
+// The place of the edge by which runs are cut off at the configuration of number i, if they are. The marks have been
+// measured, and the index is that of the keys: hence the `requires`.
+fn cut_of(
+    z: Sizes,
+    keys: &[u32],
+    index: &[u16],
+    next: &[u16],
+    marks: &[u8],
+    i: usize,
+) -> Option<usize>
     requires { Usable z × Admitted z × (i < numbers z) × (length marks.now ≡ numbers z)
         × Indexed keys.now index.now }
     ensures { (p : Program) → Tables z p keys.now next.now
-        → (result.is_cut ≡ is_blocked z p marks.now i)
-        × (result.is_cut ≡ true → result.edge ≡ blocked_by z p i) }
+        → MatchOption result (is_blocked z p marks.now i ≡ false)
+        (λ edge. (is_blocked z p marks.now i ≡ true) × (edge ≡ blocked_by z p i)) }
 {
     if marks[i] == 0 {
-        return Cut {
-            is_cut: false,
-            edge: 0,
-        };
+        return None;
     }
     let c = parts_of(z, i);
     let first = first_barred(keys, index, next, c);
     if first < keys.len() {
-        return Cut {
-            is_cut: true,
-            edge: first,
-        };
-    }
-    let is_cut = has_no_return(z, keys, next, marks, c);
-    Cut {
-        is_cut,
-        edge: NO_EDGE,
+        Some(first)
+    } else if has_no_return(z, keys, next, marks, c) {
+        Some(NO_EDGE)
+    } else {
+        None
     }
 }
 
@@ -147,18 +132,15 @@ fn search_marks(
     ensures { (p : Program) → Tables z p keys.now next.now
         → block_from z p marks.now low ≡ block_in z result.number result.edge }
 {
-    let mut i = low;
-    while i < marks.len() {
-        let cut = cut_of(z, keys, index, next, marks, i);
-        if cut.is_cut {
-            return Blocked {
-                number: i,
-                edge: cut.edge,
-            };
+    for i in low..marks.len() {
+        if let Some(edge) = cut_of(z, keys, index, next, marks, i) {
+            return Blocked { number: i, edge };
         }
-        i = i + 1;
     }
-    Blocked { number: i, edge: 0 }
+    Blocked {
+        number: marks.len(),
+        edge: 0,
+    }
 }
 
 // The first configuration from `low` on at which runs are cut off, by these marks. The reader accepts only well-formed

@@ -32,14 +32,12 @@ fn wake_states(
 {
     let states = z.states;
     let mut lowest = low;
-    let mut x: u8 = 0;
-    while x < states {
+    for x in 0..states {
         let roots = next_after(next, x, e.label);
         if has_bit(r, roots as u64) {
             let base = number_of(z, e.routine, e.source, 0, x);
             lowest = wake_roots(states, marks, pending, base, lowest);
         }
-        x = x + 1;
     }
     lowest
 }

@@ -5,7 +5,7 @@ use mathlib.Core.Bool.{true}
 use mathlib.Core.List.{List, [], ◌∷◌, map, Memᴰ}
 use native.Mathlib.Omega.{arith}
 use lib.ListN.{length, get_or, take, get_or-map, length-map}
-use lib.Seq.{get_or-take, length-take-le}
+use lib.Seq.{get_or-take, length-take-le, take-length}
 use Rattle.automaton.specs.declared.Event.TheVariants.{Call}
 use Rattle.program.specs.Sizes.{max_edges}
 use Rattle.program.specs.Program.{Edge, Program, is_call, called_by}
@@ -63,6 +63,15 @@ keys_of d w room u =
       well_formed = w;
       fits = omega (arith, room, u);
       edges = rw u (ap (map edge_of) (sym (rw room at (in_use_all d.edges.count d.edges.keys))));
+    }
+
+-- the same of the keys in use alone
+pub keys_alone : {p : Program} {keys : List ℕ} {count : ℕ} → KeysOf p keys count → KeysOf p (take count keys) (length (take count keys))
+keys_alone {p} {keys} {count} o =
+    record {
+      well_formed = o.well_formed;
+      fits = omega arith;
+      edges = rw take-length o.edges;
     }
 
 module _ {p : Program} {keys : List ℕ} {count : ℕ} (o : KeysOf p keys count) where

@@ -1,6 +1,6 @@
 -- What the flags of a call graph tell of components and of their order.
 use Prim.Native.Nat.{ℕ, zero, suc, ◌+◌, ◌≤◌, ◌<◌}
-use mathlib.Core.Path.{◌≡◌, refl, sym, ap, subst, ◌∙◌}
+use mathlib.Core.Path.{◌≡◌, refl, sym, ap, subst}
 use mathlib.Core.Logic.{◌⊎◌, inl, inr, ◌↔◌, ◌≢◌}
 use mathlib.Core.Bool.{Bool, true, false, cond, ◌&&◌, ◌||◌, not}
 use mathlib.Core.List.{List}
@@ -124,9 +124,6 @@ rank_none leads f = refl
 pub rank_next : (leads : List ℕ) (f g : ℕ) {n v : ℕ} → n ≡ rank_below leads f g → v ≡ rank_flag leads f g → n + v ≡ rank_below leads f (g + 1)
 unfolding rank_below
 rank_next leads f g a b = rw (add-one g) (omega (arith, a, b))
-
-pub rank_all : (leads : List ℕ) (f : ℕ) {n g : ℕ} → g ≡ max_routines → n ≡ rank_below leads f g → n ≡ rank_of leads f
-rank_all leads f e a = a ∙ ap (rank_below leads f) e
 
 below_most : (leads : List ℕ) (f n : ℕ) → rank_below leads f n ≤ n
 unfolding rank_below

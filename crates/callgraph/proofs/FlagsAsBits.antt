@@ -1,7 +1,8 @@
 -- The bits of a number that is made flag by flag, the last flag first.
 use Prim.Native.Nat.{ℕ, zero, suc, ◌+◌, ◌-◌, ◌*◌, ◌/◌, ◌%◌, ◌^◌, ◌≤◌, ◌<◌}
 use mathlib.Core.Path.{◌≡◌, refl, sym, ap, subst, ◌∙◌}
-use mathlib.Core.Bool.{Bool, true, false, cond}
+use mathlib.Core.Bool.{Bool, true, false, cond, not}
+use mir.Val.{bool_byte}
 use mathlib.Core.List.{List}
 use native.Mathlib.Omega.{arith}
 use native.Mathlib.Nat.{pow-succ', pow-le-pow_right, div-div-eq-div-mul}
@@ -13,6 +14,11 @@ use Rattle.callgraph.specs.Components.{Member, Bits}
 
 abbrev pub bit_at : List ℕ → ℕ → ℕ
 bit_at flags f = cond (eqb (get_or flags f 0) 0) 0 1
+
+-- the test that a flag is set, as a number
+pub bit_from : (t : Bool) → bool_byte (not t) ≡ cond t 0 1
+bit_from true = refl
+bit_from false = refl
 
 bit_small : (t : Bool) → cond t 0 1 ≤ 1
 bit_small true = omega arith

@@ -25,12 +25,11 @@ pub record Grows (l k : List ℕ) : Type 0 where
 
 -- what holds at its head: what is left to do from here gives the whole
 pub record Turning (f : ℕ → List ℕ → List ℕ) (n : ℕ) (l₀ : List ℕ) (j : ℕ) (l : List ℕ) : Type 0 where
-  pub within : j ≤ n
   pub size : length l ≡ length l₀
   pub rest : in_turn f (n - j) j l ≡ in_turn f n 0 l₀
 
 pub turning_start : (f : ℕ → List ℕ → List ℕ) (n : ℕ) (l : List ℕ) → Turning f n l 0 l
-turning_start f n l = record { within = omega arith; size = refl; rest = simp sub-zero }
+turning_start f n l = record { size = refl; rest = simp sub-zero }
 
 one_less : (n j : ℕ) → j < n → n - j ≡ suc (n - (j + 1))
 one_less n j h = omega arith
@@ -50,7 +49,6 @@ module _ {f : ℕ → List ℕ → List ℕ} {n : ℕ} {l₀ : List ℕ} {j : �
   pub turning_turn : {k : List ℕ} → j < n → k ≡ f j l → length k ≡ length l → Turning f n l₀ (j + 1) k
   turning_turn h e s =
       record {
-        within = omega arith;
         size = s ∙ t.size;
         rest = ap (in_turn f (n - (j + 1)) (j + 1)) e ∙ sym (turn_one f n j l h) ∙ t.rest;
       }

@@ -36,10 +36,8 @@ fn lead_place(f: u8, g: u8) -> usize
 fn copy_row(leads: &mut [u8], f: u8, g: u8)
     ensures { leads.new ≡ in_turn (copy_lead f g) max_routines 0 leads.old }
 {
-    let mut h: u8 = 0;
-    while h < MAX_ROUTINES as u8 {
+    for h in 0..MAX_ROUTINES as u8 {
         copy_when(true, leads, lead_place(g, h), lead_place(f, h));
-        h = h + 1;
     }
 }
 
@@ -55,25 +53,21 @@ fn lead_by_edge(leads: &mut [u8], key: u32)
     }
 }
 
-fn lead_by_edges(keys: &[u32], count: usize, leads: &mut [u8])
-    requires { count ≤ length keys.now }
-    ensures { leads.new ≡ leads_by_edges keys.now count leads.old }
+fn lead_by_edges(keys: &[u32], leads: &mut [u8])
+    ensures { leads.new ≡ leads_by_edges keys.now (length keys.now) leads.old }
 {
-    let mut i: usize = 0;
-    while i < count {
-        lead_by_edge(leads, keys[i]);
-        i = i + 1;
+    for key in keys {
+        lead_by_edge(leads, *key);
     }
 }
 
 // One pass over the edges; whether it has set a flag more.
-fn lead_further(keys: &[u32], count: usize, leads: &mut [u8]) -> bool
-    requires { count ≤ length keys.now }
-    ensures { (leads.new ≡ leads_by_edges keys.now count leads.old)
+fn lead_further(keys: &[u32], leads: &mut [u8]) -> bool
+    ensures { (leads.new ≡ leads_by_edges keys.now (length keys.now) leads.old)
         × (result ≡ ltb (count_set leads.old) (count_set leads.new)) }
 {
     let before = count_set(leads);
-    lead_by_edges(keys, count, leads);
+    lead_by_edges(keys, leads);
     let after = count_set(leads);
     before < after
 }
@@ -84,12 +78,11 @@ pub fn call_graph(p: DecodedProgram) -> Graph
     ensures { LeadFlags (Leads (program_of p)) result.leads }
 {
     let edges = p.edges;
-    let keys = edges.keys;
-    let count = in_use(edges.count, MAX_EDGES);
+    let keys = &edges.keys[..in_use(edges.count, MAX_EDGES)];
     let mut leads = [0u8; LEADS_SIZE];
     let mut more = true;
     while more {
-        more = lead_further(&keys, count, &mut leads);
+        more = lead_further(keys, &mut leads);
     }
     Graph { leads }
 }
@@ -97,12 +90,8 @@ pub fn call_graph(p: DecodedProgram) -> Graph
 fn is_together(leads: &[u8], f: u8, g: u8) -> u8
     ensures { result ≡ together_flag leads.now f g }
 {
-    let there = is_set(leads, lead_place(f, g));
-    let back = is_set(leads, lead_place(g, f));
-    if (f == g) | (there & back) {
-        return 1;
-    }
-    0
+    let together = f == g || (is_set(leads, lead_place(f, g)) && is_set(leads, lead_place(g, f)));
+    u8::from(together)
 }
 
 // The routines in one component with f.
@@ -110,10 +99,8 @@ pub fn component(leads: &[u8], f: u8) -> Routines
     ensures { Filled (together_flag leads.now f) max_routines result.flags }
 {
     let mut flags = [0u8; MAX_ROUTINES];
-    let mut g: u8 = 0;
-    while g < MAX_ROUTINES as u8 {
+    for g in 0..MAX_ROUTINES as u8 {
         flags[g as usize] = is_together(leads, f, g);
-        g = g + 1;
     }
     Routines { flags }
 }
@@ -121,11 +108,8 @@ pub fn component(leads: &[u8], f: u8) -> Routines
 fn is_counted(leads: &[u8], f: u8, g: u8) -> usize
     ensures { (result ≡ rank_flag leads.now f g) × (result ≤ 1) }
 {
-    let called = is_set(leads, lead_place(f, g));
-    if (g == f) | called {
-        return 1;
-    }
-    0
+    let counted = g == f || is_set(leads, lead_place(f, g));
+    usize::from(counted)
 }
 
 // How many routines f leads to, itself among them: fewer than any routine that calls it from outside its component.
@@ -133,10 +117,8 @@ pub fn rank(leads: &[u8], f: u8) -> usize
     ensures { result ≡ rank_of leads.now f }
 {
     let mut n: usize = 0;
-    let mut g: u8 = 0;
-    while g < MAX_ROUTINES as u8 {
-        n = n + is_counted(leads, f, g);
-        g = g + 1;
+    for g in 0..MAX_ROUTINES as u8 {
+        n += is_counted(leads, f, g);
     }
     n
 }

@@ -18,24 +18,12 @@ pub fn join(a: Routines, b: Routines) -> Routines
     ensures { Filled (joined_flag a.flags b.flags) max_routines result.flags }
 {
     let mut flags = a.flags;
-    let more = b.flags;
-    let mut f: usize = 0;
-    while f < MAX_ROUTINES {
-        if more[f] != 0 {
+    for f in 0..MAX_ROUTINES {
+        if b.flags[f] != 0 {
             flags[f] = 1;
         }
-        f = f + 1;
     }
     Routines { flags }
-}
-
-fn bit_of(x: u8) -> u32
-    ensures { (result ≡ cond (eqb x 0) 0 1) × (result ≤ 1) }
-{
-    if x == 0 {
-        return 0;
-    }
-    1
 }
 
 // Bit f for routine f.
@@ -43,10 +31,8 @@ pub fn bits_of(flags: &[u8; MAX_ROUTINES]) -> u32
     ensures { Bits (Member flags.now) result }
 {
     let mut n: u32 = 0;
-    let mut i: usize = MAX_ROUTINES;
-    while 0 < i {
-        i = i - 1;
-        n = n * 2 + bit_of(flags[i]);
+    for i in (0..MAX_ROUTINES).rev() {
+        n = n * 2 + u32::from(flags[i] != 0);
     }
     n
 }

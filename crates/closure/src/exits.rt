@@ -21,15 +21,11 @@ pub fn summaries_of(z: Sizes, marks: &[u8]) -> Summaries
     requires { Usable z × Admitted z × (length marks.now ≡ numbers z) }
     ensures { Learnt z marks.now result.words }
 {
-    let count = summary_count(z);
     let mut words = [0u64; KNOWN_WORDS];
-    let mut i: usize = 0;
-    while i < count {
-        let exit = exit_at(z, i);
-        if marks[exit] != 0 {
+    for i in 0..summary_count(z) {
+        if marks[exit_at(z, i)] != 0 {
             set_at(&mut words, i);
         }
-        i = i + 1;
     }
     Summaries { words }
 }

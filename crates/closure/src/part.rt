@@ -16,6 +16,9 @@ use reach::spans::enough_iterations;
 use words::set_at;
 use worklist::pending::follow_pending;
 
+// The node of an exit.
+const EXIT: u8 = 1;
+
 // What is pending, a bit for each configuration.
 #[derive(Clone, Copy)]
 pub struct Pending {
@@ -28,7 +31,7 @@ fn is_first(z: Sizes, mark: u8, i: usize) -> bool
     ensures { result ≡ not (eqb (node_of z i) 1) && not (eqb mark 0) }
 {
     let c = parts_of(z, i);
-    !(c.node == 1) & !(mark == 0)
+    c.node != EXIT && mark != 0
 }
 
 // The marked configurations of the numbers from low up to high are pending, but for the exits: these are known. Nothing
@@ -38,12 +41,10 @@ fn await_between(z: Sizes, marks: &[u8], low: usize, high: usize) -> Pending
     ensures { Awaited z low high marks.now result.words }
 {
     let mut words = [0u64; PENDING_WORDS];
-    let mut i = low;
-    while i < high {
+    for i in low..high {
         if is_first(z, marks[i], i) {
             set_at(&mut words, i);
         }
-        i = i + 1;
     }
     Pending { words }
 }

@@ -2,7 +2,7 @@
 use mathlib.Core.Path.{◌≡◌, refl, sym, ap, subst, ◌∙◌}
 use mathlib.Core.Logic.{◌⊎◌, ◌↔◌, ◌≢◌}
 use mathlib.Core.List.{List}
-use Prim.Native.Nat.{ℕ, ◌+◌, ◌/◌, ◌%◌, ◌≤◌, ◌<◌}
+use Prim.Native.Nat.{ℕ, ◌+◌, ◌/◌, ◌%◌, ◌<◌}
 use native.Mathlib.Omega.{arith}
 use lib.ListN.{length, get_or, replicate, length-replicate}
 use Rattle.program.specs.Sizes.{max_routines}
@@ -78,10 +78,6 @@ module _ {Z : Sizes} where
       pub from_turn : {marks' done' reanalyzed' : List ℕ} → Turning Z p p' edited leads roots before (turn_of (rank_of leads) (i % max_routines) + 1) marks' done' reanalyzed'
           → Turning Z p p' edited leads roots before (i + 1) marks' done' reanalyzed'
       from_turn {marks'} {done'} {reanalyzed'} y = subst (λ (j : ℕ). Turning Z p p' edited leads roots before (j + 1) marks' done' reanalyzed') its_turn y
-
-    -- after the last turn
-    pub turning_end : i ≤ end_turn → end_turn ≤ i → Turning Z p p' edited leads roots before end_turn marks done reanalyzed
-    turning_end a b = let e : i ≡ end_turn = omega arith in subst (λ (j : ℕ). Turning Z p p' edited leads roots before j marks done reanalyzed) e t
 
   -- ---- the turn of routine f, with its component
 

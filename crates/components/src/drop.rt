@@ -59,10 +59,11 @@ fn work_component(
     if is_reanalyzed(z, p, &members, before, marks, edited) {
         component_pass(z, p, &members, roots, marks);
         let reanalyzed = join(progress.reanalyzed, c);
-        return Progress { done, reanalyzed };
+        Progress { done, reanalyzed }
+    } else {
+        let reanalyzed = progress.reanalyzed;
+        Progress { done, reanalyzed }
     }
-    let reanalyzed = progress.reanalyzed;
-    Progress { done, reanalyzed }
 }
 
 // Turn i: that of the routine that it is the turn of by its rank, if it is not done yet.
@@ -82,15 +83,14 @@ fn visit(
         (flags_of before.now) i marks.old progress (i + 1) marks.new result }
 {
     let f = i % MAX_ROUTINES;
-    let done = progress.done;
-    let flags = done.flags;
-    if flags[f] != 0 {
+    if progress.done.flags[f] != 0 {
         return progress;
     }
-    if rank(leads, f as u8) != i / MAX_ROUTINES {
-        return progress;
+    if rank(leads, f as u8) == i / MAX_ROUTINES {
+        work_component(z, p, leads, roots, before, edited, f as u8, progress, marks)
+    } else {
+        progress
     }
-    work_component(z, p, leads, roots, before, edited, f as u8, progress, marks)
 }
 
 fn visit_all(
@@ -109,10 +109,8 @@ fn visit_all(
         (flags_of before.now) first_turn marks.old start end_turn marks.new result }
 {
     let mut progress = start;
-    let mut i: usize = FIRST_TURN;
-    while i < END_TURN {
+    for i in FIRST_TURN..END_TURN {
         progress = visit(z, p, leads, roots, before, edited, i, progress, marks);
-        i = i + 1;
     }
     progress
 }

@@ -16,17 +16,12 @@ pub fn gained(z: Sizes, old: &[u8], new: &[u8]) -> Routines
     requires { Usable z × Admitted z × (length old.now ≡ numbers z) × (length new.now ≡ numbers z) }
     ensures { FlagsOf (MarkedMore z old.now new.now) result.flags }
 {
-    let size = new.len();
     let mut flags = [0u8; MAX_ROUTINES];
-    let mut i: usize = 0;
-    while i < size {
-        let was = old[i] != 0;
-        let is = new[i] != 0;
-        if !was & is {
+    for i in 0..new.len() {
+        if old[i] == 0 && new[i] != 0 {
             let f = routine_of(z, i);
             flags[f] = 1;
         }
-        i = i + 1;
     }
     Routines { flags }
 }

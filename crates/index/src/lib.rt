@@ -23,6 +23,7 @@ pub struct Index {
 }
 
 // Edge i goes before the first of a list. Both places are the index's own: hence the `requires`.
+#[tactic(auto, unfolding(crate::specs::Linked::linked))]
 fn link(index: &mut [u16], first: usize, next: usize, i: u16)
     requires { (first < length index.old) × (next < length index.old) }
     ensures { index.new ≡ linked first next i index.old }
@@ -33,6 +34,7 @@ fn link(index: &mut [u16], first: usize, next: usize, i: u16)
 
 // Edge i leads from node n of routine f. Outside the sizes there is no node, and its place would be another's. There
 // is a place for so many edges: hence the `requires`.
+#[tactic(auto, unfolding(crate::specs::Linked::with_edge))]
 fn link_edge(index: &mut [u16], f: u8, n: u8, i: u16)
     requires { (length index.old ≡ index_size) × (i < max_edges) }
     ensures { index.new ≡ with_edge f n i index.old }
@@ -46,6 +48,7 @@ fn link_edge(index: &mut [u16], f: u8, n: u8, i: u16)
 
 // Edge i has this label. That of an action calls no routine; outside the sizes there is none, and its place would be
 // another's. There is a place for so many edges: hence the `requires`.
+#[tactic(auto, unfolding(crate::specs::Linked::with_caller))]
 fn link_caller(index: &mut [u16], label: u8, i: u16)
     requires { (length index.old ≡ index_size) × (i < max_edges) }
     ensures { index.new ≡ with_caller label i index.old }
@@ -59,6 +62,7 @@ fn link_caller(index: &mut [u16], label: u8, i: u16)
 }
 
 // Edge i has this key. There is a place for so many edges: hence the `requires`.
+#[tactic(auto, unfolding(crate::specs::Linked::with_key))]
 fn link_key(index: &mut [u16], key: u32, i: u16)
     requires { (length index.old ≡ index_size) × (i < max_edges) }
     ensures { index.new ≡ with_key (edge_of key) i index.old }

@@ -1,1 +1,2 @@
 pub mod CallsFound
+pub mod StatesAsked

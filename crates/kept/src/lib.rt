@@ -32,34 +32,17 @@ fn root_kept(z: Sizes, kept: &[u8], base: usize) -> bool
     requires { base < byte_numbers }
     ensures { result ≡ root_kept z kept.now base }
 {
-    let states = z.states;
-    let mut at = base;
-    let mut x: u8 = 0;
-    while x < states {
-        if is_set(kept, at) {
-            return true;
-        }
-        at = at + states as usize;
-        x = x + 1;
-    }
-    false
+    let states = z.states as usize;
+    (0..states).any(|x| is_set(kept, base + states * x))
 }
 
 // Whether from some state the edge's call gives root r, and its source is kept in that state.
 pub fn caller_kept(z: Sizes, next: &[u16], kept: &[u8], e: DecodedEdge, r: u8) -> bool
     ensures { result ≡ caller_kept z next.now kept.now (edge_view e) r }
 {
-    let states = z.states;
-    let mut x: u8 = 0;
-    while x < states {
-        if may_go(next, x, e.label, r)
-            && root_kept(z, kept, number_of(z, e.routine, e.source, 0, x))
-        {
-            return true;
-        }
-        x = x + 1;
-    }
-    false
+    (0..z.states).any(|x| {
+        may_go(next, x, e.label, r) && root_kept(z, kept, number_of(z, e.routine, e.source, 0, x))
+    })
 }
 
 // Whether the configuration from a number on is kept in state x, and label l may lead from x to t. The number is one of
@@ -77,15 +60,7 @@ fn exit_kept(z: Sizes, next: &[u16], kept: &[u8], exit: usize, l: u8, t: u8) -> 
     requires { exit < byte_numbers }
     ensures { result ≡ exit_kept z next.now kept.now exit l t }
 {
-    let states = z.states;
-    let mut x: u8 = 0;
-    while x < states {
-        if move_kept(next, kept, exit, x, l, t) {
-            return true;
-        }
-        x = x + 1;
-    }
-    false
+    (0..z.states).any(|x| move_kept(next, kept, exit, x, l, t))
 }
 
 // Whether from state y the call of g gives some root with which g returns to state t. A routine past the sizes has no
@@ -95,17 +70,9 @@ fn root_returns(z: Sizes, next: &[u16], kept: &[u8], y: u8, g: u8, t: u8) -> boo
     ensures { result ≡ root_returns z next.now kept.now y g t }
 {
     let roots = next_after(next, y, FIRST_CALL + g) as u64;
-    let states = z.states;
-    let mut s: u8 = 0;
-    while s < states {
-        if has_bit(s, roots)
-            && exit_kept(z, next, kept, number_of(z, g, 1, s, 0), FIRST_RETURN + g, t)
-        {
-            return true;
-        }
-        s = s + 1;
-    }
-    false
+    (0..z.states).any(|s| {
+        has_bit(s, roots) && exit_kept(z, next, kept, number_of(z, g, 1, s, 0), FIRST_RETURN + g, t)
+    })
 }
 
 // Whether for some state the caller from a number on is kept in it, and a call of g from it returns to state t. A
@@ -114,16 +81,8 @@ pub fn return_kept(z: Sizes, next: &[u16], kept: &[u8], caller: usize, g: u8, t:
     requires { caller < byte_numbers }
     ensures { result ≡ return_kept z next.now kept.now caller g t }
 {
-    if MAX_ROUTINES <= g as usize {
-        return false;
-    }
-    let states = z.states;
-    let mut y: u8 = 0;
-    while y < states {
-        if is_set(kept, caller + y as usize) && root_returns(z, next, kept, y, g, t) {
-            return true;
-        }
-        y = y + 1;
-    }
-    false
+    (g as usize) < MAX_ROUTINES
+        && (0..z.states).any(|y| {
+            is_set(kept, caller + y as usize) && root_returns(z, next, kept, y, g, t)
+        })
 }

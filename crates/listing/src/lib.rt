@@ -44,12 +44,12 @@ fn put_listed(
         (front_when (is_listed z states.now (get_or marks.now i 0) i) i [])) out.old
         out.new at result }
 {
-    let is_listed = (marks[i] != 0) & (states[state_of(z, i)] != 0);
+    let is_listed = marks[i] != 0 && states[state_of(z, i)] != 0;
     if is_listed {
-        let l = frame_line(kind, z, i);
-        return put_line(out, at, l);
+        put_line(out, at, frame_line(kind, z, i))
+    } else {
+        at
     }
-    at
 }
 
 // The lines of all marked configurations whose present state has a flag, ascending, at the output's start: one pass
@@ -61,10 +61,8 @@ pub fn put_listing(kind: u8, z: Sizes, marks: &[u8], states: &[u8], out: &mut [u
         out.new 0 result }
 {
     let mut at: usize = 0;
-    let mut i: usize = 0;
-    while i < marks.len() {
+    for i in 0..marks.len() {
         at = put_listed(kind, z, marks, states, i, out, at);
-        i = i + 1;
     }
     at
 }

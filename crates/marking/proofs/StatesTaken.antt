@@ -48,10 +48,9 @@ module _ {set x left : ℕ} (l : Leaving set x left) where
     pub found_state : left ≢ 0 → bit (x + k) set ≡ true
     found_state h = sym (left_bit k) ∙ (low.found h).0
 
-    pub leaving_next : Leaving set (x + k + 1) (left / 2 ^ k / 2)
+    pub leaving_next : Leaving set (x + (k + 1)) (left / 2 ^ k / 2)
     leaving_next =
-        let e : x + (k + 1) ≡ x + k + 1 = omega arith in
-        record { left_is = shr-shr left k 1 ∙ ap (λ (n : ℕ). n / 2 ^ (k + 1)) l.left_is ∙ shr-shr set x (k + 1) ∙ ap (λ (i : ℕ). set / 2 ^ i) e }
+        record { left_is = shr-shr left k 1 ∙ ap (λ (n : ℕ). n / 2 ^ (k + 1)) l.left_is ∙ shr-shr set x (k + 1) }
 
   -- its lowest bit says whether state x is in the set
   pub leaving_here : left % 2 ≡ 1 → bit x set ≡ true

@@ -114,6 +114,12 @@ module _ {f : ℕ → Worklist → Worklist} {n : ℕ} {m₀ w₀ : List ℕ} {l
   pub loop_end : n ≤ j → Becomes (each f n 0) m₀ w₀ m w × Lowers w₀ low₀ w low
   loop_end h = (record { becomes = λ known c. sym (each_done f n j (working m w known c) h) ∙ l.rest known c }, l.lowers)
 
+-- the numbers up to i are passed over, and the step of i is taken
+pub loop_next : {f : ℕ → Worklist → Worklist} {n : ℕ} {m₀ w₀ : List ℕ} {low₀ j : ℕ} {m w : List ℕ} {low : ℕ} {m' w' : List ℕ} {low' i x : ℕ}
+    → Looping f n m₀ w₀ low₀ j m w low → j ≤ i → i < n → Idle f j i → x ≡ i + 1 → Becomes (f i) m w m' w' → Lowers w low w' low'
+    → length m' ≡ length m → length w' ≡ length w → Looping f n m₀ w₀ low₀ x m' w' low'
+loop_next l a h t e b d p q = rw e (loop_turn (loop_skip l a (omega arith) t) h b d p q)
+
 -- nothing is left to do
 pub loop_idle : {f : ℕ → Worklist → Worklist} {n : ℕ} {m₀ w₀ : List ℕ} {low₀ j : ℕ} {m w : List ℕ} {low : ℕ} → Looping f n m₀ w₀ low₀ j m w low
     → Idle f j n → Becomes (each f n 0) m₀ w₀ m w × Lowers w₀ low₀ w low

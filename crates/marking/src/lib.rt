@@ -4,7 +4,7 @@
 // hence each `requires`.
 #![tactic(auto)]
 
-ghost use Rattle.std.specs.Prelude.{◌<◌, ◌≤◌};
+ghost use Rattle.std.specs.Prelude.{◌<◌};
 ghost use Rattle.reach.specs.Configurations.{byte_numbers};
 ghost use Rattle.reach.specs.Worklist.{mark as marked, wake as woken};
 ghost use Rattle.marking.specs.Parts.{Becomes, Lowers, each, LowestOf, mark_state, wake_at};
@@ -17,36 +17,26 @@ pub const PENDING_WORDS: usize = 256;
 // Room for a bit for each summary, at most 16 times 16 times 16 of them.
 pub const KNOWN_WORDS: usize = 64;
 
-fn lower(a: usize, b: usize) -> usize
-    ensures { (result ≤ a) × (result ≤ b) }
-{
-    if a < b {
-        return a;
-    }
-    b
-}
-
 // Marks a configuration; where it was not marked, it becomes pending.
 pub fn mark(marks: &mut [u8], pending: &mut [u64], at: usize, low: usize) -> usize
     ensures { Becomes (marked at)
         marks.old pending.old marks.new pending.new
         × Lowers pending.old low pending.new result }
 {
-    if at < marks.len() {
-        if marks[at] == 0 {
-            marks[at] = 1;
-            set_at(pending, at);
-            return lower(low, at);
-        }
+    if at < marks.len() && marks[at] == 0 {
+        marks[at] = 1;
+        set_at(pending, at);
+        low.min(at)
+    } else {
+        low
     }
-    low
 }
 
 // The lowest state of a set that is not empty.
 pub fn lowest_state(set: u64) -> usize
     ensures { LowestOf set result }
 {
-    u64::trailing_zeros(set) as usize
+    set.trailing_zeros() as usize
 }
 
 // Marks base + s for each state s of a set, the lowest of what is left of it each time. A set has no other bits, but
@@ -74,7 +64,7 @@ pub fn mark_each(
         }
         lowest = mark(marks, pending, base + (s + k), lowest);
         left = (left >> k) / 2;
-        s = s + k + 1;
+        s += k + 1;
     }
     lowest
 }
@@ -85,13 +75,12 @@ fn wake(marks: &[u8], pending: &mut [u64], at: usize, low: usize) -> usize
         marks.now pending.old marks.now pending.new
         × Lowers pending.old low pending.new result }
 {
-    if at < marks.len() {
-        if marks[at] != 0 {
-            set_at(pending, at);
-            return lower(low, at);
-        }
+    if at < marks.len() && marks[at] != 0 {
+        set_at(pending, at);
+        low.min(at)
+    } else {
+        low
     }
-    low
 }
 
 // Wakes what has the same node and state as the base, whatever its root.
@@ -101,13 +90,10 @@ pub fn wake_roots(states: u8, marks: &[u8], pending: &mut [u64], base: usize, lo
         marks.now pending.old marks.now pending.new
         × Lowers pending.old low pending.new result }
 {
+    let states = states as usize;
     let mut lowest = low;
-    let mut at = base;
-    let mut r: u8 = 0;
-    while r < states {
-        lowest = wake(marks, pending, at, lowest);
-        at = at + states as usize;
-        r = r + 1;
+    for r in 0..states {
+        lowest = wake(marks, pending, base + states * r, lowest);
     }
     lowest
 }

@@ -12,7 +12,7 @@ ghost use Rattle.reach.specs.Ranged.{Sized};
 ghost use Rattle.reach.specs.Marks.{Shows};
 ghost use Rattle.base.specs.Filled.{Filled};
 ghost use Rattle.passes.specs.Passes.{Passed};
-ghost use Rattle.passes.specs.PassParts.{Passable, first_mark, first_marks, Ready, ByMembers, Round, Turn};
+ghost use Rattle.passes.specs.PassParts.{Passable, root_mark, first_mark, first_marks, Ready, ByMembers, Round, Turn};
 
 use automaton::next::next_states;
 use automaton::sizes::NEXT_STATES_SIZE;
@@ -21,9 +21,17 @@ use closure::part::follow_part;
 use index::part::first_of;
 use program::DecodedProgram;
 use program::sizes::{MAX_EDGES, Sizes};
-use reach::configuration::{number_of, parts_of, root_place};
+use reach::configuration::{Configuration, number_of, parts_of, root_place};
 use reach::spans::routine_span;
 use tables::in_use;
+
+// 1 for the entry of a routine in one of its roots, else 0.
+fn at_root(roots: &[u8], c: Configuration) -> u8
+    ensures { result ≡ root_mark roots.now c.routine c.node c.root c.state }
+{
+    let found = c.node == 0 && c.root == c.state && is_set(roots, root_place(c.routine, c.state));
+    u8::from(found)
+}
 
 // The mark of number i at the start: of the component's routines only the entries in their roots are marked.
 fn first_mark(z: Sizes, members: &[u8], roots: &[u8], old: u8, i: usize) -> u8
@@ -31,15 +39,11 @@ fn first_mark(z: Sizes, members: &[u8], roots: &[u8], old: u8, i: usize) -> u8
     ensures { result ≡ first_mark z members.now roots.now old i }
 {
     let c = parts_of(z, i);
-    let member = is_set(members, c.routine as usize);
-    if !member {
-        return old;
+    if is_set(members, c.routine as usize) {
+        at_root(roots, c)
+    } else {
+        old
     }
-    let root = is_set(roots, root_place(c.routine, c.state));
-    if (c.node == 0) & (c.root == c.state) & root {
-        return 1;
-    }
-    0
 }
 
 fn reset(z: Sizes, members: &[u8], roots: &[u8], marks: &mut [u8])
@@ -47,12 +51,8 @@ fn reset(z: Sizes, members: &[u8], roots: &[u8], marks: &mut [u8])
     ensures { Filled (first_marks z members.now roots.now marks.old)
         (numbers z) marks.new }
 {
-    let size = marks.len();
-    let mut i: usize = 0;
-    while i < size {
-        let b = first_mark(z, members, roots, marks[i], i);
-        marks[i] = b;
-        i = i + 1;
+    for (i, mark) in marks.iter_mut().enumerate() {
+        *mark = first_mark(z, members, roots, *mark, i);
     }
 }
 
@@ -95,11 +95,8 @@ fn round(
         × Answers (program_of p).automaton (program_of p).routines next.now }
     ensures { Round z (program_of p) members.now z.routines marks.old marks.new }
 {
-    let routines = z.routines;
-    let mut f: u8 = 0;
-    while f < routines {
+    for f in 0..z.routines {
         turn(z, p, members, f, next, marks);
-        f = f + 1;
     }
 }
 

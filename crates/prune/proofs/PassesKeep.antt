@@ -1,5 +1,5 @@
 -- Passes that keep one more at a time: the loop over the numbers, and the passes until nothing is left to be kept.
-use mathlib.Core.Path.{◌≡◌, refl, sym, subst, ◌∙◌}
+use mathlib.Core.Path.{◌≡◌, refl, sym, subst, subst₂, ◌∙◌}
 use mathlib.Core.Logic.{⊎_elim}
 use mathlib.Core.Bool.{Bool, true, false, cond, ◌||◌, or-true, or-false}
 use mathlib.Core.List.{List, [], ◌∷◌}
@@ -103,6 +103,11 @@ module _ (Z : Sizes) (U : Usable Z) where
                 | no k ↦ p.none_left z.0 j l (omega arith)
               ];
         }
+
+  -- a pass between two numbers is one between their equals
+  pub pass_between : {test : List ℕ → ℕ → Bool} {old new : List ℕ} {grown : Bool} {low low' i i' : ℕ} → low ≡ low' → i ≡ i'
+      → Passed Z test old new grown low i → Passed Z test old new grown low' i'
+  pass_between {test} {old} {new} {grown} l e p = subst₂ (λ (x y : ℕ). Passed Z test old new grown x y) l e p
 
   -- ---- passes
 

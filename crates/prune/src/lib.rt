@@ -13,6 +13,7 @@ ghost use Rattle.program.specs.WellFormed.{WellFormed};
 ghost use Rattle.tables.specs.Keys.{Ascending};
 ghost use Rattle.program.specs.Decoded.{edge_keys_of, edge_of, program_of};
 ghost use Rattle.program.specs.Reading.{read_file};
+ghost use Rattle.program.specs.Refusals.{verdict_by};
 ghost use Rattle.reach.specs.Sizes.{routine_span};
 ghost use Rattle.reach.specs.Configurations.{Usable, routine_of, none_set};
 ghost use Rattle.reach.specs.Ranged.{Sized};
@@ -25,13 +26,14 @@ ghost use Rattle.support.specs.Parts.{PartOf};
 use automaton::flags::initial_flags;
 use automaton::next::next_states;
 use automaton::sizes::MAX_STATES;
-use base::flags::clear;
+use base::flags::{clear, is_set, set_flag};
 use checks::checked_program;
 use index::part::first_of;
+use program::DecodedProgram;
 use program::chosen::sizes_of;
 use program::edges::Edges;
+use program::refusal::RefusedAt;
 use program::sizes::{MAX_EDGES, Sizes};
-use program::{DecodedProgram, Length, Verdict};
 use reach::configuration::{entry_of, number_of, parts_of};
 use reach::spans::routine_span;
 use support::has_support;
@@ -39,16 +41,11 @@ use tables::in_use;
 
 // Keeps a configuration that is marked, where the flag says so.
 fn keep_when(yes: bool, marks: &[u8], kept: &mut [u8], at: usize)
-    requires { length marks.now ≡ length kept.old }
     ensures { kept.new ≡ cond (yes && is_set marks.now at) (set kept.old at 1)
         kept.old }
 {
-    if yes {
-        if at < marks.len() {
-            if marks[at] != 0 {
-                kept[at] = 1;
-            }
-        }
+    if yes && is_set(marks, at) {
+        set_flag(kept, at);
     }
 }
 
@@ -60,12 +57,9 @@ fn keep_starts(z: Sizes, initial: &[u8; MAX_STATES], marks: &[u8], kept: &mut [u
         → Sound z p marks.now kept.old
         → Started z p marks.now kept.new z.states }
 {
-    let states = z.states;
-    let mut q: u8 = 0;
-    while q < states {
+    for q in 0..z.states {
         let at = entry_of(z, 0, q);
         keep_when(initial[q as usize] != 0, marks, kept, at);
-        q = q + 1;
     }
 }
 
@@ -84,13 +78,7 @@ fn is_next(
     requires marks_len { (length marks.now ≡ numbers z) × (length kept.now ≡ numbers z) }
     ensures { result ≡ keeps_at z keys.now next.now marks.now kept.now i }
 {
-    if marks[i] == 0 {
-        return false;
-    }
-    if kept[i] != 0 {
-        return false;
-    }
-    has_support(z, keys, part, next, kept, parts_of(z, i))
+    marks[i] != 0 && kept[i] == 0 && has_support(z, keys, part, next, kept, parts_of(z, i))
 }
 
 // Keeps the configuration of number i, if it is the next to be kept. Says whether it did. `part` has the edges of its
@@ -111,9 +99,10 @@ fn keep_at(
 {
     if is_next(z, keys, part, next, marks, kept, i) {
         kept[i] = 1;
-        return true;
+        true
+    } else {
+        false
     }
-    false
 }
 
 // The numbers of routine f in turn. Says whether it kept one more. `part` has the routine's edges: hence the
@@ -132,14 +121,10 @@ fn keep_numbers(
     ensures { Passed z (keeps_at z keys.now next.now marks.now) kept.old
         kept.new result (f * routine_span z) (f * routine_span z + routine_span z) }
 {
-    let span = routine_span(z);
     let first = number_of(z, f, 0, 0, 0);
     let mut more = false;
-    let mut i = first;
-    while i < first + span {
-        let one = keep_at(z, keys, part, next, marks, kept, i);
-        more = more | one;
-        i = i + 1;
+    for i in first..first + routine_span(z) {
+        more |= keep_at(z, keys, part, next, marks, kept, i);
     }
     more
 }
@@ -166,12 +151,8 @@ fn keep_pass(z: Sizes, keys: &[u32], next: &[u16], marks: &[u8], kept: &mut [u8]
         kept.new result 0 (numbers z) }
 {
     let mut more = false;
-    let routines = z.routines;
-    let mut f: u8 = 0;
-    while f < routines {
-        let another = keep_routine(z, keys, next, marks, kept, f);
-        more = more | another;
-        f = f + 1;
+    for f in 0..z.routines {
+        more |= keep_routine(z, keys, next, marks, kept, f);
     }
     more
 }
@@ -238,23 +219,13 @@ pub fn prune_program(z: Sizes, p: DecodedProgram, marks: &mut [u8], work: &mut [
 
 // Pruning by a file's program, of any marks. A refusal leaves both buffers alone; on success the working buffer is
 // all zero.
-pub fn prune(file: &[u8], marks: &mut [u8], work: &mut [u8]) -> Verdict
-    ensures { (result ≡ checked_marks file.now marks.old work.old)
+pub fn prune(file: &[u8], marks: &mut [u8], work: &mut [u8]) -> Result<(), RefusedAt>
+    ensures { (verdict_by result ≡ checked_marks file.now marks.old work.old)
         × Pruned (checked_marks file.now marks.old work.old)
         (read_file file.now).program marks.old marks.new
         × (work.new ≡ work_after file.now marks.old work.old) }
 {
-    let marks_length = Some(marks.len());
-    let work_length = Some(work.len());
-    let r = checked_program(file, marks_length, None, work_length);
-    let v = r.verdict;
-    match v {
-        Verdict::Refused(n, line) => Verdict::Refused(n, line),
-        Verdict::Accepted => {
-            let p = r.program;
-            let z = sizes_of(p);
-            prune_program(z, p, marks, work);
-            Verdict::Accepted
-        }
-    }
+    let p = checked_program(file, Some(marks.len()), None, Some(work.len()))?;
+    prune_program(sizes_of(p), p, marks, work);
+    Ok(())
 }

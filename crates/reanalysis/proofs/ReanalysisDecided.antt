@@ -1,25 +1,26 @@
--- The loops that decide whether a component is worked anew.
-use mathlib.Core.Path.{◌≡◌, refl, subst}
+-- The searches that decide whether a component is worked anew.
+use mathlib.Core.Path.{◌≡◌, refl, ◌∙◌}
 use mathlib.Core.Logic.{◌⊎◌, inl, inr, ◌≢◌}
-use mathlib.Core.Bool.{Bool, true, false, not, ◌&&◌, ◌||◌}
+use mathlib.Core.Bool.{Bool, true, false, not}
 use mathlib.Core.List.{List}
-use Prim.Native.Nat.{ℕ, ◌+◌, ◌≤◌, ◌<◌}
+use Prim.Native.Nat.{ℕ, ◌≤◌, ◌<◌}
 use native.Mathlib.Omega.{arith}
 use native.Mathlib.Decide.{ℕ_discrete}
 use lib.Dec.{eqb}
-use lib.ListN.{get_or}
+use lib.ListN.{length, get_or, take, length-take}
+use Rattle.std.proofs.Common.{get_or-take}
 use borrow.Author.Tests.{eqb-true, eqb-false, eq-eqb, ne_eqb}
-use Rattle.base.specs.Flags.{is_set}
+use Rattle.std.specs.Bool.{MatchBool}
+use Rattle.std.specs.List.{HoldsAt, AllWithin, range_with_len}
+use Rattle.std.proofs.lemmas.List.FromFn.{length-range_with_len, get_or-range_with_len}
 use Rattle.program.specs.declared.sizes.Sizes.{Sizes}
-use Rattle.program.specs.Program.{Edge, Program, is_call, called_by}
+use Rattle.program.specs.Program.{Program, called_by}
 use Rattle.reach.specs.Configurations.{Usable, InRange, number}
 use Rattle.reach.specs.Ranged.{Ranged}
 use Rattle.reach.specs.Worklist.{summary}
 use Rattle.reach.specs.Marks.{Marked}
-use Rattle.callgraph.specs.Components.{member_of}
-use Rattle.callgraph.proofs.RoutineSets.{true_member, false_member}
 use Rattle.callgraph.proofs.CallsByKey.{edge_at, KeysOf, key_step, step_key}
-use Rattle.reanalysis.specs.Parts.{Differs, DiffersAt, DiffersWith, CallsDiffering, Says, DifferingEdge, SomeDiffering}
+use Rattle.reanalysis.specs.Parts.{Differs, DiffersAt, DiffersWith, CallsDiffering, Says, SomeDiffering}
 
 -- ---- a test that is true or false
 
@@ -29,16 +30,41 @@ said_yes x = record { if_yes = λ e. x; if_no = λ e. absurd (let z : ◌≡◌ 
 pub said_no : {X : Type 0} → (¬ X) → Says false X
 said_no n = record { if_yes = λ e. absurd (let z : ◌≡◌ {A = ℕ} 0 1 = cc in omega arith); if_no = λ e. n }
 
+pub says_by : {r : Bool} {X Y : Type 0} → (X → Y) → (Y → X) → Says r X → Says r Y
+says_by f g s = record { if_yes = λ e. f (s.if_yes e); if_no = λ e y. s.if_no e (g y) }
+
+-- ---- whether one of the numbers below n, or one of the items of a list, is such
+
+pub record SomeOf (P : ℕ → Type 0) (n : ℕ) : Type 0 where
+  pub at : ℕ
+  pub below : at < n
+  pub holds : P at
+
+-- as `any` answers it over a list
+abbrev pub AnyOf : (ℕ → Type 0) → List ℕ → Bool → Type 0
+AnyOf P xs r =
+    MatchBool r ((k : ℕ) × (k < length xs) × HoldsAt P xs k) (AllWithin (λ x. ¬ (P x)) xs 0 (length xs))
+
+pub any_item : (P : ℕ → Type 0) (xs : List ℕ) (r : Bool) → AnyOf P xs r
+    → Says r (SomeOf (λ k. P (get_or xs k 0)) (length xs))
+any_item P xs true h = said_yes (record { at = h.0; below = h.1; holds = h.2 0 })
+any_item P xs false h = said_no (λ d. h d.at 0 (omega arith) d.below d.holds)
+
+pub any_number : (P : ℕ → Type 0) (n : ℕ) (r : Bool) → AnyOf P (range_with_len 0 n) r → Says r (SomeOf P n)
+any_number P n r h =
+    let numbers = range_with_len 0 n in
+    let e : (k : ℕ) → k < n → get_or numbers k 0 ≡ k = λ k b. get_or-range_with_len 0 n k 0 b ∙ omega arith in
+    says_by
+    (λ d.
+    let b : d.at < n = rw length-range_with_len at d.below in
+    record { at = d.at; below = b; holds = rw (e d.at b) at d.holds })
+    (λ d. record { at = d.at; below = rw length-range_with_len d.below; holds = rw (e d.at d.below) d.holds })
+    (any_item P numbers r h)
+
 -- ---- flags that differ
 
 abbrev Apart : ℕ → ℕ → Type 0
 Apart b m = ((b ≢ 0) × (m ≡ 0)) ⊎ ((b ≡ 0) × (m ≢ 0))
-
-apart : (was is : Bool) → Says ((was && not is) || (not was && is)) (was ≢ is)
-apart true true = said_no (λ h. h refl)
-apart true false = said_yes (λ e. let z : ◌≡◌ {A = ℕ} 0 1 = cc in omega arith)
-apart false true = said_yes (λ e. let z : ◌≡◌ {A = ℕ} 0 1 = cc in omega arith)
-apart false false = said_no (λ h. h refl)
 
 set_apart : (b m : ℕ) → not (eqb b 0) ≢ not (eqb m 0) → Apart b m
 set_apart b m h = go (eqb b 0) refl (eqb m 0) refl h
@@ -61,13 +87,6 @@ apart_set b m (inr x) e =
     let z : ◌≡◌ {A = ℕ} 0 1 = cc in
     omega arith
 
--- as the code asks it
-pub apart_says : (Z : Sizes) (before marks : List ℕ) (g r q : ℕ) {was is : Bool} → was ≡ is_set before (summary Z g r q) → is ≡ is_set marks (number Z g 1 r q)
-    → Says ((was && not is) || (not was && is)) (DiffersAt Z before marks g r q)
-apart_says Z before marks g r q {was} {is} e f =
-    subst (λ (b : Bool). Says ((was && not is) || (not was && is)) (b ≢ is_set marks (number Z g 1 r q))) e
-    (subst (λ (b : Bool). Says ((was && not is) || (not was && is)) (was ≢ b)) f (apart was is))
-
 module _ {Z : Sizes} (U : Usable Z) (before marks : List ℕ) (g : ℕ) (hg : g < Z.routines) where
   module _ (r q : ℕ) (hr : r < Z.states) (hq : q < Z.states) where
     exit_range : InRange Z g 1 r q
@@ -86,7 +105,8 @@ module _ {Z : Sizes} (U : Usable Z) (before marks : List ℕ) (g : ℕ) (hg : g 
           ];
         }
 
-    differs_apart : ((get_or before (summary Z g r q) 0 ≢ 0) × (¬ (Marked Z marks g 1 r q))) ⊎ ((get_or before (summary Z g r q) 0 ≡ 0) × Marked Z marks g 1 r q)
+    differs_apart : ((get_or before (summary Z g r q) 0 ≢ 0) × (¬ (Marked Z marks g 1 r q)))
+        ⊎ ((get_or before (summary Z g r q) 0 ≡ 0) × Marked Z marks g 1 r q)
         → DiffersAt Z before marks g r q
     differs_apart d =
         apart_set (get_or before (summary Z g r q) 0) (get_or marks (number Z g 1 r q) 0)
@@ -98,48 +118,17 @@ module _ {Z : Sizes} (U : Usable Z) (before marks : List ℕ) (g : ℕ) (hg : g 
   pub found_differs : (r : ℕ) → r < Z.states → DiffersWith Z before marks g r → Differs Z before marks g
   found_differs r h a = apart_differs r a.state h a.small a.differs
 
-  pub none_differs : ((r : ℕ) → r < Z.states → ¬ (DiffersWith Z before marks g r)) → ¬ (Differs Z before marks g)
-  none_differs k d =
-      k d.root d.root_small
-      (record { state = d.state; small = d.state_small; differs = differs_apart d.root d.state d.root_small d.state_small d.differs })
-
--- one more is not so
-pub none_more : {P : ℕ → Type 0} (i : ℕ) → ((j : ℕ) → j < i → ¬ (P j)) → ¬ (P i) → (j : ℕ) → j < i + 1 → ¬ (P j)
-none_more {P} i k n j h x = elim (ℕ_discrete j i) [ yes e ↦ n (subst P e x) | no e ↦ k j (omega arith) x ]
-
--- ---- an edge, as the code takes it apart
-
-module _ {Z : Sizes} {members before marks : List ℕ} {e k : Edge} (same : e ≡ k) where
-  of-edge : {y : Bool} → Says y (DifferingEdge Z members before marks e) → Says y (DifferingEdge Z members before marks k)
-  of-edge {y} s = subst (λ (x : Edge). Says y (DifferingEdge Z members before marks x)) same s
-
-  pub edge_outside : member_of members e.routine ≡ false → Says false (DifferingEdge Z members before marks k)
-  edge_outside t = of-edge (said_no (λ d. false_member members e.routine t d.is_member))
-
-  pub edge_acts : is_call e.label ≡ false → Says false (DifferingEdge Z members before marks k)
-  edge_acts t = of-edge (said_no (λ d. let u = d.is-call in let z : ◌≡◌ {A = ℕ} 0 1 = cc in omega arith))
-
-  module _ {g : ℕ} (called : g ≡ called_by e.label) where
-    pub edge_past : Z.routines ≤ g → Says false (DifferingEdge Z members before marks k)
-    edge_past h = of-edge (said_no (λ d. omega (arith, d.small)))
-
-    pub edge_inside : member_of members g ≡ true → Says false (DifferingEdge Z members before marks k)
-    edge_inside t = of-edge (said_no (λ d. d.outside (rw called at (true_member members g t))))
-
-    pub edge_calls : {y : Bool} → member_of members e.routine ≡ true → is_call e.label ≡ true → g < Z.routines → member_of members g ≡ false
-        → Says y (Differs Z before marks g) → Says y (DifferingEdge Z members before marks k)
-    edge_calls t u h v s =
-        of-edge (record {
-          if_yes = λ y.
-              record {
-                is_member = true_member members e.routine t;
-                is-call = u;
-                small = rw called at h;
-                outside = rw called at (false_member members g v);
-                differing = rw called at (s.if_yes y);
-              };
-          if_no = λ y d. s.if_no y (rw called d.differing);
-        })
+  pub differs_with : Differs Z before marks g → SomeOf (λ r. DiffersWith Z before marks g r) Z.states
+  differs_with d =
+      record {
+        at = d.root;
+        below = d.root_small;
+        holds = record {
+          state = d.state;
+          small = d.state_small;
+          differs = differs_apart d.root d.state d.root_small d.state_small d.differs;
+        };
+      }
 
 -- ---- the edges that decide, by their keys
 
@@ -170,4 +159,21 @@ module _ {Z : Sizes} {p : Program} {members before marks keys : List ℕ} {count
           outside = rw z.called at c.outside;
           differing = rw z.called at c.differing;
         };
+      }
+
+-- the first keys of a list, and the list up to there
+module _ {Z : Sizes} {members before marks keys : List ℕ} {count : ℕ} (h : count ≤ length keys) where
+  pub front_differing : SomeDiffering Z members before marks (take count keys) (length (take count keys))
+      → SomeDiffering Z members before marks keys count
+  front_differing d =
+      let b : d.at < count = omega (arith, d.below, length-take count keys) in
+      record { at = d.at; below = b; differing = rw (get_or-take count keys d.at 0 b) at d.differing }
+
+  pub differing_front : SomeDiffering Z members before marks keys count
+      → SomeDiffering Z members before marks (take count keys) (length (take count keys))
+  differing_front d =
+      record {
+        at = d.at;
+        below = omega (arith, d.below, length-take count keys);
+        differing = rw (get_or-take count keys d.at 0 d.below) d.differing;
       }

@@ -2,7 +2,7 @@
 // summaries are others than before.
 #![tactic(auto)]
 
-ghost use Rattle.std.specs.Prelude.{◌<◌, ◌≤◌, ◌⊎◌, length};
+ghost use Rattle.std.specs.Prelude.{◌<◌, ◌⊎◌, length};
 ghost use Rattle.program.specs.WellFormed.{WellFormed};
 ghost use Rattle.program.specs.Decoded.{edge_of, program_of};
 ghost use Rattle.reach.specs.Configurations.{Usable};
@@ -25,22 +25,14 @@ fn summary_differs(z: Sizes, before: &[u64], marks: &[u8], g: u8, r: u8, q: u8) 
 {
     let was = has_flag(before, summary_of(z, g, r, q));
     let is = is_set(marks, number_of(z, g, 1, r, q));
-    (was & !is) | (!was & is)
+    was != is
 }
 
 // Whether one of those with this root is.
 fn root_differs(z: Sizes, before: &[u64], marks: &[u8], g: u8, r: u8) -> bool
     ensures { Says result (DiffersWith z (flags_of before.now) marks.now g r) }
 {
-    let states = z.states;
-    let mut q: u8 = 0;
-    while q < states {
-        if summary_differs(z, before, marks, g, r, q) {
-            return true;
-        }
-        q = q + 1;
-    }
-    false
+    (0..z.states).any(|q| summary_differs(z, before, marks, g, r, q))
 }
 
 // Whether the summaries of routine g on the marks are others than before.
@@ -48,15 +40,7 @@ fn summaries_differ(z: Sizes, before: &[u64], marks: &[u8], g: u8) -> bool
     requires { Usable z × (g < z.routines) }
     ensures { Says result (Differs z (flags_of before.now) marks.now g) }
 {
-    let states = z.states;
-    let mut r: u8 = 0;
-    while r < states {
-        if root_differs(z, before, marks, g, r) {
-            return true;
-        }
-        r = r + 1;
-    }
-    false
+    (0..z.states).any(|r| root_differs(z, before, marks, g, r))
 }
 
 // Whether the edge of a key is a member's and calls a routine outside whose summaries are others than before.
@@ -66,42 +50,21 @@ fn edge_differs(z: Sizes, members: &[u8], before: &[u64], marks: &[u8], key: u32
         (DifferingEdge z members.now (flags_of before.now) marks.now (edge_of key)) }
 {
     let e = edge(key);
-    if !is_set(members, e.routine as usize) {
-        return false;
-    }
-    if !is_call(e.label) {
+    if !is_set(members, e.routine as usize) || !is_call(e.label) {
         return false;
     }
     let g = called_by(e.label);
-    if z.routines <= g {
-        return false;
-    }
-    if is_set(members, g as usize) {
-        return false;
-    }
-    summaries_differ(z, before, marks, g)
+    g < z.routines && !is_set(members, g as usize) && summaries_differ(z, before, marks, g)
 }
 
-fn some_differ(
-    z: Sizes,
-    keys: &[u32],
-    count: usize,
-    members: &[u8],
-    before: &[u64],
-    marks: &[u8],
-) -> bool
-    requires { Usable z × (count ≤ length keys.now) }
+// Whether the edge of one of the keys is such.
+fn some_differ(z: Sizes, keys: &[u32], members: &[u8], before: &[u64], marks: &[u8]) -> bool
+    requires { Usable z }
     ensures { Says result (SomeDiffering z members.now (flags_of before.now) marks.now
-        keys.now count) }
+        keys.now (length keys.now)) }
 {
-    let mut i: usize = 0;
-    while i < count {
-        if edge_differs(z, members, before, marks, keys[i]) {
-            return true;
-        }
-        i = i + 1;
-    }
-    false
+    keys.iter()
+        .any(|key| edge_differs(z, members, before, marks, *key))
 }
 
 // Whether a member calls a routine outside whose summaries are others than before. The edges are those of a well-formed
@@ -111,10 +74,8 @@ fn calls_differ(z: Sizes, p: DecodedProgram, members: &[u8], before: &[u64], mar
     ensures { Says result
         (CallsDiffering z (program_of p) members.now (flags_of before.now) marks.now) }
 {
-    let edges = p.edges;
-    let keys = edges.keys;
-    let count = in_use(edges.count, MAX_EDGES);
-    some_differ(z, &keys, count, members, before, marks)
+    let count = in_use(p.edges.count, MAX_EDGES);
+    some_differ(z, &p.edges.keys[..count], members, before, marks)
 }
 
 // The component holds the changed routine, or calls one outside it whose summaries have changed. The reader accepts
@@ -131,8 +92,5 @@ pub fn is_reanalyzed(
     ensures { Says result (Member members.now edited
         ⊎ CallsDiffering z (program_of p) members.now (flags_of before.now) marks.now) }
 {
-    if is_set(members, edited as usize) {
-        return true;
-    }
-    calls_differ(z, p, members, before, marks)
+    is_set(members, edited as usize) || calls_differ(z, p, members, before, marks)
 }

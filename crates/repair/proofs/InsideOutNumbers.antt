@@ -10,12 +10,9 @@ use lib.ListN.{get_or}
 use borrow.Author.Tests.{ne_eqb}
 use Rattle.program.specs.Program.{Program}
 use Rattle.program.specs.Reading.{read_file}
-use Rattle.program.specs.Decoded.{program_of}
 use Rattle.program.specs.Verdicts as verdict
-use Rattle.program.specs.Checks.{Length}
+use Rattle.program.specs.Checks.{Length, checked}
 use Rattle.program.proofs.ChecksPassed.{few_checks}
-use Rattle.checks.specs.Checked.{Checked}
-use Rattle.program.specs.declared.Reading.{Reading}
 use Rattle.analysis.specs.Answers.{owned}
 use Rattle.analysis.proofs.AnswersByChecks.{refused_foreign}
 use Rattle.callgraph.specs.Components.{Bits}
@@ -55,13 +52,13 @@ module _ (p : Program) (marks : List ℕ) where
   pub number_foreign : (c : Change) {n at : ℕ} → owned p marks ≡ verdict.Refused n at → InsideOutNumber (eqb n 0) (Read c) p 0
   number_foreign c {n} h = number_refused n (Read c) p (omega (arith, refused_foreign p marks h))
 
-module _ (k : Form) (file text : List ℕ) {marks output work : Length} {r : Reading} (x : Checked file marks output work r) where
-  pub number_unchecked : {n at : ℕ} → r.verdict ≡ verdict.Refused n at
+module _ (k : Form) (file text : List ℕ) where
+  pub number_unchecked : (marks output work : Length) {n at : ℕ} → verdict.Refused n at ≡ checked file marks output work
       → InsideOutNumber (eqb n 0) (wanted_change k (read_file file).program text) (read_file file).program 0
-  number_unchecked {n} h =
+  number_unchecked marks output work {n} h =
       number_refused n (wanted_change k (read_file file).program text) (read_file file).program
-      (few_checks file marks output work (sym x.verdict ∙ h)).0
+      (few_checks file marks output work (sym h)).0
 
-  pub number_checked : (t : Bool) (n : ℕ) → InsideOutNumber t (wanted_change k (program_of r.program) text) (program_of r.program) n
+  pub number_checked : {p : Program} → p ≡ (read_file file).program → (t : Bool) (n : ℕ) → InsideOutNumber t (wanted_change k p text) p n
       → InsideOutNumber t (wanted_change k (read_file file).program text) (read_file file).program n
-  number_checked t n y = subst (λ (p : Program). InsideOutNumber t (wanted_change k p text) p n) x.program y
+  number_checked e t n y = subst (λ (p : Program). InsideOutNumber t (wanted_change k p text) p n) e y

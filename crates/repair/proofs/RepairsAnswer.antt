@@ -10,14 +10,12 @@ use Rattle.program.specs.Chosen.{sizes_of, numbers}
 use Rattle.program.specs.Program.{Program}
 use Rattle.program.specs.WellFormed.{WellFormed}
 use Rattle.program.specs.Writing.{written}
-use Rattle.program.specs.Decoded.{program_of}
-use Rattle.program.specs.Checks.{first_met}
+use Rattle.program.specs.Checks.{first_met, checked}
 use Rattle.program.specs.Verdicts.{Verdict}
 use Rattle.program.specs.Verdicts as verdict
 use Rattle.std.specs.Prelude.{Some}
 use Rattle.program.proofs.Theorems.{written_limited}
-use Rattle.checks.specs.Checked.{Checked}
-use Rattle.program.specs.declared.Reading.{Reading}
+use Rattle.program.specs.Reading.{read_file}
 use Rattle.reach.specs.Configurations.{none_set}
 use Rattle.analysis.specs.Answers.{owned}
 use Rattle.writer.specs.WriteAnswers.{Written, Refused}
@@ -75,11 +73,11 @@ module _ (e : Edit) (p : Program) (output : List ℕ) where
 
 -- ---- the checks before
 
-module _ (k : Form) (file marks text output work second : List ℕ) {r : Reading} where
-  pub checked_answer : Checked file (Some (length marks)) (Some (length output)) (work_first k (length work)) r
-      → {v : Verdict} → r.verdict ≡ v → repaired_by k v (program_of r.program) marks text output work second ≡ repaired k file marks text output work second
+module _ (k : Form) (file marks text output work second : List ℕ) where
+  pub checked_answer : {v : Verdict} {p : Program} → v ≡ checked file (Some (length marks)) (Some (length output)) (work_first k (length work))
+      → p ≡ (read_file file).program → repaired_by k v p marks text output work second ≡ repaired k file marks text output work second
   unfolding repaired
-  checked_answer x h = rw (← x.verdict, h, x.program) refl
+  checked_answer x e = rw (x, e) refl
 
 -- ---- the line
 

@@ -21,9 +21,10 @@ fn resized_byte(z: Sizes, y: Sizes, old: &[u8], i: usize) -> u8
     let c = parts_of(y, i);
     if c.node < z.nodes {
         let at = number_of(z, c.routine, c.node, c.root, c.state);
-        return old[at];
+        old[at]
+    } else {
+        0
     }
-    0
 }
 
 // Each mark is written at its number in sizes y; what `new` held is gone.
@@ -32,11 +33,7 @@ pub fn resize(z: Sizes, y: Sizes, old: &[u8], new: &mut [u8])
     requires len { (length old.now ≡ numbers z) × (length new.old ≡ numbers y) }
     ensures { Filled (renumbered z y old.now) (numbers y) new.new }
 {
-    let size = new.len();
-    let mut i: usize = 0;
-    while i < size {
-        let b = resized_byte(z, y, old, i);
-        new[i] = b;
-        i = i + 1;
+    for (i, mark) in new.iter_mut().enumerate() {
+        *mark = resized_byte(z, y, old, i);
     }
 }

@@ -6,6 +6,7 @@ use mathlib.Core.Bool.{Bool, true, false, cond, ◌&&◌, not}
 use mathlib.Core.List.{List, Memᴰ}
 use native.Mathlib.Omega.{arith}
 use lib.Dec.{eqb, ltb}
+use mir.Val.{bool_byte}
 use lib.ListN.{length, get_or, take, replicate, length-replicate}
 use lib.Seq.{get_or-take, length-take-le}
 use borrow.Author.Tests.{ne_eqb, leb-true, ltb-true, lt-ltb}
@@ -82,9 +83,14 @@ started d k w room z =
       start = z;
     }
 
+-- a test, as a byte
+byte_of : (t : Bool) → bool_byte t ≡ cond t 1 0
+byte_of true = refl
+byte_of false = refl
+
 -- a byte of the cut, by the mark and the flag as they were
-pub kept_byte : {a b : ℕ} {x y : Bool} → a ≡ b → x ≡ y → ◌≡◌ {A = ℕ} (cond (not (eqb a 0) && x) 1 0) (cond (not (eqb b 0) && y) 1 0)
-kept_byte s t = rw (s, t)
+pub kept_byte : {a b : ℕ} {t x y : Bool} → t ≡ (not (eqb a 0) && x) → a ≡ b → x ≡ y → bool_byte t ≡ cond (not (eqb b 0) && y) 1 0
+kept_byte {b = b} {y = y} u m l = rw (u, m, l) (byte_of (not (eqb b 0) && y))
 
 one_true : (b : Bool) → ◌≡◌ {A = ℕ} (cond b 1 0) 1 → b ≡ true
 one_true true x = refl

@@ -1,5 +1,5 @@
 // The marks are cut to the roots that occur.
-ghost use Rattle.std.specs.Prelude.{◌≡◌, cond, ◌&&◌, length};
+ghost use Rattle.std.specs.Prelude.{◌≡◌, length};
 ghost use Rattle.program.specs.Chosen.{numbers};
 ghost use Rattle.reach.specs.Configurations.{Usable};
 ghost use Rattle.reach.specs.Ranged.{Sized};
@@ -16,27 +16,15 @@ use program::DecodedProgram;
 use program::sizes::Sizes;
 use reach::configuration::{parts_of, root_place};
 
-fn both_set(a: bool, b: bool) -> u8
-    ensures { result ≡ cond (a && b) 1 0 }
-{
-    if a & b {
-        return 1;
-    }
-    0
-}
-
 // Every mark becomes 1 if it is set and its root occurs, else 0.
 fn cut(z: Sizes, live: &[u8], marks: &mut [u8])
     requires { Usable z × (length marks.old ≡ numbers z) }
     ensures { Filled (kept_byte_of z live.now marks.old) (numbers z) marks.new }
 {
-    let size = marks.len();
-    let mut i: usize = 0;
-    while i < size {
+    for (i, mark) in marks.iter_mut().enumerate() {
         let c = parts_of(z, i);
         let occurs = is_set(live, root_place(c.routine, c.root));
-        marks[i] = both_set(marks[i] != 0, occurs);
-        i = i + 1;
+        *mark = u8::from(*mark != 0 && occurs);
     }
 }
 

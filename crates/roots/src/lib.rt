@@ -27,13 +27,11 @@ fn entry_byte(z: Sizes, marks: &[u8], f: u8, r: u8) -> u8
     requires { Usable z × (length marks.now ≡ numbers z) }
     ensures { result ≡ entry_byte z marks.now f r }
 {
-    if f < z.routines {
-        if r < z.states {
-            let at = entry_of(z, f, r);
-            return marks[at];
-        }
+    if f < z.routines && r < z.states {
+        marks[entry_of(z, f, r)]
+    } else {
+        0
     }
-    0
 }
 
 // The marked entries (f, 0, r, r). The caller has measured the marks (refusal 9): hence the `requires`.
@@ -42,10 +40,8 @@ pub fn old_roots(z: Sizes, marks: &[u8]) -> Roots
     ensures { RootFlags (λ f. λ x. Marked z marks.now f 0 x x) result.flags }
 {
     let mut flags = [0u8; ROOTS_SIZE];
-    let mut i: usize = 0;
-    while i < ROOTS_SIZE {
-        flags[i] = entry_byte(z, marks, (i / MAX_STATES) as u8, (i % MAX_STATES) as u8);
-        i = i + 1;
+    for (i, flag) in flags.iter_mut().enumerate() {
+        *flag = entry_byte(z, marks, (i / MAX_STATES) as u8, (i % MAX_STATES) as u8);
     }
     Roots { flags }
 }

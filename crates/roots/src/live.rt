@@ -1,5 +1,5 @@
 // The roots that occur: passes over the edges until nothing more is set.
-ghost use Rattle.std.specs.Prelude.{◌≡◌, true, min, ◌≤◌, ◌<◌, ltb, length};
+ghost use Rattle.std.specs.Prelude.{◌≡◌, true, min, ltb, length};
 ghost use Rattle.automaton.specs.Sizes.{max_states};
 ghost use Rattle.program.specs.Program.{is_call};
 ghost use Rattle.program.specs.WellFormed.{WellFormed};
@@ -30,12 +30,8 @@ fn roots_of_main(initial: States, live: &mut [u8])
     ensures { (length initial.list ≡ max_states)
         × (live.new ≡ roots_of_main initial.list (min initial.count max_states) live.old) }
 {
-    let list = initial.list;
-    let count = in_use(initial.count, MAX_STATES);
-    let mut i: usize = 0;
-    while i < count {
-        set_flag(live, root_place(0, list[i]));
-        i = i + 1;
+    for q in &initial.list[..in_use(initial.count, MAX_STATES)] {
+        set_flag(live, root_place(0, *q));
     }
 }
 
@@ -48,11 +44,9 @@ fn roots_after_call(next: &[u16], from: usize, q: u8, label: u8, live: &mut [u8]
 {
     let g = called_by(label);
     let set = next_after(next, q, label) as u64;
-    let mut s: u8 = 0;
-    while s < MAX_STATES as u8 {
+    for s in 0..MAX_STATES as u8 {
         let to = root_place(g, s);
         copy_when(has_bit(s, set), live, from, to);
-        s = s + 1;
     }
 }
 
@@ -82,11 +76,8 @@ fn roots_by_root(z: Sizes, marks: &[u8], next: &[u16], e: DecodedEdge, r: u8, li
     ensures { live.new
         ≡ roots_by_root z marks.now next.now (edge_view e) r live.old }
 {
-    let states = z.states;
-    let mut q: u8 = 0;
-    while q < states {
+    for q in 0..z.states {
         roots_when_marked(z, marks, next, e, r, q, live);
-        q = q + 1;
     }
 }
 
@@ -96,11 +87,8 @@ fn roots_by_call(z: Sizes, marks: &[u8], next: &[u16], e: DecodedEdge, live: &mu
     ensures { live.new
         ≡ roots_by_call z marks.now next.now (edge_view e) live.old }
 {
-    let states = z.states;
-    let mut r: u8 = 0;
-    while r < states {
+    for r in 0..z.states {
         roots_by_root(z, marks, next, e, r, live);
-        r = r + 1;
     }
 }
 
@@ -114,34 +102,23 @@ fn roots_by_edge(z: Sizes, marks: &[u8], next: &[u16], key: u32, live: &mut [u8]
     }
 }
 
-fn roots_by_edges(z: Sizes, marks: &[u8], next: &[u16], keys: &[u32], count: usize, live: &mut [u8])
-    requires { count ≤ length keys.now }
+fn roots_by_edges(z: Sizes, marks: &[u8], next: &[u16], keys: &[u32], live: &mut [u8])
     ensures { live.new ≡ roots_by_edges z marks.now next.now
-        keys.now count live.old }
+        keys.now (length keys.now) live.old }
 {
-    let mut i: usize = 0;
-    while i < count {
-        roots_by_edge(z, marks, next, keys[i], live);
-        i = i + 1;
+    for key in keys {
+        roots_by_edge(z, marks, next, *key, live);
     }
 }
 
 // One pass over the edges; whether it has set a flag more.
-fn roots_further(
-    z: Sizes,
-    marks: &[u8],
-    next: &[u16],
-    keys: &[u32],
-    count: usize,
-    live: &mut [u8],
-) -> bool
-    requires { count ≤ length keys.now }
+fn roots_further(z: Sizes, marks: &[u8], next: &[u16], keys: &[u32], live: &mut [u8]) -> bool
     ensures { (live.new ≡ roots_by_edges z marks.now next.now
-        keys.now count live.old)
+        keys.now (length keys.now) live.old)
         × (result ≡ ltb (count_set live.old) (count_set live.new)) }
 {
     let before = count_set(live);
-    roots_by_edges(z, marks, next, keys, count, live);
+    roots_by_edges(z, marks, next, keys, live);
     let after = count_set(live);
     before < after
 }
@@ -152,8 +129,7 @@ pub fn live_roots(z: Sizes, p: DecodedProgram, marks: &[u8]) -> Roots
     ensures { RootFlags (Live (program_of p) (Marked z marks.now)) result.flags }
 {
     let edges = p.edges;
-    let keys = edges.keys;
-    let count = in_use(edges.count, MAX_EDGES);
+    let keys = &edges.keys[..in_use(edges.count, MAX_EDGES)];
     let automaton = p.automaton;
     let initial = automaton.initial;
     let table = next_states(automaton, p.routines);
@@ -162,7 +138,7 @@ pub fn live_roots(z: Sizes, p: DecodedProgram, marks: &[u8]) -> Roots
     roots_of_main(initial, &mut flags);
     let mut more = true;
     while more {
-        more = roots_further(z, marks, &next, &keys, count, &mut flags);
+        more = roots_further(z, marks, &next, keys, &mut flags);
     }
     Roots { flags }
 }

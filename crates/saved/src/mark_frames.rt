@@ -38,10 +38,10 @@ fn has_frame(s: &[u8], at: usize, i: usize) -> bool
 {
     let l = frame_line(SAVED_KIND, old_sizes(), i);
     if s.len() - at < LINE_SIZE {
-        return false;
+        false
+    } else {
+        is_line(&s[at..at + LINE_SIZE], l)
     }
-    let end = at + LINE_SIZE;
-    is_line(&s[at..end], l)
 }
 
 // Is a text the one of these old marks? It is walked beside them. They have a flag for each number: hence the
@@ -51,15 +51,13 @@ pub fn is_text_of(s: &[u8], marks: &[u8]) -> bool
     ensures { result ≡ same s.now (text_of marks.now) }
 {
     let mut at: usize = 0;
-    let mut i: usize = 0;
-    while i < marks.len() {
-        if marks[i] != 0 {
+    for (i, mark) in marks.iter().enumerate() {
+        if *mark != 0 {
             if !has_frame(s, at, i) {
                 return false;
             }
-            at = at + LINE_SIZE;
+            at += LINE_SIZE;
         }
-        i = i + 1;
     }
     is_line(&s[at..], end_line(count_set(marks)))
 }

@@ -52,7 +52,7 @@ fn follow_summaries(
         let results = next_after(next, x, FIRST_RETURN + g);
         lowest = mark_each(z.states, results, marks, pending, base, lowest);
         left = (left >> k) / 2;
-        s = s + k + 1;
+        s += k + 1;
     }
     lowest
 }
@@ -96,19 +96,16 @@ fn follow_call(
         marks.old pending.old marks.new pending.new
         × Lowers pending.old low pending.new result }
 {
-    let states = z.states;
     let mut lowest = low;
     let mut left = next_after(next, q, FIRST_CALL + g);
-    let mut y: u8 = 0;
-    while y < states {
+    for y in 0..z.states {
         if left == 0 {
             return lowest;
         }
         if left % 2 == 1 {
             lowest = follow_entry(z, next, known, marks, pending, base, g, y, lowest);
         }
-        left = left / 2;
-        y = y + 1;
+        left /= 2;
     }
     lowest
 }
@@ -132,12 +129,14 @@ fn follow_label(
     if is_call(label) {
         let g = called_by(label);
         if g < MAX_ROUTINES as u8 {
-            return follow_call(z, next, known, marks, pending, base, g, q, low);
+            follow_call(z, next, known, marks, pending, base, g, q, low)
+        } else {
+            low
         }
-        return low;
+    } else {
+        let results = next_after(next, q, label);
+        mark_each(z.states, results, marks, pending, base, low)
     }
-    let results = next_after(next, q, label);
-    mark_each(z.states, results, marks, pending, base, low)
 }
 
 // Every edge from the node of a configuration, as the index has them. The index is that of the keys, and has this

@@ -1,21 +1,20 @@
 -- Whether one key of a list meets a test.
-use mathlib.Core.Path.{◌≡◌, refl, ap}
-use mathlib.Core.Bool.{Bool, true, or-true}
+use mathlib.Core.Path.{◌≡◌, refl, sym, ap}
+use mathlib.Core.Bool.{Bool, true, false, or-true}
 use mathlib.Core.List.{List, [], ◌∷◌, map, Memᴰ}
-use Prim.Native.Nat.{ℕ}
-use lib.ListN.{length, take}
-use lib.Seq.{take-length}
-use Rattle.base.proofs.EntriesInUse.{Asks}
+use Prim.Native.Nat.{ℕ, ◌<◌}
+use lib.ListN.{length, get_or}
+use Rattle.std.proofs.lemmas.List.Recursion.{or_at, or_from_places}
 use Rattle.base.proofs.Bools.{either, never}
 use Rattle.support.specs.Parts.{any_key}
 
-pub asks_key : (t : ℕ → Bool) → Asks (any_key t) t
+pub key_met : (t : ℕ → Bool) (ks : List ℕ) (i : ℕ) → i < length ks → t (get_or ks i 0) ≡ true → true ≡ any_key t ks
 unfolding any_key
-asks_key t = record { empty = refl; first = λ x xs. refl }
+key_met t ks i h e = sym (or_at (any_key t) t refl (λ _ _. refl) ks i 0 h e)
 
--- all keys of a list are in use
-pub all_keys : (t : ℕ → Bool) (ks : List ℕ) {b : Bool} → b ≡ any_key t (take (length ks) ks) → b ≡ any_key t ks
-all_keys t ks e = rw (take-length ks) at e
+pub none_met : (t : ℕ → Bool) (ks : List ℕ) → ((i : ℕ) → i < length ks → t (get_or ks i 0) ≡ false) → false ≡ any_key t ks
+unfolding any_key
+none_met t ks none = sym (or_from_places (any_key t) t refl (λ _ _. refl) ks 0 none)
 
 pub record FoundKey (t : ℕ → Bool) (ks : List ℕ) : Type 0 where
   pub key : ℕ

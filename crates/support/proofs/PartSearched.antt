@@ -19,13 +19,9 @@ use Rattle.index.proofs.RoutinePart.{part_starts, before_part, after_part}
 use Rattle.base.specs.Searches.{any_from}
 use Rattle.support.specs.Parts.{any_key, entry_supports, return_supports, call_supports, states_to_try, action_supports, edge_supports, supports, PartOf}
 use Rattle.program.specs.declared.sizes.Sizes.{Sizes}
+use Rattle.support.proofs.KeysAsked.{none_met}
 
 -- ---- the part of a list outside which a test fails
-
-none_met : (t : ℕ → Bool) (ks : List ℕ) → ((j : ℕ) → j < length ks → t (get_or ks j 0) ≡ false) → false ≡ any_key t ks
-unfolding any_key
-none_met t [] none = refl
-none_met t (k ∷ ks) none = rw (none 0 (omega arith)) (none_met t ks (λ j h. none (suc j) (omega arith)))
 
 met_in_part : (t : ℕ → Bool) (ks : List ℕ) (a b : ℕ) → a ≤ b → b ≤ length ks → ((j : ℕ) → j < a → t (get_or ks j 0) ≡ false)
     → ((j : ℕ) → b ≤ j → j < length ks → t (get_or ks j 0) ≡ false) → any_key t (take (b - a) (drop a ks)) ≡ any_key t ks

@@ -19,7 +19,7 @@ fn is_violation(z: Sizes, marks: &[u8], rejecting: &[u8], i: usize) -> bool
     ensures { (p : Program) → Rejects p.automaton rejecting.now
         → result ≡ violates z p (get_or marks.now i 0) i }
 {
-    (marks[i] != 0) & (rejecting[state_of(z, i)] != 0)
+    marks[i] != 0 && rejecting[state_of(z, i)] != 0
 }
 
 // The caller has measured the marks (refusal 9), and the flags have the size of `StateFlags`: hence the `requires`.
@@ -28,15 +28,9 @@ pub fn count_violations(z: Sizes, marks: &[u8], rejecting: &[u8]) -> usize
     ensures { (p : Program) → Rejects p.automaton rejecting.now
         → result ≡ length (violations_from z p marks.now 0) }
 {
-    let mut n: usize = 0;
-    let mut i: usize = 0;
-    while i < marks.len() {
-        if is_violation(z, marks, rejecting, i) {
-            n = n + 1;
-        }
-        i = i + 1;
-    }
-    n
+    (0..marks.len())
+        .filter(|i| is_violation(z, marks, rejecting, *i))
+        .count()
 }
 
 // The first violation that is not below `from`; a number past the marks where there is none. The caller has measured
@@ -46,12 +40,7 @@ pub fn first_violation(z: Sizes, marks: &[u8], rejecting: &[u8], from: usize) ->
     ensures { (p : Program) → Rejects p.automaton rejecting.now
         → first_from from (violations_from z p marks.now 0) ≡ within (numbers z) result }
 {
-    let mut i = from;
-    while i < marks.len() {
-        if is_violation(z, marks, rejecting, i) {
-            return i;
-        }
-        i = i + 1;
-    }
-    i
+    (from..marks.len())
+        .find(|i| is_violation(z, marks, rejecting, *i))
+        .unwrap_or(marks.len())
 }

@@ -4,14 +4,14 @@ use mathlib.Core.Path.{◌≡◌, refl, sym, ap, subst, ◌∙◌}
 use mathlib.Core.List.{List, ◌∷◌}
 use native.Mathlib.Omega.{arith}
 use lib.ListN.{length, get_or, take, drop, replicate, length-replicate}
-use lib.Seq.{drop-cons}
+use lib.Seq.{drop-cons, take_all}
 use Rattle.program.specs.Program.{Program}
 use Rattle.reach.specs.Configurations.{number, none_set}
 use Rattle.reach.specs.Worklist.{Worklist, Shape, lowest, mark, work, opened, blank}
 use Rattle.reach.proofs.ShapeKept.{opened_shape}
 use Rattle.words.specs.Words.{flags_of, NoneBelow}
 use Rattle.words.proofs.FlagsAsked.{no_flags}
-use Rattle.marking.specs.Parts.{pending_words, known_words, worklist, Becomes, each}
+use Rattle.marking.specs.Parts.{pending_words, known_words, working, worklist, Becomes, each}
 use Rattle.worklist.specs.Parts.{followed, analysis_within}
 use Rattle.program.specs.declared.sizes.Sizes.{Sizes}
 use Rattle.program.specs.Chosen.{numbers, Admitted}
@@ -35,9 +35,12 @@ module _ (Z : Sizes) where
   opened_is list zero x h s = refl
   opened_is list (suc k) x h s = rw (drop-cons list x 0 (omega arith)) (opened_is list k (suc x) (omega arith) _)
 
-  pub all_opened : (list : List ℕ) (n : ℕ) → n ≤ length list → {m w m' w' : List ℕ}
-      → Becomes (each (λ i. mark (number Z 0 0 (get_or list i 0) (get_or list i 0))) n 0) m w m' w' → Becomes (opened Z (take n list)) m w m' w'
-  all_opened list n h b = record { becomes = λ k c. b.becomes k c ∙ opened_is list n 0 (omega arith) _ }
+  pub all_opened : (list : List ℕ) {m w m' w' : List ℕ}
+      → Becomes (each (λ i. mark (number Z 0 0 (get_or list i 0) (get_or list i 0))) (length list) 0) m w m' w'
+      → Becomes (opened Z list) m w m' w'
+  all_opened list {m} {w} b =
+      let all : take (length list) list ≡ list = take_all (length list) list (omega arith) in
+      record { becomes = λ k c. b.becomes k c ∙ rw all at (opened_is list (length list) 0 (omega arith) (working m w k c)) }
 
   -- nothing is pending in words that are 0, and no summary is known
   module _ (U : Usable Z) (A : Admitted Z) where

@@ -3,12 +3,9 @@ use Prim.Native.Nat.{ℕ, ◌+◌, ◌*◌, ◌≤◌, ◌<◌}
 use native.Mathlib.Omega.{arith}
 use mathlib.Core.Path.{◌≡◌, refl, sym, subst, ◌∙◌}
 use mathlib.Core.Logic.{◌⊎◌, inl, inr}
-use mathlib.Core.Bool.{Bool, true, false, ◌&&◌}
 use mathlib.Core.List.{List}
 use lib.ListN.{length, take}
-use lib.Dec.{ltb}
-use borrow.Author.Tests.{lt-ltb, le-ltb, ltb-true, ltb-false}
-use Rattle.base.proofs.Bools.{both}
+use borrow.Author.Tests.{lt-ltb, le-ltb}
 use Rattle.program.specs.Program.{Program}
 use Rattle.reach.specs.Worklist.{lowest, take_one}
 use Rattle.reach.specs.Marks.{within}
@@ -21,18 +18,6 @@ use Rattle.worklist.specs.Parts.{followed, Begun}
 use Rattle.worklist.proofs.LowestFound.{first_lowest}
 use Rattle.program.specs.declared.sizes.Sizes.{Sizes}
 use Rattle.reach.specs.Configurations.{Usable}
-
--- ---- the loop's test
-
-pub goes_on : (at size n limit : ℕ) → ltb at size && ltb n limit ≡ true → (at < size) × (n < limit)
-goes_on at size n limit h = let b = both (ltb at size) (ltb n limit) h in (ltb-true at size b.0, ltb-true n limit b.1)
-
-pub stops : (at size n limit : ℕ) → ltb at size && ltb n limit ≡ false → (size ≤ at) ⊎ (limit ≤ n)
-stops at size n limit h = go (ltb at size) refl h
-  where
-    go : (t : Bool) → ltb at size ≡ t → t && ltb n limit ≡ false → (size ≤ at) ⊎ (limit ≤ n)
-    go true e h = inr (ltb-false n limit h)
-    go false e h = inl (ltb-false at size e)
 
 module _ (Z : Sizes) (U : Usable Z) where
   -- ---- its turns

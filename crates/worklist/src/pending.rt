@@ -45,9 +45,9 @@ pub fn follow_pending(
     let size = marks.len();
     let mut iterations: usize = 0;
     let mut at = first_set(pending, from);
-    while (at < size) & (iterations < limit) {
+    while at < size && iterations < limit {
         let low = take(z, by, keys, index, next, marks, pending, known, at);
-        iterations = iterations + 1;
+        iterations += 1;
         at = first_set(pending, low);
     }
     iterations

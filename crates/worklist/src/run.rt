@@ -29,14 +29,10 @@ fn open_initial(z: Sizes, initial: States, marks: &mut [u8], pending: &mut [u64]
     ensures { Becomes (opened z (states_of initial))
         marks.old pending.old marks.new pending.new }
 {
-    let list = initial.list;
     let count = in_use(initial.count, MAX_STATES);
     let mut low: usize = 0;
-    let mut i: usize = 0;
-    while i < count {
-        let q = list[i];
-        low = mark(marks, pending, entry_of(z, 0, q), low);
-        i = i + 1;
+    for q in &initial.list[..count] {
+        low = mark(marks, pending, entry_of(z, 0, *q), low);
     }
 }
 

@@ -2,13 +2,13 @@
 use mathlib.Core.Path.{◌≡◌, refl, sym, ap, ◌∙◌}
 use mathlib.Core.Bool.{Bool, true, false, cond}
 use mathlib.Core.List.{List, [], ◌∷◌, ◌++◌, map, map-map, append-nil}
-use Prim.Native.Nat.{ℕ, zero, suc, min, ◌+◌, ◌*◌, ◌%◌, ◌<◌, ◌≤◌}
+use Prim.Native.Nat.{ℕ, zero, suc, ◌+◌, ◌*◌, ◌%◌, ◌<◌, ◌≤◌}
 use native.Mathlib.Nat.{zero-add, add-zero}
 use native.Mathlib.Numerals.{add-one}
 use native.Mathlib.Omega.{arith}
 use lib.Dec.{eqb}
-use lib.ListN.{length, take, drop, get_or, length-append, length-map, length-take, take-append-drop, get_or-map}
-use lib.Seq.{sets, length-sets, sets-eq, take-suc, take_all, get_or-take}
+use lib.ListN.{length, take, drop, get_or, length-append, length-map, take-append-drop, get_or-map}
+use lib.Seq.{sets, length-sets, sets-eq, take-suc, take_all}
 use borrow.Author.Tests.{ltb-true, lt-ltb}
 use Rattle.text.specs.Hex.{hex_line}
 use Rattle.text.specs.Lines.{pad, max_numbers, line_of}
@@ -114,31 +114,21 @@ pub record Section (F : ℕ → ℕ → List ℕ) (xs : List ℕ) (n : ℕ) (fs 
   pub frame : (i : ℕ) → i < n → get_or fs i (F i 0) ≡ F i (get_or xs i 0)
   pub short : (i x : ℕ) → length (F i x) ≤ max_numbers
 
-module _ (xs : List ℕ) (count n : ℕ) (e : n ≡ min count (length xs)) where
-  long_take : length (take count xs) ≡ n
-  long_take = length-take count xs ∙ sym e
-
+module _ (xs : List ℕ) where
   -- a frame for each entry
-  pub mapped : (F : ℕ → List ℕ) → ((x : ℕ) → length (F x) ≤ max_numbers) → Section (λ i x. F x) xs n (map F (take count xs))
-  mapped F short = record {
-    long = length-map (take count xs) F ∙ long_take;
-    frame = λ i h. get_or-map F (take count xs) i 0 ∙ rw (get_or-take count xs i 0 (omega arith));
-    short = λ i x. short x;
-  }
+  pub mapped : (F : ℕ → List ℕ) → ((x : ℕ) → length (F x) ≤ max_numbers) → Section (λ i x. F x) xs (length xs) (map F xs)
+  mapped F short = record { long = length-map xs F; frame = λ i h. get_or-map F xs i 0; short = λ i x. short x }
 
   -- a frame for each routine
-  numbered : Section nodes_frame xs n (nodes_frames 0 (take count xs))
-  numbered = record {
-    long = nodes_long 0 (take count xs) ∙ long_take;
-    frame = λ i h. rw zero-add at (nodes_at 0 (take count xs) i) ∙ rw (get_or-take count xs i 0 (omega arith));
-    short = λ i x. omega arith;
-  }
+  numbered : Section nodes_frame xs (length xs) (nodes_frames 0 xs)
+  numbered = record { long = nodes_long 0 xs; frame = λ i h. rw zero-add at (nodes_at 0 xs i); short = λ i x. omega arith }
 
   -- one or the other, by the kind
-  pub either : (kind : ℕ) → Section (byte_frame kind) xs n (byte_frames kind (take count xs))
+  pub either : (kind : ℕ) → Section (byte_frame kind) xs (length xs) (byte_frames kind xs)
   either kind = go (eqb kind 0x52)
     where
-      go : (t : Bool) → Section (λ i x. cond t (nodes_frame i x) (kind ∷ x ∷ [])) xs n (cond t (nodes_frames 0 (take count xs)) (map (λ x. kind ∷ x ∷ []) (take count xs)))
+      go : (t : Bool)
+          → Section (λ i x. cond t (nodes_frame i x) (kind ∷ x ∷ [])) xs (length xs) (cond t (nodes_frames 0 xs) (map (λ x. kind ∷ x ∷ []) xs))
       go true = numbered
       go false = mapped (λ x. kind ∷ x ∷ []) (λ x. omega arith)
 

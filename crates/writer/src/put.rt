@@ -1,5 +1,5 @@
 // Writing a program's frames, a section after the other.
-ghost use Rattle.std.specs.Prelude.{◌≡◌, ◌++◌, map, ◌<◌, ◌≤◌, length, take, drop};
+ghost use Rattle.std.specs.Prelude.{◌≡◌, ◌++◌, map, ◌<◌, ◌≤◌, length, drop};
 ghost use Rattle.text.specs.Lines.{line_of};
 ghost use Rattle.automaton.specs.Decoded.{transition_of, automaton_of};
 ghost use Rattle.program.specs.Sizes.{max_routines, max_frames};
@@ -52,10 +52,11 @@ fn entry_line(kind: u8, i: u8, x: u8) -> Line
 {
     if kind == 0x52 {
         let numbers = [0x52, i, x, 0, 0, 0, 0, 0];
-        return Line { count: 3, numbers };
+        Line { count: 3, numbers }
+    } else {
+        let numbers = [kind, x, 0, 0, 0, 0, 0, 0];
+        Line { count: 2, numbers }
     }
-    let numbers = [kind, x, 0, 0, 0, 0, 0, 0];
-    Line { count: 2, numbers }
 }
 
 fn edge_line(key: u32) -> Line
@@ -88,42 +89,33 @@ fn key_line(kind: u8, key: u32) -> Line
     ensures { result ≡ line_of (key_frame kind key) }
 {
     if kind == 0x53 {
-        return edge_line(key);
+        edge_line(key)
+    } else {
+        transition_line(key)
     }
-    transition_line(key)
 }
 
 // A frame of the kind for each entry of a list. The number of a routine is one byte: hence the first `requires`.
-fn put_bytes(out: &mut [u8], at: usize, kind: u8, list: &[u8], count: usize) -> usize
+fn put_bytes(out: &mut [u8], at: usize, kind: u8, list: &[u8]) -> usize
     requires short { length list.now ≤ max_routines }
-    requires room { RoomFor (byte_frames kind (take count list.now)) out.old at }
-    ensures { Put (byte_frames kind (take count list.now)) out.old
-        out.new at result }
+    requires room { RoomFor (byte_frames kind list.now) out.old at }
+    ensures { Put (byte_frames kind list.now) out.old out.new at result }
 {
-    let used = in_use(count, list.len());
     let mut pos = at;
-    let mut i: usize = 0;
-    while i < used {
-        let l = entry_line(kind, i as u8, list[i]);
-        pos = put_line(out, pos, l);
-        i = i + 1;
+    for (i, x) in list.iter().enumerate() {
+        pos = put_line(out, pos, entry_line(kind, i as u8, *x));
     }
     pos
 }
 
 // A frame of the kind for each key of a table.
-fn put_keys(out: &mut [u8], at: usize, kind: u8, keys: &[u32], count: usize) -> usize
-    requires { RoomFor (map (key_frame kind) (take count keys.now)) out.old at }
-    ensures { Put (map (key_frame kind) (take count keys.now)) out.old
-        out.new at result }
+fn put_keys(out: &mut [u8], at: usize, kind: u8, keys: &[u32]) -> usize
+    requires { RoomFor (map (key_frame kind) keys.now) out.old at }
+    ensures { Put (map (key_frame kind) keys.now) out.old out.new at result }
 {
-    let used = in_use(count, keys.len());
     let mut pos = at;
-    let mut i: usize = 0;
-    while i < used {
-        let l = key_line(kind, keys[i]);
-        pos = put_line(out, pos, l);
-        i = i + 1;
+    for key in keys {
+        pos = put_line(out, pos, key_line(kind, *key));
     }
     pos
 }
@@ -134,12 +126,12 @@ fn put_automaton(out: &mut [u8], at: usize, r: DecodedAutomaton) -> usize
     requires room { RoomFor (automaton_frames (automaton_of r)) out.old at }
     ensures { Put (automaton_frames (automaton_of r)) out.old out.new at result }
 {
-    let transitions = r.transitions;
-    let initial = r.initial;
-    let rejecting = r.rejecting;
-    let after_transitions = put_keys(out, at, 0x54, &transitions.keys, transitions.count);
-    let after_initial = put_bytes(out, after_transitions, 0x49, &initial.list, initial.count);
-    put_bytes(out, after_initial, 0x46, &rejecting.list, rejecting.count)
+    let transitions = in_use(r.transitions.count, MAX_TRANSITIONS);
+    let initial = in_use(r.initial.count, MAX_STATES);
+    let rejecting = in_use(r.rejecting.count, MAX_STATES);
+    let after_transitions = put_keys(out, at, 0x54, &r.transitions.keys[..transitions]);
+    let after_initial = put_bytes(out, after_transitions, 0x49, &r.initial.list[..initial]);
+    put_bytes(out, after_initial, 0x46, &r.rejecting.list[..rejecting])
 }
 
 // How many frames come before the end frame.
@@ -163,13 +155,13 @@ pub fn write_program(out: &mut [u8], p: DecodedProgram) -> usize
     ensures { (result ≡ length (written (program_of p)))
         × (out.new ≡ written (program_of p) ++ drop (length (written (program_of p))) out.old) }
 {
-    let nodes = p.nodes;
-    let edges = p.edges;
+    let nodes = in_use(p.nodes.count, MAX_ROUTINES);
+    let edges = in_use(p.edges.count, MAX_EDGES);
     let automaton = p.automaton;
     let header = header_line(p.routines, automaton.states, automaton.actions);
     let after_header = put_line(out, 0, header);
-    let after_nodes = put_bytes(out, after_header, 0x52, &nodes.list, nodes.count);
-    let after_edges = put_keys(out, after_nodes, 0x53, &edges.keys, edges.count);
+    let after_nodes = put_bytes(out, after_header, 0x52, &p.nodes.list[..nodes]);
+    let after_edges = put_keys(out, after_nodes, 0x53, &p.edges.keys[..edges]);
     let after_automaton = put_automaton(out, after_edges, automaton);
     let end = end_line(frame_count(p));
     put_line(out, after_automaton, end)

@@ -1,16 +1,17 @@
--- `analysis::next_violation` meets its contract: the file and the lengths are checked, then the marks, and the first violation is sought.
+-- `analysis::next_violation` meets its contract: what the checks pass is searched for the first violation.
 use Rattle.std.proofs.Common.{◌≡◌, ℕ, length, refl, sym, ap, subst, ◌∙◌, rules}
 use Rattle.std.proofs.lemmas.Result.{err_from_is_err_and}
-use Rattle.std.specs.Prelude.{Option, Ok}
+use Rattle.std.specs.Prelude.{Option, Ok, ltb}
+use Rattle.std.specs.Bool.{then_some}
 use Rattle.automaton.specs.Sizes.{max_states}
 use Rattle.program.specs.Chosen.{numbers}
 use Rattle.program.specs.Decoded.{program_of}
 use Rattle.program.specs.Verdicts.{Verdict}
 use Rattle.program.specs.declared.sizes.Sizes.{Sizes}
 use Rattle.reach.specs.Marks.{violations, violations_from, first_from, within}
-use Rattle.analysis.specs.Answers.{found_of, found_by}
+use Rattle.analysis.specs.Answers.{found_by}
 use Rattle.analysis.specs.NextAnswers.{next_answer_by}
-use Rattle.analysis.proofs.AnswersByChecks.{next_answered, own_found, found_is}
+use Rattle.analysis.proofs.AnswersByChecks.{next_answered, own_found}
 use Rattle.analysis.proofs.LimitDecides.{own_sized}
 use Rattle.analysis.proofs.next_violation.Goals as goal
 
@@ -49,7 +50,7 @@ returns c =
     let o = c.in_ok-check_own.ensures in
     let i = c.first_violation-i in (
       ap (λ (n : Option ℕ). next_answer_by (Ok n)) c.then_some.ensures
-          ∙ found_is (length z.marks.now) i.result ∙ ap (λ (n : ℕ). found_of (within n i.result)) k.passed.sized.marks-length
+          ∙ ap (λ (n : ℕ). next_answer_by (Ok (then_some (ltb i.result n) i.result))) k.passed.sized.marks-length
           ∙ own_found p _ z.low i.result (sym o.0)
           (subst (λ (y : Sizes). first_from z.low (violations_from y p z.marks.now 0) ≡ within (numbers y) i.result) c.sizes_of.ensures
           (i.ensures p c.rejecting_flags-rejecting.ensures))

@@ -1,7 +1,6 @@
 -- `blocked::cut_of` meets its contract, whichever program has these tables.
 use native.Mathlib.Omega.{arith}
-use mathlib.Core.Path.{refl}
-use Rattle.base.proofs.Bools.{never}
+use mathlib.Core.Path.{sym, ◌∙◌}
 use Rattle.blocked.proofs.KeysSearched.{cut_by_edge, cut_by_return, not_marked}
 use Rattle.blocked.proofs.cut_of.Goals as goal
 
@@ -9,7 +8,7 @@ pub bounds-marks-i : goal.bounds-marks-i
 bounds-marks-i c = omega (arith, c.requires.2, c.requires.3)
 
 pub returns-then-marks-i-eq0 : goal.returns-then-marks-i-eq0
-returns-then-marks-i-eq0 c p t = (not_marked _ p _ _ c.if-marks-i-eq0.true, λ e. never e refl)
+returns-then-marks-i-eq0 c p t = sym (not_marked _ p _ _ c.if-marks-i-eq0.true)
 
 pub parts_of-c-requires : goal.parts_of-c-requires
 parts_of-c-requires c = (c.requires.0, c.requires.2)
@@ -21,14 +20,24 @@ first_barred-first-requires c =
 
 pub returns-then-first-keys : goal.returns-then-first-keys
 returns-then-first-keys c p t =
-    let told = cut_by_edge c.requires.0 t c.parts_of-c.ensures _ c.if-marks-i-eq0.false c.first_barred-first.ensures (omega arith) in
-    (told.0, λ e. told.1)
+    let on = c.if-marks-i-eq0.false in
+    let told = cut_by_edge c.requires.0 t c.parts_of-c.ensures _ on c.first_barred-first.ensures (omega arith) in
+    (sym told.0, told.1)
 
-pub has_no_return-is_cut-requires : goal.has_no_return-is_cut-requires
-has_no_return-is_cut-requires c =
+pub has_no_return-requires : goal.has_no_return-requires
+has_no_return-requires c =
     omega (arith, c.parts_of-c.ensures.in_range.routine, c.requires.1.routines)
 
-pub returns : goal.returns
-returns c p t =
-    let told = cut_by_return c.requires.0 t c.parts_of-c.ensures _ c.if-marks-i-eq0.false c.first_barred-first.ensures (omega arith) c.has_no_return-is_cut.ensures in
-    (told.0, λ e. told.1)
+pub returns-then-has_no_return : goal.returns-then-has_no_return
+returns-then-has_no_return c p t =
+    let on = c.if-marks-i-eq0.false in
+    let first = c.first_barred-first.ensures in
+    let told = cut_by_return c.requires.0 t c.parts_of-c.ensures _ on first (omega arith) c.has_no_return.ensures in
+    (sym told.0 ∙ c.if-has_no_return.true, told.1)
+
+pub returns-else-has_no_return : goal.returns-else-has_no_return
+returns-else-has_no_return c p t =
+    let on = c.if-marks-i-eq0.false in
+    let first = c.first_barred-first.ensures in
+    let told = cut_by_return c.requires.0 t c.parts_of-c.ensures _ on first (omega arith) c.has_no_return.ensures in
+    sym told.0 ∙ c.if-has_no_return.false

@@ -1,5 +1,5 @@
 use Prim.Native.Nat.{ℕ, ◌-◌, ◌≤◌, ◌<◌}
-use mathlib.Core.Path.{◌≡◌, refl, sym, ◌∙◌}
+use mathlib.Core.Path.{◌≡◌, refl}
 use mathlib.Core.Bool.{true}
 use mathlib.Core.List.{List}
 use native.Mathlib.Omega.{arith}
@@ -18,10 +18,10 @@ module _ (Z : Sizes) (p : Program) (marks : List ℕ) {low i : ℕ} (s : Seeking
   unfolding block_from
   block_here h t e = rw (seek_here s h t, e) refl
 
-  block_nowhere : (k : ℕ) → numbers Z ≤ i → block_from Z p marks low ≡ block_in Z i k
+  block_nowhere : (n k : ℕ) → numbers Z ≤ i → numbers Z ≤ n → block_from Z p marks low ≡ block_in Z n k
   unfolding block_from
-  block_nowhere k h =
-      rw (le-ltb (seek (is_blocked Z p marks) (numbers Z - low) low) (numbers Z) (seek_out s h), le-ltb i (numbers Z) h) refl
+  block_nowhere n k h l =
+      rw (le-ltb (seek (is_blocked Z p marks) (numbers Z - low) low) (numbers Z) (seek_out s h), le-ltb n (numbers Z) l) refl
 
 pub loop-i-init : goal.loop-i-init
 loop-i-init c p t = seek_start _ _ _
@@ -30,18 +30,20 @@ loop-i-init c p t = seek_start _ _ _
 numbered : (c : In-loop-i) → c.loop-i.i < numbers c.args.z
 numbered c = let h = c.loop-i-test in omega (arith, c.requires.2)
 
-pub cut_of-cut-requires : goal.cut_of-cut-requires
-cut_of-cut-requires c =
-    (c.requires.0, c.requires.1, numbered (goal.at.cut_of-cut-requires c).In-loop-i, c.requires.2, c.requires.3)
+pub cut_of-requires : goal.cut_of-requires
+cut_of-requires c =
+    (c.requires.0, c.requires.1, numbered (goal.at.cut_of-requires c).In-loop-i, c.requires.2, c.requires.3)
 
-pub returns-then-cut : goal.returns-then-cut
-returns-then-cut c p t =
-    let told = c.cut_of-cut.ensures p t in
-    block_here _ p _ (c.loop-i.invariant p t) (numbered (goal.at.returns-then-cut c).In-loop-i) (sym told.0 ∙ c.if-cut.true) (told.1 c.if-cut.true)
+pub returns-in-Some : goal.returns-in-Some
+returns-in-Some c p t =
+    let told = c.in-Some.ensures p t in
+    block_here _ p _ (c.loop-i.invariant p t) (numbered (goal.at.returns-in-Some c).In-loop-i) told.0 told.1
 
 pub loop-i-preserved : goal.loop-i-preserved
 loop-i-preserved c p t =
-    seek_next (c.loop-i.invariant p t) (numbered (goal.at.loop-i-preserved c).In-loop-i) (sym (c.cut_of-cut.ensures p t).0 ∙ c.if-cut.false)
+    let inside = numbered (goal.at.loop-i-preserved c).In-loop-i in
+    seek_next (c.loop-i.invariant p t) inside (c.in_default.ensures p t)
 
 pub returns : goal.returns
-returns c p t = let h = c.loop-i-test in block_nowhere _ p _ (c.loop-i.invariant p t) 0 (omega (arith, c.requires.2))
+returns c p t =
+    block_nowhere _ p _ (c.loop-i.invariant p t) _ 0 (omega (arith, c.requires.2)) (omega (arith, c.requires.2))

@@ -1,7 +1,5 @@
 -- `blocked::search_marks` meets its contract. The loop's invariant: the numbers from `i` on decide, whichever program has
 -- these tables.
-use Prim.Native.Nat.{◌-◌}
-use lib.ListN.{length}
 use Rattle.program.specs.Chosen.{numbers}
 use Rattle.program.specs.Program.{Program}
 use Rattle.support.specs.Parts.{Tables}
@@ -11,6 +9,3 @@ use Rattle.blocked.proofs.search_marks.Given as goal
 
 abbrev pub invariant-loop-i : goal.invariant-loop-i
 invariant-loop-i l = (p : Program) → Tables l.z p l.keys l.next → Seeking (is_blocked l.z p l.marks) (numbers l.z) l.low l.i
-
-abbrev pub decreases-loop-i : goal.decreases-loop-i
-decreases-loop-i l = length l.marks - l.i

@@ -15,7 +15,8 @@ use Prim.Native.Nat.{ℕ, ◌+◌, ◌-◌}
 use Rattle.callers.proofs.wake_callers.Goals as goal
 use Rattle.callers.proofs.wake_callers.Goals.{After-next_caller-i}
 
-passed : (z : Sizes) (next : List ℕ) (f r : ℕ) (keys : List ℕ) → Passes (calls_one keys f) (λ j. caller_step z next f r (edge_of (get_or keys j 0)))
+passed : (z : Sizes) (next : List ℕ) (f r : ℕ) (keys : List ℕ)
+    → Passes (calls_one keys f) (λ j. caller_step z next f r (edge_of (get_or keys j 0)))
 passed z next f r keys = record { passes = λ x e s. caller_other z next f r keys x e s }
 
 pub loop-i-init : goal.loop-i-init
@@ -30,25 +31,25 @@ chained : (c : After-next_caller-i)
     c.next_caller-i.result ≡ seek (calls_one a.keys.now a.f) (length a.keys.now - (c.loop-i.i + 1)) (c.loop-i.i + 1)
 chained c =
     let h = c.loop-i-test in
-    c.next_caller-i.ensures ∙ c.requires.0.next_caller c.args.f c.loop-i.i c.requires.1 (omega arith) (c.loop-i.invariant.meets (omega arith))
+    let meets = c.loop-i.invariant.meets (omega arith) in
+    c.next_caller-i.ensures ∙ c.requires.0.next_caller c.args.f c.loop-i.i c.requires.1 (omega arith) meets
 
 pub loop-i-smaller : goal.loop-i-smaller
 loop-i-smaller c =
     let a = c.args in
     let i = c.loop-i.i in
-    omega (arith, c.loop-i-test, chained c, seek_at_least (calls_one a.keys.now a.f) (length a.keys.now - (i + 1)) (i + 1))
+    let past = seek_at_least (calls_one a.keys.now a.f) (length a.keys.now - (i + 1)) (i + 1) in
+    omega (arith, c.loop-i-test, chained c, past)
 
 pub loop-i-preserved : goal.loop-i-preserved
 loop-i-preserved c =
     let a = c.args in
     let w = c.wake_states-lowest in
     let h = c.loop-i-test in
+    let meets = c.loop-i.invariant.meets (omega arith) in
     chase_turn c.loop-i.invariant (passed a.z a.next.now a.f a.r a.keys.now) (omega arith)
-    (caller_here a.z a.next.now a.f a.r a.keys.now c.loop-i.i (c.loop-i.invariant.meets (omega arith)) (rw c.edge-e.ensures at w.ensures.0))
+    (caller_here a.z a.next.now a.f a.r a.keys.now c.loop-i.i meets (rw c.edge-e.ensures at w.ensures.0))
     w.ensures.1 refl w.auto.pending (chained c)
-
-pub shape_of-pending : goal.shape_of-pending
-shape_of-pending c = c.loop-i.invariant.looping.pending_length
 
 pub returns : goal.returns
 returns c = loop_end c.loop-i.invariant.looping (omega arith)

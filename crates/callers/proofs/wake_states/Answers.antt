@@ -8,10 +8,6 @@ use Rattle.callers.proofs.wake_states.Goals as goal
 pub loop-x-init : goal.loop-x-init
 loop-x-init c = loop_start _ c.args.z.states _ _ _
 
-pub wake_roots-lowest-requires : goal.wake_roots-lowest-requires
-wake_roots-lowest-requires c =
-    c.number_of-base.ensures.1
-
 pub loop-x-preserved : goal.loop-x-preserved
 loop-x-preserved c =
     let e = rw c.next_after-roots.ensures at c.has_bit.ensures in
@@ -19,15 +15,13 @@ loop-x-preserved c =
       | then-has_bit w ↦
           let k = w.wake_roots-lowest in
           rw (w.pending-is, w.lowest-is)
-          (loop_turn c.loop-x.invariant (omega arith) (step_taken _ (sym e ∙ w.if-has_bit.true) (rw w.number_of-base.ensures.0 at k.ensures.0)) k.ensures.1
-          refl k.auto.pending)
+          (loop_turn c.loop-x.invariant (omega arith)
+          (step_taken _ (sym e ∙ w.if-has_bit.true) (rw w.number_of-base.ensures.0 at k.ensures.0)) k.ensures.1 refl
+          k.auto.pending)
       | else-has_bit w ↦
-          rw (w.pending-is, w.lowest-is) (loop_turn c.loop-x.invariant (omega arith) (step_left _ (sym e ∙ w.if-has_bit.false)) (λ h. h) refl refl)
+          rw (w.pending-is, w.lowest-is)
+          (loop_turn c.loop-x.invariant (omega arith) (step_left _ (sym e ∙ w.if-has_bit.false)) (λ h. h) refl refl)
     ]
-
-pub shape_of-pending : goal.shape_of-pending
-shape_of-pending c =
-    c.loop-x.invariant.pending_length
 
 pub returns : goal.returns
 returns c = loop_end c.loop-x.invariant (omega arith)

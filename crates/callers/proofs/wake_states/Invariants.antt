@@ -2,12 +2,9 @@
 use Rattle.program.specs.Decoded.{edge_view}
 use Rattle.callers.specs.Parts.{state_step}
 use Rattle.marking.proofs.StepsMark.{Looping}
-use Prim.Native.Nat.{◌-◌}
 use Rattle.callers.proofs.wake_states.Given as goal
 
 abbrev pub invariant-loop-x : goal.invariant-loop-x
 invariant-loop-x l =
-    Looping (state_step l.z l.next l.r (edge_view l.e)) l.z.states l.marks l.initial.pending l.low l.x l.marks l.pending l.lowest
-
-abbrev pub decreases-loop-x : goal.decreases-loop-x
-decreases-loop-x l = l.z.states - l.x
+    Looping (state_step l.z l.next l.r (edge_view l.e)) l.z.states
+    l.marks l.initial.pending l.low l.x l.marks l.pending l.lowest

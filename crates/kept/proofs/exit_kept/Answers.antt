@@ -1,20 +1,14 @@
-use mathlib.Core.Path.{sym, ◌∙◌}
-use Rattle.kept.specs.Parts.{exit_kept}
-use Rattle.base.proofs.SearchesAsk.{try_all, try_found, try_next, try_none}
+-- `kept::exit_kept` meets its contract.
+use Prim.Native.Nat.{ℕ}
+use Rattle.std.proofs.Common.{rules}
+use borrow.Author.Tests.{tests}
+use Rattle.kept.specs.Parts.{move_kept, exit_kept}
+use Rattle.kept.proofs.StatesAsked.{states_asked}
 use Rattle.kept.proofs.exit_kept.Goals as goal
-
-pub loop-x-init : goal.loop-x-init
-loop-x-init c = try_all _ _
-
-pub returns-then-move_kept : goal.returns-then-move_kept
-unfolding exit_kept
-returns-then-move_kept c =
-    try_found c.loop-x.invariant c.loop-x-test.true (sym c.move_kept.ensures ∙ c.if-move_kept.true)
-
-pub loop-x-preserved : goal.loop-x-preserved
-loop-x-preserved c =
-    try_next c.loop-x.invariant c.loop-x-test.true (sym c.move_kept.ensures ∙ c.if-move_kept.false)
 
 pub returns : goal.returns
 unfolding exit_kept
-returns c = try_none c.loop-x.invariant c.loop-x-test.false
+returns c =
+    let a = c.args in
+    states_asked (λ (x : ℕ). move_kept a.next.now a.kept.now a.exit x a.l a.t) a.z.states (search rules) c.any.ensures.ran
+    (λ x b q k. search (rules, tests))

@@ -1,12 +1,8 @@
 -- `marking::lowest_state` meets its contract.
 use native.Mathlib.Omega.{arith}
-use lib.Count.{trailing_le}
 use borrow.Author.Tests.{eq-eqb}
 use Rattle.words.proofs.FirstFlagFound.{trailing_below, trailing_set, trailing_lt}
 use Rattle.marking.proofs.lowest_state.Goals as goal
-
-pub overflow_cast-result : goal.overflow_cast-result
-overflow_cast-result c = omega (arith, trailing_le 64 c.args.set)
 
 pub returns : goal.returns
 returns c =

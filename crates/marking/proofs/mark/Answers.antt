@@ -1,24 +1,27 @@
 -- `marking::mark` meets its contract.
-use Rattle.marking.proofs.StepsMark.{mark_new, mark_old, mark_out, set_lowers}
 use native.Mathlib.Omega.{arith}
+use Rattle.marking.proofs.StepsMark.{mark_new, mark_old, mark_out, set_lowers}
 use Rattle.marking.proofs.mark.Goals as goal
+use Rattle.marking.proofs.mark.Goals.{
+  else-at-marks-via-then-at-marks+else-marks-at-eq0,
+  else-at-marks-via-else-at-marks,
+}
 
 pub returns-then-marks-at-eq0 : goal.returns-then-marks-at-eq0
 returns-then-marks-at-eq0 c =
-    let m = c.args.marks.now in
-    let w = c.args.pending.now in
-    let l = c.lower.ensures in
+    let a = c.args in
     let f = c.set_at.ensures in
-    (mark_new m w c.args.at c.if-marks-at-eq0.true f, set_lowers w _ c.args.at c.args.low _ f l.0 l.1)
-
-pub returns-else-marks-at-eq0 : goal.returns-else-marks-at-eq0
-returns-else-marks-at-eq0 c =
-    let m = c.args.marks.now in
-    let w = c.args.pending.now in
-    (mark_old m w c.args.at c.if-marks-at-eq0.false, λ h. h)
+    let w = a.pending.now in
+    (mark_new a.marks.now w a.at c.if-marks-at-eq0.true f, set_lowers w _ a.at a.low _ f (omega arith) (omega arith))
 
 pub returns-else-at-marks : goal.returns-else-at-marks
 returns-else-at-marks c =
-    let m = c.args.marks.now in
-    let w = c.args.pending.now in
-    (mark_out m w c.args.at (omega arith), λ h. h)
+    let a = c.args in
+    let m = a.marks.now in
+    let w = a.pending.now in (
+      elim c.else-at-marks.branch [
+        | else-at-marks-via-then-at-marks+else-marks-at-eq0 b ↦ mark_old m w a.at b.if-marks-at-eq0.false
+        | else-at-marks-via-else-at-marks b ↦ mark_out m w a.at b.if-at-marks.false
+      ],
+      λ h. h,
+    )

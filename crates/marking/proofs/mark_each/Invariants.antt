@@ -7,7 +7,8 @@ use Rattle.marking.proofs.mark_each.Given as goal
 
 abbrev pub invariant-loop-left : goal.invariant-loop-left
 invariant-loop-left l =
-    Looping (mark_state l.set l.base) l.states l.initial.marks l.initial.pending l.low l.s l.marks l.pending l.lowest × Leaving l.set l.s l.left
+    Looping (mark_state l.set l.base) l.states l.initial.marks l.initial.pending l.low l.s l.marks l.pending l.lowest
+    × Leaving l.set l.s l.left
 
 abbrev pub decreases-loop-left : goal.decreases-loop-left
 decreases-loop-left l = l.states - l.s

@@ -1,24 +1,27 @@
 -- `marking::wake` meets its contract.
-use Rattle.marking.proofs.StepsMark.{wake_marked, wake_unmarked, wake_out, set_lowers}
 use native.Mathlib.Omega.{arith}
+use Rattle.marking.proofs.StepsMark.{wake_marked, wake_unmarked, wake_out, set_lowers}
 use Rattle.marking.proofs.wake.Goals as goal
+use Rattle.marking.proofs.wake.Goals.{
+  else-at-marks-via-then-at-marks+else-marks-at-ne0,
+  else-at-marks-via-else-at-marks,
+}
 
 pub returns-then-marks-at-ne0 : goal.returns-then-marks-at-ne0
 returns-then-marks-at-ne0 c =
-    let m = c.args.marks.now in
-    let w = c.args.pending.now in
-    let l = c.lower.ensures in
+    let a = c.args in
     let f = c.set_at.ensures in
-    (wake_marked m w c.args.at c.if-marks-at-ne0.true f, set_lowers w _ c.args.at c.args.low _ f l.0 l.1)
-
-pub returns-else-marks-at-ne0 : goal.returns-else-marks-at-ne0
-returns-else-marks-at-ne0 c =
-    let m = c.args.marks.now in
-    let w = c.args.pending.now in
-    (wake_unmarked m w c.args.at c.if-marks-at-ne0.false, λ h. h)
+    let w = a.pending.now in
+    (wake_marked a.marks.now w a.at c.if-marks-at-ne0.true f, set_lowers w _ a.at a.low _ f (omega arith) (omega arith))
 
 pub returns-else-at-marks : goal.returns-else-at-marks
 returns-else-at-marks c =
-    let m = c.args.marks.now in
-    let w = c.args.pending.now in
-    (wake_out m w c.args.at (omega arith), λ h. h)
+    let a = c.args in
+    let m = a.marks.now in
+    let w = a.pending.now in (
+      elim c.else-at-marks.branch [
+        | else-at-marks-via-then-at-marks+else-marks-at-ne0 b ↦ wake_unmarked m w a.at b.if-marks-at-ne0.false
+        | else-at-marks-via-else-at-marks b ↦ wake_out m w a.at b.if-at-marks.false
+      ],
+      λ h. h,
+    )

@@ -1,13 +1,8 @@
 -- `marking::wake_roots` meets its contract. The loop's invariant: the roots from `r` on are left to wake.
 use Rattle.marking.specs.Parts.{wake_at}
 use Rattle.marking.proofs.StepsMark.{Looping}
-use mathlib.Core.Path.{◌≡◌}
-use Prim.Native.Nat.{◌+◌, ◌*◌, ◌-◌, ◌≤◌}
 use Rattle.marking.proofs.wake_roots.Given as goal
 
 abbrev pub invariant-loop-r : goal.invariant-loop-r
 invariant-loop-r l =
-    Looping (wake_at l.states l.base) l.states l.marks l.initial.pending l.low l.r l.marks l.pending l.lowest × (l.at ≡ l.base + l.states * l.r) × (l.at ≤ l.base + 255 * l.r)
-
-abbrev pub decreases-loop-r : goal.decreases-loop-r
-decreases-loop-r l = l.states - l.r
+    Looping (wake_at l.states l.base) l.states l.marks l.initial.pending l.low l.r l.marks l.pending l.lowest

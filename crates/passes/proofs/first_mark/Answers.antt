@@ -3,22 +3,15 @@ use Rattle.reach.proofs.Numbers.{parts_routine, parts_node, parts_root, parts_st
 use mathlib.Core.Path.{sym, ◌∙◌}
 use Rattle.passes.proofs.first_mark.Goals as goal
 
-pub returns-then-not-member : goal.returns-then-not-member
-returns-then-not-member c =
-    let parts = c.parts_of-c.ensures in
-    let outside = sym (rw (parts_routine parts) at c.is_set-member.ensures) ∙ c.if-not-member.true in
+pub returns-then-is_set : goal.returns-then-is_set
+returns-then-is_set c =
+    let p = c.parts_of-c.ensures in
+    let inside = sym (rw (parts_routine p) at c.is_set.ensures) ∙ c.if-is_set.true in
+    let root = rw (parts_routine p, parts_node p, parts_root p, parts_state p) at c.at_root.ensures in
+    rw inside root
+
+pub returns-else-is_set : goal.returns-else-is_set
+returns-else-is_set c =
+    let p = c.parts_of-c.ensures in
+    let outside = sym (rw (parts_routine p) at c.is_set.ensures) ∙ c.if-is_set.false in
     rw outside
-
-pub returns-then-c-root : goal.returns-then-c-root
-returns-then-c-root c =
-    let parts = c.parts_of-c.ensures in
-    let inside = sym (rw (parts_routine parts) at c.is_set-member.ensures) ∙ c.if-not-member.false in
-    let at-root = rw (c.is_set-root.ensures, c.root_place.ensures, parts_routine parts, parts_node parts, parts_root parts, parts_state parts) at c.if-c-root.true in
-    rw (inside, at-root)
-
-pub returns : goal.returns
-returns c =
-    let parts = c.parts_of-c.ensures in
-    let inside = sym (rw (parts_routine parts) at c.is_set-member.ensures) ∙ c.if-not-member.false in
-    let elsewhere = rw (c.is_set-root.ensures, c.root_place.ensures, parts_routine parts, parts_node parts, parts_root parts, parts_state parts) at c.if-c-root.false in
-    rw (inside, elsewhere)

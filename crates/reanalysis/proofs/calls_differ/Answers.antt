@@ -1,25 +1,29 @@
 -- `reanalysis::calls_differ` meets its contract.
 use native.Mathlib.Omega.{arith}
 use mathlib.Core.Path.{◌≡◌}
+use Prim.Native.Nat.{◌≤◌}
 use lib.ListN.{length}
 use borrow.Author.Rules.{rules}
 use Rattle.program.specs.Sizes.{max_edges}
 use Rattle.callgraph.proofs.CallsByKey.{keys_of}
-use Rattle.reanalysis.proofs.ReanalysisDecided.{differing_call, call_differing}
+use Rattle.reanalysis.proofs.ReanalysisDecided.{
+  differing_call,
+  call_differing,
+  front_differing,
+  differing_front,
+  says_by,
+}
 use Rattle.reanalysis.proofs.calls_differ.Goals as goal
 use Rattle.reanalysis.proofs.calls_differ.Goals.{Start}
 
 room : (c : Start) → length c.args.p.edges.keys ≡ max_edges
 room c = search rules
 
-pub some_differ-requires : goal.some_differ-requires
-some_differ-requires c = (
-  c.requires.1.usable,
-  omega (arith, room (goal.at.some_differ-requires c).Start, c.in_use-count.ensures),
-)
-
 pub returns : goal.returns
 returns c =
-    let k = keys_of c.args.p c.requires.0 (room (goal.at.returns c).Start) c.in_use-count.ensures in
-    let s = c.some_differ.ensures in
-    record { if_yes = λ e. differing_call k c.requires.1.ranged (s.if_yes e); if_no = λ e d. s.if_no e (call_differing k c.requires.1.ranged d) }
+    let r = room (goal.at.returns c).Start in
+    let k = keys_of c.args.p c.requires.0 r c.in_use-count.ensures in
+    let h : c.in_use-count.result ≤ length c.args.p.edges.keys = omega (arith, r, c.in_use-count.ensures) in
+    says_by
+    (λ d. differing_call k c.requires.1.ranged (front_differing h d))
+    (λ d. differing_front h (call_differing k c.requires.1.ranged d)) c.some_differ.ensures

@@ -1,16 +1,22 @@
-use Rattle.reanalysis.proofs.ReanalysisDecided.{said_yes, said_no, none_more}
-use native.Mathlib.Omega.{arith}
+-- `reanalysis::some_differ` meets its contract.
+use Prim.Native.Nat.{ℕ}
+use borrow.Author.Tests.{tests}
+use Rattle.std.proofs.Common.{rules}
+use Rattle.std.proofs.lemmas.Iterator.{YieldsList-from_slice, cases_from_any}
+use Rattle.program.specs.Decoded.{edge_of}
+use Rattle.words.specs.Words.{flags_of}
+use Rattle.reanalysis.specs.Parts.{DifferingEdge}
+use Rattle.reanalysis.proofs.ReanalysisDecided.{any_item, says_by}
 use Rattle.reanalysis.proofs.some_differ.Goals as goal
 
-pub loop-i-init : goal.loop-i-init
-loop-i-init c = λ j h. absurd (omega arith)
-
-pub returns-then-edge_differs : goal.returns-then-edge_differs
-returns-then-edge_differs c =
-    said_yes (record { at = c.loop-i.i; below = omega arith; differing = c.edge_differs.ensures.if_yes c.if-edge_differs.true })
-
-pub loop-i-preserved : goal.loop-i-preserved
-loop-i-preserved c = none_more _ c.loop-i.invariant (c.edge_differs.ensures.if_no c.if-edge_differs.false)
-
 pub returns : goal.returns
-returns c = said_no (λ d. c.loop-i.invariant d.at (omega (arith, d.below)) d.differing)
+returns c =
+    let a = c.args in
+    let P = λ (k : ℕ). DifferingEdge a.z a.members.now (flags_of a.before.now) a.marks.now (edge_of k) in
+    says_by
+    (λ d. record { at = d.at; below = d.below; differing = d.holds })
+    (λ d. record { at = d.at; below = d.below; holds = d.differing })
+    (any_item P a.keys.now c.any.result
+    (cases_from_any _ _ c.any.result P (λ k. ¬ (P k)) c.any.ensures.ran
+    (YieldsList-from_slice a.keys.now (search rules))
+    (λ x q k. search (rules, tests)) (λ x q k. search (rules, tests))))

@@ -1,16 +1,23 @@
-use Rattle.reanalysis.proofs.ReanalysisDecided.{said_yes, said_no, found_differs, none_differs, none_more}
+-- `reanalysis::summaries_differ` meets its contract.
+use Prim.Native.Nat.{ℕ}
 use native.Mathlib.Omega.{arith}
+use borrow.Author.Tests.{tests}
+use Rattle.std.proofs.Common.{rules}
+use Rattle.std.proofs.lemmas.Iterator.{YieldsList-from_range, cases_from_any}
+use Rattle.words.specs.Words.{flags_of}
+use Rattle.reanalysis.specs.Parts.{DiffersWith}
+use Rattle.reanalysis.proofs.ReanalysisDecided.{any_number, says_by, found_differs, differs_with}
 use Rattle.reanalysis.proofs.summaries_differ.Goals as goal
 
-pub loop-r-init : goal.loop-r-init
-loop-r-init c = λ j h. absurd (omega arith)
-
-pub returns-then-root_differs : goal.returns-then-root_differs
-returns-then-root_differs c =
-    said_yes (found_differs c.requires.0 _ _ c.args.g c.requires.1 c.loop-r.r (omega arith) (c.root_differs.ensures.if_yes c.if-root_differs.true))
-
-pub loop-r-preserved : goal.loop-r-preserved
-loop-r-preserved c = none_more _ c.loop-r.invariant (c.root_differs.ensures.if_no c.if-root_differs.false)
-
 pub returns : goal.returns
-returns c = said_no (none_differs c.requires.0 _ _ c.args.g c.requires.1 (λ j h. c.loop-r.invariant j (omega arith)))
+returns c =
+    let a = c.args in
+    let before = flags_of a.before.now in
+    let P = λ (r : ℕ). DiffersWith a.z before a.marks.now a.g r in
+    says_by
+    (λ d. found_differs c.requires.0 before a.marks.now a.g c.requires.1 d.at d.below d.holds)
+    (differs_with c.requires.0 before a.marks.now a.g c.requires.1)
+    (any_number P a.z.states c.any.result
+    (cases_from_any _ _ c.any.result P (λ r. ¬ (P r)) c.any.ensures.ran
+    (YieldsList-from_range 0 a.z.states a.z.states (search rules) (omega arith))
+    (λ x q k. search (rules, tests)) (λ x q k. search (rules, tests))))

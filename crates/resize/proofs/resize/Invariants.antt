@@ -2,11 +2,7 @@
 use Rattle.program.specs.Chosen.{numbers}
 use Rattle.resize.specs.Resized.{renumbered}
 use Rattle.base.proofs.BytesFilled.{Filling}
-use Prim.Native.Nat.{◌-◌}
 use Rattle.resize.proofs.resize.Given as goal
 
 abbrev pub invariant-loop-i : goal.invariant-loop-i
 invariant-loop-i l = Filling (renumbered l.z l.y l.old) (numbers l.y) l.initial.new l.new l.i
-
-abbrev pub decreases-loop-i : goal.decreases-loop-i
-decreases-loop-i l = l.size - l.i

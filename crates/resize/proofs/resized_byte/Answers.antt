@@ -18,7 +18,7 @@ returns-then-c-z c =
     let e = by_parts c.args.z c.args.old.now c.parts_of-c.ensures in
     ap (λ (k : ℕ). get_or c.args.old.now k 0) c.number_of-at.ensures.0 ∙ (rw (lt-ltb _ _ c.if-c-z.true) at e)
 
-pub returns : goal.returns
-returns c =
+pub returns-else-c-z : goal.returns-else-c-z
+returns-else-c-z c =
     let e = by_parts c.args.z c.args.old.now c.parts_of-c.ensures in
     rw (le-ltb _ _ c.if-c-z.false) at e

@@ -10,18 +10,8 @@ pub loop-y-init : goal.loop-y-init
 loop-y-init c =
     (loop_start _ c.args.z.states _ _ _, rw c.next_after-left.ensures (leaving_all _))
 
-pub shape_of-marks-then-left-eq0 : goal.shape_of-marks-then-left-eq0
-shape_of-marks-then-left-eq0 c = c.loop-y.invariant.0.marks-length
-
-pub shape_of-pending-then-left-eq0 : goal.shape_of-pending-then-left-eq0
-shape_of-pending-then-left-eq0 c = c.loop-y.invariant.0.pending_length
-
 pub returns-then-left-eq0 : goal.returns-then-left-eq0
 returns-then-left-eq0 c = loop_idle c.loop-y.invariant.0 (none_followed c.loop-y.invariant.1 c.if-left-eq0.true _ _)
-
-pub follow_entry-lowest-requires : goal.follow_entry-lowest-requires
-follow_entry-lowest-requires c =
-    c.requires
 
 pub loop-y-preserved : goal.loop-y-preserved
 loop-y-preserved c =
@@ -35,15 +25,11 @@ loop-y-preserved c =
             leaving_half l,
           )
       | else-left-eq1 w ↦
-          rw (w.marks-is, w.pending-is, w.lowest-is)
-          (loop_turn c.loop-y.invariant.0 (omega arith) (step_left _ (leaving_other l w.if-left-eq1.false)) (λ h. h) refl refl, leaving_half l)
+          rw (w.marks-is, w.pending-is, w.lowest-is) (
+            loop_turn c.loop-y.invariant.0 (omega arith) (step_left _ (leaving_other l w.if-left-eq1.false)) (λ h. h) refl refl,
+            leaving_half l,
+          )
     ]
-
-pub shape_of-marks : goal.shape_of-marks
-shape_of-marks c = c.loop-y.invariant.0.marks-length
-
-pub shape_of-pending : goal.shape_of-pending
-shape_of-pending c = c.loop-y.invariant.0.pending_length
 
 pub returns : goal.returns
 returns c = loop_end c.loop-y.invariant.0 (omega arith)

@@ -16,7 +16,8 @@ use Prim.Native.Nat.{ℕ, ◌+◌, ◌-◌}
 use Rattle.successors.proofs.follow_edges.Goals as goal
 use Rattle.successors.proofs.follow_edges.Goals.{After-next_edge-i}
 
-passed : (z : Sizes) (next known : List ℕ) (f n r q : ℕ) (keys : List ℕ) → Passes (leaves keys f n) (λ j. edge_step z next known f n r q (edge_of (get_or keys j 0)))
+passed : (z : Sizes) (next known : List ℕ) (f n r q : ℕ) (keys : List ℕ)
+    → Passes (leaves keys f n) (λ j. edge_step z next known f n r q (edge_of (get_or keys j 0)))
 passed z next known f n r q keys = record { passes = λ x e s. edge_other z next known f n r q keys x e s }
 
 pub loop-i-init : goal.loop-i-init
@@ -26,24 +27,24 @@ loop-i-init c =
     chase_start _ _ _ (passed a.z a.next.now a.known.now k.routine k.node k.root k.state a.keys.now)
     (c.first_edge-i.ensures ∙ c.requires.0.first_edge k.routine k.node c.requires.1 c.requires.2)
 
-pub follow_label-lowest-requires : goal.follow_label-lowest-requires
-follow_label-lowest-requires c =
-    (c.number_of-base.ensures.1, c.requires.3)
-
 -- the index has the next edge from the node
 chained : (c : After-next_edge-i)
     → let a = c.args in
-    c.next_edge-i.result ≡ seek (leaves a.keys.now a.c.routine a.c.node) (length a.keys.now - (c.loop-i.i + 1)) (c.loop-i.i + 1)
+    let i = c.loop-i.i in
+    c.next_edge-i.result ≡ seek (leaves a.keys.now a.c.routine a.c.node) (length a.keys.now - (i + 1)) (i + 1)
 chained c =
     let k = c.args.c in
     let h = c.loop-i-test in
-    c.next_edge-i.ensures ∙ c.requires.0.next_edge k.routine k.node c.loop-i.i c.requires.1 c.requires.2 (omega arith) (c.loop-i.invariant.meets (omega arith))
+    let meets = c.loop-i.invariant.meets (omega arith) in
+    c.next_edge-i.ensures
+    ∙ c.requires.0.next_edge k.routine k.node c.loop-i.i c.requires.1 c.requires.2 (omega arith) meets
 
 pub loop-i-smaller : goal.loop-i-smaller
 loop-i-smaller c =
     let a = c.args in
     let i = c.loop-i.i in
-    omega (arith, c.loop-i-test, chained c, seek_at_least (leaves a.keys.now a.c.routine a.c.node) (length a.keys.now - (i + 1)) (i + 1))
+    let past = seek_at_least (leaves a.keys.now a.c.routine a.c.node) (length a.keys.now - (i + 1)) (i + 1) in
+    omega (arith, c.loop-i-test, chained c, past)
 
 pub loop-i-preserved : goal.loop-i-preserved
 loop-i-preserved c =
@@ -52,16 +53,14 @@ loop-i-preserved c =
     let f = c.follow_label-lowest in
     let h = c.loop-i-test in
     let e = c.edge-e.ensures in
-    chase_turn c.loop-i.invariant (passed a.z a.next.now a.known.now k.routine k.node k.root k.state a.keys.now) (omega arith)
-    (edge_here a.z a.next.now a.known.now k.routine k.node k.root k.state a.keys.now c.loop-i.i (c.loop-i.invariant.meets (omega arith))
+    let next = a.next.now in
+    let known = a.known.now in
+    let keys = a.keys.now in
+    let meets = c.loop-i.invariant.meets (omega arith) in
+    chase_turn c.loop-i.invariant (passed a.z next known k.routine k.node k.root k.state keys) (omega arith)
+    (edge_here a.z next known k.routine k.node k.root k.state keys c.loop-i.i meets
     (rw (c.number_of-base.ensures.0, ap (λ (d : Edge). d.target) e, ap (λ (d : Edge). d.label) e) at f.ensures.0))
     f.ensures.1 f.auto.marks f.auto.pending (chained c)
-
-pub shape_of-marks : goal.shape_of-marks
-shape_of-marks c = c.loop-i.invariant.looping.marks-length
-
-pub shape_of-pending : goal.shape_of-pending
-shape_of-pending c = c.loop-i.invariant.looping.pending_length
 
 pub returns : goal.returns
 returns c = loop_end c.loop-i.invariant.looping (omega arith)

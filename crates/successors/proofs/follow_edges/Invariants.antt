@@ -9,7 +9,9 @@ use Rattle.successors.proofs.follow_edges.Given as goal
 
 abbrev pub invariant-loop-i : goal.invariant-loop-i
 invariant-loop-i l =
-    Chasing (leaves l.keys l.c.routine l.c.node) (λ j. edge_step l.z l.next l.known l.c.routine l.c.node l.c.root l.c.state (edge_of (get_or l.keys j 0)))
+    let c = l.c in
+    Chasing (leaves l.keys c.routine c.node)
+    (λ j. edge_step l.z l.next l.known c.routine c.node c.root c.state (edge_of (get_or l.keys j 0)))
     (length l.keys) l.initial.marks l.initial.pending l.low l.i l.marks l.pending l.lowest
 
 abbrev pub decreases-loop-i : goal.decreases-loop-i

@@ -2,10 +2,6 @@
 use Rattle.marking.proofs.StepsChosen.{mark_then}
 use Rattle.successors.proofs.follow_entry.Goals as goal
 
-pub follow_summaries-requires : goal.follow_summaries-requires
-follow_summaries-requires c =
-    c.requires
-
 pub returns : goal.returns
 returns c =
     let m = c.mark-lowest.ensures in

@@ -1,22 +1,23 @@
-use mathlib.Core.Path.{sym, ◌∙◌}
+-- `violations::count_violations` meets its contract: what the filter keeps are the violations.
+use mathlib.Core.Path.{ap, ◌∙◌}
+use Prim.Native.Nat.{ℕ}
 use native.Mathlib.Omega.{arith}
-use Rattle.violations.proofs.ViolationsCounted.{counts_violations}
-use Rattle.base.proofs.BytesCounted.{counted_one, counted_none, counted_all}
-use Rattle.violations.proofs.count_violations.Goals.{then-is_violation, else-is_violation}
+use lib.ListN.{length, get_or}
+use borrow.Author.Tests.{tests}
+use Rattle.std.proofs.Common.{rules}
+use Rattle.std.proofs.lemmas.Iterator.{YieldsList-from_range}
+use Rattle.std.proofs.lemmas.Iterator.Consumers.{YieldsList-from_filter, count_from_yields_List}
+use Rattle.reach.specs.Marks.{violates}
+use Rattle.violations.proofs.ViolationsCounted.{violations_kept}
 use Rattle.violations.proofs.count_violations.Goals as goal
 
-pub loop-i-init : goal.loop-i-init
-loop-i-init c = (omega arith, λ p r. record { total = omega arith })
-
-pub loop-i-preserved : goal.loop-i-preserved
-loop-i-preserved c =
-    let told = c.is_violation.ensures in
-    elim c.if-is_violation.branch [
-      | then-is_violation w ↦
-          rw w.n-is (omega arith, λ q r. counted_one (counts_violations _ q) (c.loop-i.invariant.1 q r) (omega arith) (sym (told q r) ∙ w.if-is_violation.true))
-      | else-is_violation w ↦
-          rw w.n-is (omega arith, λ q r. counted_none (counts_violations _ q) (c.loop-i.invariant.1 q r) (omega arith) (sym (told q r) ∙ w.if-is_violation.false))
-    ]
-
 pub returns : goal.returns
-returns c p r = counted_all (counts_violations _ p) (c.loop-i.invariant.1 p r) c.loop-i-test.false
+returns c p r =
+    let a = c.args in
+    let marks = a.marks.now in
+    let n = length marks in
+    let t = λ (i : ℕ). violates a.z p (get_or marks i 0) i in
+    count_from_yields_List c.filter.result _ c.count.ensures.ran
+    (YieldsList-from_filter _ t (YieldsList-from_range 0 n n (search rules) (omega arith)) c.filter.ensures.closure
+    (λ x b q k. search (rules, tests)))
+    ∙ ap length (violations_kept a.z p marks n 0 (omega arith))

@@ -1,20 +1,24 @@
-use mathlib.Core.Path.{sym, ◌∙◌}
-use native.Mathlib.Omega.{arith}
-use Rattle.violations.proofs.ViolationsCounted.{sought_none, sought_here, sought_more, sought_all}
+-- `violations::first_violation` meets its contract: the first number that passes the test is looked for.
+use mathlib.Core.Path.{refl, sym, ◌∙◌}
+use Prim.Native.Nat.{ℕ, ◌-◌}
+use lib.ListN.{length, get_or}
+use borrow.Author.Tests.{tests}
+use Rattle.std.proofs.Common.{rules}
+use Rattle.std.proofs.lemmas.Iterator.{YieldsList-from_range}
+use Rattle.std.proofs.lemmas.Iterator.Adapters.{option_map_id}
+use Rattle.std.proofs.lemmas.Iterator.Search.{find_from_yields_List}
+use Rattle.reach.specs.Marks.{violates}
+use Rattle.violations.proofs.ViolationsCounted.{sought_none, sought_first}
 use Rattle.violations.proofs.first_violation.Goals as goal
 
-pub loop-i-init : goal.loop-i-init
-loop-i-init c p r = sought_none _ p _ _
-
-pub returns-then-is_violation : goal.returns-then-is_violation
-returns-then-is_violation c p r =
-    let told = c.is_violation.ensures p r in
-    sought_here _ (c.loop-i.invariant p r) (omega arith) (omega arith) (sym told ∙ c.if-is_violation.true)
-
-pub loop-i-preserved : goal.loop-i-preserved
-loop-i-preserved c p r =
-    let told = c.is_violation.ensures p r in
-    sought_more _ (c.loop-i.invariant p r) (omega arith) (sym told ∙ c.if-is_violation.false)
-
 pub returns : goal.returns
-returns c p r = sought_all _ (c.loop-i.invariant p r) (omega arith) (omega arith)
+returns c p r =
+    let a = c.args in
+    let marks = a.marks.now in
+    let k = length marks - a.from in
+    let t = λ (i : ℕ). violates a.z p (get_or marks i 0) i in
+    let found = sym (option_map_id c.find.result)
+    ∙ find_from_yields_List t _ _ c.find.result c.find.ensures.ran
+    (YieldsList-from_range a.from (length marks) k (search rules) refl) (λ x b q h. search (rules, tests)) in
+    rw (c.unwrap_or.ensures, found, ← c.requires.2)
+    (sought_first a.z p marks a.from k a.from refl (sought_none a.z p marks a.from))

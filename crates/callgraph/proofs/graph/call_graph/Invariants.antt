@@ -10,7 +10,11 @@ use lib.ListN.{length}
 use Rattle.callgraph.proofs.graph.call_graph.Given as goal
 
 abbrev pub invariant-loop-more : goal.invariant-loop-more
-invariant-loop-more l = (length l.leads ≡ leads_size) × ((p : Program) → KeysOf p l.keys l.count → Growing leads_size (LeadAt p) (LeadsRules l.keys l.count) l.initial.leads l.leads l.more)
+invariant-loop-more l =
+    let count = length l.keys in
+    (length l.leads ≡ leads_size)
+    × ((p : Program) → KeysOf p l.keys count
+    → Growing leads_size (LeadAt p) (LeadsRules l.keys count) l.initial.leads l.leads l.more)
 
 abbrev pub decreases-loop-more : goal.decreases-loop-more
 decreases-loop-more l = left leads_size l.leads l.more

@@ -3,11 +3,7 @@
 use Rattle.program.specs.Sizes.{max_routines}
 use Rattle.callgraph.specs.Parts.{together_flag}
 use Rattle.base.proofs.BytesFilled.{Filling}
-use Prim.Native.Nat.{◌-◌}
 use Rattle.callgraph.proofs.graph.component.Given as goal
 
 abbrev pub invariant-loop-g : goal.invariant-loop-g
 invariant-loop-g l = Filling (together_flag l.leads l.f) max_routines l.initial.flags l.flags l.g
-
-abbrev pub decreases-loop-g : goal.decreases-loop-g
-decreases-loop-g l = max_routines - l.g

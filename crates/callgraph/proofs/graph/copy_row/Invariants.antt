@@ -3,11 +3,7 @@
 use Rattle.program.specs.Sizes.{max_routines}
 use Rattle.callgraph.specs.Parts.{copy_lead}
 use Rattle.callgraph.proofs.FlagsClosed.{Turning}
-use Prim.Native.Nat.{◌-◌}
 use Rattle.callgraph.proofs.graph.copy_row.Given as goal
 
 abbrev pub invariant-loop-h : goal.invariant-loop-h
 invariant-loop-h l = Turning (copy_lead l.f l.g) max_routines l.initial.leads l.h l.leads
-
-abbrev pub decreases-loop-h : goal.decreases-loop-h
-decreases-loop-h l = max_routines - l.h

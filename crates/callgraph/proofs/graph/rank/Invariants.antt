@@ -1,12 +1,8 @@
 -- `callgraph::graph::rank` meets its contract. The loop's invariant: `n` is the count of the routines below `g`.
-use Rattle.program.specs.Sizes.{max_routines}
 use Rattle.callgraph.specs.Parts.{rank_below}
-use Prim.Native.Nat.{◌≤◌, ◌-◌}
+use Prim.Native.Nat.{◌≤◌}
 use mathlib.Core.Path.{◌≡◌}
 use Rattle.callgraph.proofs.graph.rank.Given as goal
 
 abbrev pub invariant-loop-g : goal.invariant-loop-g
-invariant-loop-g l = (l.n ≡ rank_below l.leads l.f l.g) × (l.n ≤ l.g) × (l.g ≤ max_routines)
-
-abbrev pub decreases-loop-g : goal.decreases-loop-g
-decreases-loop-g l = max_routines - l.g
+invariant-loop-g l = (l.n ≡ rank_below l.leads l.f l.g) × (l.n ≤ l.g)

@@ -2,11 +2,7 @@
 use Rattle.program.specs.Sizes.{max_routines}
 use Rattle.base.proofs.BytesFilled.{Filling}
 use Rattle.callgraph.specs.Parts.{joined_flag}
-use Prim.Native.Nat.{◌-◌}
 use Rattle.callgraph.proofs.routines.join.Given as goal
 
 abbrev pub invariant-loop-f : goal.invariant-loop-f
-invariant-loop-f l = Filling (joined_flag l.initial.flags l.more) max_routines l.initial.flags l.flags l.f
-
-abbrev pub decreases-loop-f : goal.decreases-loop-f
-decreases-loop-f l = max_routines - l.f
+invariant-loop-f l = Filling (joined_flag l.initial.flags l.b.flags) max_routines l.initial.flags l.flags l.f

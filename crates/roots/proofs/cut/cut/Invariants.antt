@@ -3,11 +3,7 @@
 use Rattle.program.specs.Chosen.{numbers}
 use Rattle.base.proofs.BytesFilled.{Filling}
 use Rattle.roots.specs.Parts.{kept_byte_of}
-use Prim.Native.Nat.{◌-◌}
 use Rattle.roots.proofs.cut.cut.Given as goal
 
 abbrev pub invariant-loop-i : goal.invariant-loop-i
 invariant-loop-i l = Filling (kept_byte_of l.z l.live l.initial.marks) (numbers l.z) l.initial.marks l.marks l.i
-
-abbrev pub decreases-loop-i : goal.decreases-loop-i
-decreases-loop-i l = numbers l.z - l.i

@@ -13,9 +13,12 @@ use Rattle.roots.proofs.live.live_roots.Given as goal
 
 abbrev pub invariant-loop-more : goal.invariant-loop-more
 invariant-loop-more l =
+    let count = length l.keys in
     (length l.flags ≡ roots_size)
-    × ((U : Usable l.z) (A : Admitted l.z) (p : Program) → Ranged l.z p → Started p l.keys l.count l.next l.initial.flags
-    → Growing roots_size (LiveAt l.z U A p l.marks) (RootsRules l.z U A l.marks l.next l.keys l.count) l.initial.flags l.flags l.more)
+    × ((U : Usable l.z) (A : Admitted l.z) (p : Program) → Ranged l.z p
+    → Started p l.keys count l.next l.initial.flags
+    → Growing roots_size (LiveAt l.z U A p l.marks) (RootsRules l.z U A l.marks l.next l.keys count)
+    l.initial.flags l.flags l.more)
 
 abbrev pub decreases-loop-more : goal.decreases-loop-more
 decreases-loop-more l = left roots_size l.flags l.more

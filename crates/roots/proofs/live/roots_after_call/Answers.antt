@@ -1,17 +1,11 @@
-use Rattle.callgraph.proofs.FlagsClosed.{turning_start, turning_turn, turning_end}
+use Rattle.callgraph.proofs.FlagsClosed.{turning_turn, turning_end}
 use native.Mathlib.Omega.{arith}
 use Rattle.roots.proofs.live.roots_after_call.Goals as goal
-
-pub loop-s-init : goal.loop-s-init
-loop-s-init c = turning_start _ _ _
 
 pub loop-s-preserved : goal.loop-s-preserved
 loop-s-preserved c =
     let same = rw (c.has_bit.ensures, c.root_place-to.ensures) at c.copy_when.ensures in
     turning_turn c.loop-s.invariant (omega arith) same c.copy_when.auto.flags
-
-pub shape_of-live : goal.shape_of-live
-shape_of-live c = c.loop-s.invariant.size
 
 pub returns : goal.returns
 returns c =

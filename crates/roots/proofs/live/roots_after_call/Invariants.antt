@@ -3,11 +3,7 @@
 use Rattle.automaton.specs.Sizes.{max_states}
 use Rattle.roots.specs.Parts.{copy_root}
 use Rattle.callgraph.proofs.FlagsClosed.{Turning}
-use Prim.Native.Nat.{◌-◌}
 use Rattle.roots.proofs.live.roots_after_call.Given as goal
 
 abbrev pub invariant-loop-s : goal.invariant-loop-s
 invariant-loop-s l = Turning (copy_root l.set l.from l.g) max_states l.initial.live l.s l.live
-
-abbrev pub decreases-loop-s : goal.decreases-loop-s
-decreases-loop-s l = max_states - l.s

@@ -25,8 +25,8 @@ is_line-requires c =
     let n : c.frame_line-l.result.count ≡ 5 = ap (λ (l : Line). l.count) c.frame_line-l.ensures in
     omega arith
 
-pub returns : goal.returns
-returns c =
+pub returns-else-s-at-lt-LINE_SIZE : goal.returns-else-s-at-lt-LINE_SIZE
+returns-else-s-at-lt-LINE_SIZE c =
     let z = c.args in
     let e : z.at + 11 - z.at ≡ 11 = omega arith in
     c.is_line.ensures
