@@ -17,7 +17,7 @@ ghost use Rattle.writer.specs.Answers.{refusal};
 ghost use Rattle.analysis.specs.Answers.{owned};
 ghost use Rattle.repair.specs.Repairs.{afterwards, zeroed, changed_by, measured, measured_by, wanted_by, repaired, plain};
 ghost use Rattle.repair.specs.Repairs.{reanalyzed, InsideOutNumber};
-ghost use Rattle.program.specs.Refusals.{verdict_by};
+ghost use Rattle.analysis.specs.Owned.{verdict_met};
 ghost use Rattle.writer.specs.WriteAnswers.{write_answer_by};
 ghost use Rattle.repair.specs.RepairAnswers.{repair_answer_by};
 ghost use Rattle.rewrite.specs.Parts.{Measured};
@@ -33,7 +33,7 @@ use exchange_text::wanted_exchange;
 use program::chosen::sizes_of;
 use program::sizes::Sizes;
 use program::DecodedProgram;
-use program::refusal::RefusedAt;
+use program::refusal::{Refusal, RefusedAt};
 use reader::read;
 use repair::Repair;
 use stages::{clear_whole, mend_exchange};
@@ -49,11 +49,11 @@ struct SizedExchange {
 
 // Marks that are not the program's own are refused (17), by an analysis in a part of the working buffer, which is all
 // zero afterwards. The caller has measured the buffers: hence the `requires`.
-fn check_own_within(p: DecodedProgram, marks: &[u8], work: &mut [u8]) -> Result<(), RefusedAt>
+fn check_own_within(p: DecodedProgram, marks: &[u8], work: &mut [u8]) -> Result<(), Refusal>
     requires well_formed { WellFormed (program_of p) }
     requires marks_len { (length marks.now ≡ numbers (sizes_of (program_of p)))
         × (numbers (sizes_of (program_of p)) ≤ length work.old) }
-    ensures { (verdict_by result ≡ owned (program_of p) marks.now) × (work.new ≡ zeroed work.old) }
+    ensures { (verdict_met result ≡ owned (program_of p) marks.now) × (work.new ≡ zeroed work.old) }
 {
     let size = marks.len();
     let own = check_own(p, marks, &mut work[..size]);
