@@ -1,5 +1,5 @@
 -- The lines of a block and of refusals, put into an output.
-use mathlib.Core.Path.{◌≡◌, refl, subst, ◌∙◌}
+use mathlib.Core.Path.{◌≡◌, refl, sym, subst, ◌∙◌}
 use mathlib.Core.List.{List, [], ◌∷◌, map}
 use Prim.Native.Nat.{ℕ, ◌+◌, ◌*◌, ◌<◌, ◌≤◌}
 use native.Mathlib.Nat.{zero-add}
@@ -17,11 +17,11 @@ use Rattle.program.specs.Chosen.{sizes_of, numbers, Admitted}
 use Rattle.program.specs.Program.{Program}
 use Rattle.program.specs.Writing.{text}
 use Rattle.program.specs.Decoded.{program_of}
-use Rattle.program.specs.Verdicts.{Verdict}
 use Rattle.program.specs.Verdicts as verdict
 use Rattle.std.specs.Prelude.{None, Some}
-use Rattle.checks.specs.Checked.{Checked}
-use Rattle.program.specs.declared.Reading.{Reading}
+use Rattle.checks.specs.Checked.{Passed}
+use Rattle.program.specs.Checks.{checked}
+use Rattle.program.specs.declared.DecodedProgram.{DecodedProgram}
 use Rattle.reach.specs.Configurations.{Usable, state_of}
 use Rattle.reach.proofs.Numbers.{state_small}
 use Rattle.reach.specs.Marks.{violations_from}
@@ -83,7 +83,12 @@ pub whole_block : {out : List ℕ} {r : ℕ} {Z : Sizes} (p : Program) (marks o 
 whole_block {out} {r} p marks o e h x =
     rw (le-ltb (length o) block_size h) (subst (λ (z : Sizes). Printed (block_at z p marks) o out r) e x)
 
-pub block-text : (file marks : List ℕ) (room : ℕ) {r : Reading} → Checked file (Some (length marks)) None None r → {v : Verdict} → r.verdict ≡ v
-    → block_text file marks room ≡ block_by v (program_of r.program) marks room
-unfolding block_text
-block-text file marks room k h = rw (← k.verdict, h, k.program)
+module _ (file marks : List ℕ) (room : ℕ) where
+  pub refused_block : (n line : ℕ) → verdict.Refused n line ≡ checked file (Some (length marks)) None None → block_text file marks room ≡ []
+  unfolding block_text
+  refused_block n line h = rw (← h) refl
+
+  pub accepted_block : (p : DecodedProgram) → Passed file (Some (length marks)) None None p → verdict.Accepted ≡ checked file (Some (length marks)) None None
+      → block_text file marks room ≡ block_by verdict.Accepted (program_of p) marks room
+  unfolding block_text
+  accepted_block p k h = sym (λ i. block_by (h i) (k.program i) marks room)

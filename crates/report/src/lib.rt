@@ -5,13 +5,14 @@ mod put;
 
 ghost use Rattle.std.specs.Prelude.{◌≡◌, [], ◌∷◌, ◌/◌, ◌%◌, length};
 ghost use Rattle.text.specs.Lines.{line_of};
+ghost use Rattle.program.specs.Refusals.{number};
 ghost use Rattle.report.specs.Report.{block_text, edit_refusal, file_refusal, Printed};
 
 use checks::checked_program;
 use listing::LINE_SIZE;
 use program::chosen::sizes_of;
+use program::refusal::{Refusal, RefusedAt};
 use program::sizes::MARKS_MOST;
-use program::{Length, Verdict};
 use put::put_block;
 use text::{Line, put_line};
 
@@ -23,18 +24,13 @@ pub fn block(file: &[u8], marks: &[u8], output: &mut [u8]) -> usize
     ensures { Printed (block_text file.now marks.now (length output.old))
         output.old output.new result }
 {
-    let marks_length = Some(marks.len());
-    let r = checked_program(file, marks_length, None, None);
-    let v = r.verdict;
-    match v {
-        Verdict::Refused(_n, _line) => 0,
-        Verdict::Accepted => {
-            if output.len() < BLOCK_SIZE {
-                return 0;
-            }
-            let p = r.program;
-            put_block(sizes_of(p), p, marks, output)
-        }
+    let Ok(p) = checked_program(file, Some(marks.len()), None, None) else {
+        return 0;
+    };
+    if output.len() < BLOCK_SIZE {
+        0
+    } else {
+        put_block(sizes_of(p), p, marks, output)
     }
 }
 
@@ -62,25 +58,27 @@ fn file_refusal_line(n: u8, line: usize) -> Line
 }
 
 // The line of a refused edit.
-pub fn edit_refusal(n: u8, output: &mut [u8]) -> usize
-    ensures { Printed (edit_refusal n (length output.old)) output.old
+pub fn edit_refusal(refusal: Refusal, output: &mut [u8]) -> usize
+    ensures { Printed (edit_refusal (number refusal) (length output.old)) output.old
         output.new result }
 {
     if output.len() < LINE_SIZE {
-        return 0;
+        0
+    } else {
+        let l = edit_refusal_line(refusal.number());
+        put_line(output, 0, l)
     }
-    let l = edit_refusal_line(n);
-    put_line(output, 0, l)
 }
 
 // The line of a refused file.
-pub fn file_refusal(n: u8, line: usize, output: &mut [u8]) -> usize
-    ensures { Printed (file_refusal n line (length output.old)) output.old
+pub fn file_refusal(refused: RefusedAt, output: &mut [u8]) -> usize
+    ensures { Printed (file_refusal (number refused.refusal) refused.line (length output.old)) output.old
         output.new result }
 {
     if output.len() < LINE_SIZE {
-        return 0;
+        0
+    } else {
+        let l = file_refusal_line(refused.refusal.number(), refused.line);
+        put_line(output, 0, l)
     }
-    let l = file_refusal_line(n, line);
-    put_line(output, 0, l)
 }

@@ -3,7 +3,8 @@ use mathlib.Core.Path.{◌≡◌, refl, sym, ap, ◌∙◌}
 use mathlib.Core.Logic.{◌⊎◌, inl, inr, ⊎_elim}
 use mathlib.Core.Bool.{Bool, true, false}
 use mathlib.Core.List.{List, ◌++◌}
-use Prim.Native.Nat.{ℕ, ◌+◌, ◌-◌, ◌<◌, ◌≤◌}
+use Prim.Native.Nat.{ℕ, ◌+◌, ◌-◌, ◌<◌, ◌≤◌, min}
+use native.Mathlib.Decide.{dec_lt}
 use native.Mathlib.Omega.{arith}
 use lib.Dec.{ltb}
 use lib.ListN.{length, take, drop, drop_of_length-le}
@@ -18,10 +19,10 @@ use Rattle.transcript.specs.Parts.{Within}
 
 -- ---- a count of bytes
 
-pub few : (n : ℕ) (l : List ℕ) → n < length l → Within n l n
+few : (n : ℕ) (l : List ℕ) → n < length l → Within n l n
 few n l h = record { inside = omega arith; counted = sym (length-take-le n l (omega arith)); front = refl; rest = refl }
 
-pub all : (n : ℕ) (l : List ℕ) → length l ≤ n → Within n l (length l)
+all : (n : ℕ) (l : List ℕ) → length l ≤ n → Within n l (length l)
 all n l h =
     record {
       inside = omega arith;
@@ -29,6 +30,13 @@ all n l h =
       front = take-length l ∙ sym (take_all n l h);
       rest = drop-length l ∙ sym (drop_of_length-le l h);
     }
+
+pub counted : (n : ℕ) (l : List ℕ) → Within n l (min n (length l))
+counted n l =
+    elim (dec_lt n (length l)) [
+      | yes h ↦ let e : min n (length l) ≡ n = omega arith in rw e (few n l h)
+      | no h ↦ let e : min n (length l) ≡ length l = omega arith in rw e (all n l (omega arith))
+    ]
 
 -- ---- a copy, and a text at an output's start
 

@@ -35,10 +35,7 @@ pub struct Turn {
 pub fn within(n: usize, bytes: &[u8]) -> usize
     ensures { Within n bytes.now result }
 {
-    if n < bytes.len() {
-        return n;
-    }
-    bytes.len()
+    n.min(bytes.len())
 }
 
 // A copy of a file, with its marks. No file that is held is longer than an input may be: hence the `requires`.
@@ -61,9 +58,7 @@ pub fn put_held(held: Held, out: &mut [u8; BLOCK_SIZE]) -> usize
     ensures { Printed (block_text (held_of held).file (held_of held).marks block_size) out.old
         out.new result }
 {
-    let file = held.file;
-    let marks = held.marks;
-    let used = within(held.used, &file);
-    let size = within(held.size, &marks);
-    report::block(&file[..used], &marks[..size], out)
+    let used = within(held.used, &held.file);
+    let size = within(held.size, &held.marks);
+    report::block(&held.file[..used], &held.marks[..size], out)
 }

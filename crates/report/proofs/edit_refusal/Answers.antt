@@ -15,9 +15,9 @@ put_line-requires c =
     let n : c.edit_refusal_line-l.result.count ≡ 2 = ap (λ (l : Line). l.count) c.edit_refusal_line-l.ensures in
     omega arith
 
-pub returns : goal.returns
-returns c =
+pub returns-else-output-lt-LINE_SIZE : goal.returns-else-output-lt-LINE_SIZE
+returns-else-output-lt-LINE_SIZE c =
     let e = c.edit_refusal_line-l.ensures in
-    let a = c.args in
-    line_printed a.output.now c.edit_refusal_line-l.result (0x21 ∷ a.n ∷ [])
-    (ap (λ (x : Line). x.count) e) (ap (λ (x : Line). take x.count x.numbers) e) (omega arith) c.if-output-lt-LINE_SIZE.false (c.put_line.ensures.value, c.put_line.ensures.out_after)
+    rw (← c.number.ensures)
+    (line_printed c.args.output.now c.edit_refusal_line-l.result (0x21 ∷ c.number.result ∷ [])
+    (ap (λ (x : Line). x.count) e) (ap (λ (x : Line). take x.count x.numbers) e) (omega arith) c.if-output-lt-LINE_SIZE.false (c.put_line.ensures.value, c.put_line.ensures.out_after))

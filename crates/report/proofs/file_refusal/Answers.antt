@@ -16,9 +16,10 @@ put_line-requires c =
     let n : c.file_refusal_line-l.result.count ≡ 4 = ap (λ (l : Line). l.count) c.file_refusal_line-l.ensures in
     omega arith
 
-pub returns : goal.returns
-returns c =
+pub returns-else-output-lt-LINE_SIZE : goal.returns-else-output-lt-LINE_SIZE
+returns-else-output-lt-LINE_SIZE c =
     let e = c.file_refusal_line-l.ensures in
-    let a = c.args in
-    line_printed a.output.now c.file_refusal_line-l.result (0x21 ∷ a.n ∷ a.line % 65536 / 256 ∷ a.line % 65536 % 256 ∷ [])
-    (ap (λ (x : Line). x.count) e) (ap (λ (x : Line). take x.count x.numbers) e) (omega arith) c.if-output-lt-LINE_SIZE.false (c.put_line.ensures.value, c.put_line.ensures.out_after)
+    let line = c.args.refused.line in
+    rw (← c.number.ensures)
+    (line_printed c.args.output.now c.file_refusal_line-l.result (0x21 ∷ c.number.result ∷ line % 65536 / 256 ∷ line % 65536 % 256 ∷ [])
+    (ap (λ (x : Line). x.count) e) (ap (λ (x : Line). take x.count x.numbers) e) (omega arith) c.if-output-lt-LINE_SIZE.false (c.put_line.ensures.value, c.put_line.ensures.out_after))
