@@ -12,10 +12,10 @@ ghost use Rattle.outcome.specs.Outcome.{outcome_of};
 
 use automaton::DecodedAutomaton;
 use automaton::transitions::Transitions;
+use program::DecodedProgram;
 use program::chosen::sizes_of;
 use program::refusal::{Refusal, RefusedAt};
 use program::sizes::{MARKS_MOST, length_of};
-use program::DecodedProgram;
 use rows::{Rows, row_count, table_of};
 
 // The program with the transitions of its table.
