@@ -1,32 +1,29 @@
 -- `additions::add_routine_inside_out` meets its contract.
-use Rattle.additions.proofs.MarksGained.{copy_room}
-use Rattle.exchange.specs.Changing.{emptied}
-use Rattle.program.specs.Sizes.{marks_most}
-use Rattle.program.specs.Chosen.{numbers}
+use Rattle.additions.proofs.MarksGained.{grown_flags}
+use Rattle.exchange.specs.Changing.{emptied, exchanged_program}
+use Rattle.exchange.specs.Decoded.{exchange_of}
+use Rattle.forward.specs.Parts.{Repaired}
 use Rattle.program.specs.Decoded.{program_of}
 use Rattle.reach.proofs.ShapeKept.{marks-length}
-use Prim.Native.Nat.{◌≤◌}
-use native.Mathlib.Omega.{arith}
 use lib.ListN.{length}
-use mathlib.Core.Path.{◌≡◌, sym, ap, ◌∙◌}
+use mathlib.Core.Path.{ap, ◌∙◌}
+use borrow.Author.Rules.{rules}
 use Rattle.additions.proofs.add_routine_inside_out.Goals as goal
-use Rattle.additions.proofs.add_routine_inside_out.Goals.{Start}
 
-long : (z : Start) → length z.args.marks.now ≡ numbers z.args.z
-long z = ap length z.requires.marks_value.0 ∙ marks-length z.args.z z.requires.well_formed.2.usable (emptied z.args.x.routine (program_of z.args.p))
-
-fits : (z : Start) → length z.args.marks.now ≤ marks_most
-fits z = omega (arith, long z, z.requires.well_formed.2.admitted.product)
-
-pub slice_bounds-past-end : goal.slice_bounds-past-end
-slice_bounds-past-end c = fits (goal.at.slice_bounds-past-end c).Start
-
-pub slice_bounds-add_routine_beside-end : goal.slice_bounds-add_routine_beside-end
-slice_bounds-add_routine_beside-end c = copy_room _ (fits (goal.at.slice_bounds-add_routine_beside-end c).Start)
-
-pub add_routine_beside-requires : goal.add_routine_beside-requires
-add_routine_beside-requires c =
-    record { well_formed = c.requires.well_formed; marks_value = (c.requires.marks_value.0, c.requires.marks_value.1, sym (copy_room _ (fits (goal.at.add_routine_beside-requires c).Start)) ∙ long (goal.at.add_routine_beside-requires c).Start) }
+-- which of the two buffers is copied is for `returns` to tell
+pub beside-requires-clause-sized : goal.beside-requires-clause-sized
+beside-requires-clause-sized c =
+    let d = c.requires.well_formed.2 in
+    let p = emptied c.args.x.routine (program_of c.args.p) in
+    let m = ap length c.requires.marks_value.0 ∙ marks-length c.args.z d.usable p in
+    (d.usable, d.admitted, search (rules, m), search (rules, m))
 
 pub returns : goal.returns
-returns c = c.add_routine_beside.ensures
+returns c =
+    let p = program_of c.args.p in
+    let w = c.requires.well_formed in
+    let p' = exchanged_program (exchange_of c.args.x) p in
+    let r : Repaired c.args.z p' (program_of c.beside.result.program) c.beside.new.marks c.beside.new.work =
+    search rules in
+    let o = c.requires.marks_value.0 in
+    (r, grown_flags w.2.usable (emptied c.args.x.routine p) p' w.2.ranged w.3.ranged o r c.beside.ensures.told)

@@ -1,32 +1,32 @@
 -- `additions::add_step_inside_out` meets its contract.
-use Rattle.additions.proofs.MarksGained.{copy_room}
-use Rattle.forward.proofs.ChangedMarks.{own_sized}
-use Rattle.program.specs.Sizes.{marks_most}
-use Rattle.program.specs.Chosen.{numbers}
+use Rattle.additions.proofs.MarksGained.{grown_flags}
+use Rattle.forward.proofs.ChangedMarks.{own_sized, edited_sizes}
+use Rattle.forward.specs.Parts.{Repaired}
+use Rattle.edit.proofs.Theorems.{applied_well_formed}
+use Rattle.edit.specs.Editing.{edited_program}
+use Rattle.edit.specs.declared.Edit.TheVariants.{Add}
 use Rattle.program.specs.Decoded.{program_of}
 use Rattle.reach.proofs.ShapeKept.{marks-length}
-use Prim.Native.Nat.{◌≤◌}
-use native.Mathlib.Omega.{arith}
 use lib.ListN.{length}
-use mathlib.Core.Path.{◌≡◌, sym, ap, ◌∙◌}
+use mathlib.Core.Path.{ap, ◌∙◌}
+use borrow.Author.Rules.{rules}
 use Rattle.additions.proofs.add_step_inside_out.Goals as goal
-use Rattle.additions.proofs.add_step_inside_out.Goals.{Start}
 
-long : (z : Start) → length z.args.marks.now ≡ numbers z.args.z
-long z = ap length z.requires.marks_value.0 ∙ marks-length z.args.z (own_sized _ z.requires.well_formed.2 z.requires.well_formed.0).usable (program_of z.args.p)
-
-fits : (z : Start) → length z.args.marks.now ≤ marks_most
-fits z = omega (arith, long z, (own_sized _ z.requires.well_formed.2 z.requires.well_formed.0).admitted.product)
-
-pub slice_bounds-old-end : goal.slice_bounds-old-end
-slice_bounds-old-end c = fits (goal.at.slice_bounds-old-end c).Start
-
-pub slice_bounds-add_step_beside-end : goal.slice_bounds-add_step_beside-end
-slice_bounds-add_step_beside-end c = copy_room _ (fits (goal.at.slice_bounds-add_step_beside-end c).Start)
-
-pub add_step_beside-requires : goal.add_step_beside-requires
-add_step_beside-requires c =
-    record { well_formed = c.requires.well_formed; marks_value = (c.requires.marks_value.0, c.requires.marks_value.1, sym (copy_room _ (fits (goal.at.add_step_beside-requires c).Start)) ∙ long (goal.at.add_step_beside-requires c).Start) }
+-- which of the two buffers is copied is for `returns` to tell
+pub beside-requires-clause-sized : goal.beside-requires-clause-sized
+beside-requires-clause-sized c =
+    let d = own_sized _ c.requires.well_formed.2 c.requires.well_formed.0 in
+    let m = ap length c.requires.marks_value.0 ∙ marks-length c.args.z d.usable (program_of c.args.p) in
+    (d.usable, d.admitted, search (rules, m), search (rules, m))
 
 pub returns : goal.returns
-returns c = c.add_step_beside.ensures
+returns c =
+    let p = program_of c.args.p in
+    let e = Add c.args.s in
+    let w = c.requires.well_formed in
+    let d = own_sized p w.2 w.0 in
+    let d' = own_sized _ (edited_sizes e p w.2) (applied_well_formed e p w.0 w.1) in
+    let p' = edited_program e p in
+    let r : Repaired c.args.z p' (program_of c.beside.result.program) c.beside.new.marks c.beside.new.work =
+    search rules in
+    (r, grown_flags d.usable p p' d.ranged d'.ranged c.requires.marks_value.0 r c.beside.ensures.told)
