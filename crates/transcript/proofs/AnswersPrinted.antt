@@ -23,7 +23,6 @@ use Rattle.std.specs.Prelude.{None, Some}
 use Rattle.program.proofs.Theorems.{read_again, few_lines, accepted_well_formed}
 use Rattle.program.proofs.ChecksPassed.{passes}
 use Rattle.writer.specs.WriteAnswers.{WriteAnswer}
-use Rattle.writer.specs.WriteAnswers.{Written, Refused}
 use Rattle.reach.specs.Sizes.{summaries, enough_iterations}
 use Rattle.reach.specs.Marks.{fresh_marks}
 use Rattle.reach.proofs.ShapeKept.{marks-length}
@@ -65,9 +64,6 @@ unchecked file = go (read_file file).verdict
     go verdict.Accepted = refl
     go (verdict.Refused n line) = refl
 
-pub not_both : {v : Verdict} {n line : ℕ} → v ≡ verdict.Accepted → v ≡ verdict.Refused n line → ⊥
-not_both a r = let z : ◌≡◌ {A = ℕ} 0 1 = cc in omega arith
-
 -- no admitted sizes need more iterations
 pub most-iterations : {Z : Sizes} → Admitted Z → enough_iterations Z ≤ most_iterations
 unfolding enough_iterations
@@ -101,14 +97,6 @@ module _ (file marks work : List ℕ) (m : (read_file file).verdict ≡ verdict.
       go : (v : Verdict) → analyzed.Refused n line ≡ analyze_by v (read_file file).program → v ≡ verdict.Refused n line
       go verdict.Accepted x = absurd (let z : ◌≡◌ {A = ℕ} 0 1 = cc in omega arith)
       go (verdict.Refused i at) x = cc
-
-  pub analyze_accepts : {a b c : ℕ} → analyzed.Counts a b c ≡ analyze_answer file marks work most_iterations → (read_file file).verdict ≡ verdict.Accepted
-  unfolding analyze_answer
-  analyze_accepts {a} {b} {c} e = go (read_file file).verdict (rw is_verdict at e)
-    where
-      go : (v : Verdict) → analyzed.Counts a b c ≡ analyze_by v (read_file file).program → v ≡ verdict.Accepted
-      go verdict.Accepted x = refl
-      go (verdict.Refused i at) x = absurd (let z : ◌≡◌ {A = ℕ} 0 1 = cc in omega arith)
 
   pub fresh_after : (read_file file).verdict ≡ verdict.Accepted → marks_after file marks work most_iterations ≡ fresh_marks (read_file file).program
   unfolding marks_after
@@ -160,13 +148,6 @@ module _ (line : List ℕ) (d : Desk) where
           (passes d.file (Some (length d.marks)) (Some (length no_output)) (Some (length (no_work (length d.marks)))) h).well_formed refl
 
 -- ---- what is held next
-
--- the next file: a copy of what an accepted repair wrote, or the file as it was
-pub file_stays : {a : WriteAnswer} {n at : ℕ} (output file : List ℕ) → a ≡ Refused n at → file ≡ file_by a output file
-file_stays output file h = rw h
-
-pub file_wrote : {a : WriteAnswer} {n r : ℕ} {output : List ℕ} (file : List ℕ) → a ≡ Written n → Within n output r → take r output ≡ file_by a output file
-file_wrote file h w = rw h w.front
 
 -- what was lent of an array, in its place again
 pub front_part : {n : ℕ} (part rest : List ℕ) → length part ≡ n → take n (part ++ rest) ≡ part

@@ -42,14 +42,13 @@ module _ (input old : List ℕ) {new : List ℕ} where
         let v' : (read_file (file_of input)).verdict ≡ verdict.Refused n line = rw e at v in
         rw v' (record { printed = rw (k.0, ← refusal_is (file_of input) n line v') g; next = k.1.0; held = k.1.1 })
 
-    pub gives_block : {h : Held} {size : ℕ} {marks : List ℕ} → (read_file (take end input)).verdict ≡ verdict.Accepted
-        → marks ≡ fresh_marks (read_file (take end input)).program
-        → held_of h ≡ record { file = take end input; marks = marks }
+    pub gives_block : {h : Held} {size : ℕ} → (read_file (take end input)).verdict ≡ verdict.Accepted
+        → held_of h ≡ started (take end input)
         → Printed (block_text (held_of h).file (held_of h).marks 180235) old new size
         → TurnGives (begun_by (read_file (file_of input)).verdict (read_file (file_of input)).program input) old new (record { size = size; next = end; held = h })
-    gives_block {h} {size} {marks} v m k g =
+    gives_block {h} {size} v k g =
         let v' : (read_file (file_of input)).verdict ≡ verdict.Accepted = rw e at v in
-        let k' : held_of h ≡ started (file_of input) = k ∙ rw (m, e) in
+        let k' : held_of h ≡ started (file_of input) = k ∙ rw e in
         let p = (read_file (file_of input)).program in
         let b = block_is (file_of input) (fresh_marks p) v' (marks-length (sizes_of p) (usable p (accepted_well_formed (file_of input) v')) p) in
         let g' = subst (λ (d : Desk). Printed (block_text d.file d.marks 180235) old new size) k' g in

@@ -14,5 +14,5 @@ overflow_add-past c =
 pub returns : goal.returns
 returns c =
     let a = c.args in
-    gives_turn a.input.now a.out.now a.at (held_of a.held) c.line_size.ensures c.line_at-line.ensures c.edit_held-edited.ensures
-    c.put_edited-size.ensures
+    gives_turn a.input.now a.out.now a.at (held_of a.held) c.line_size.ensures c.line_at.ensures c.edit_held-edited.ensures
+    c.put_edited.ensures
