@@ -14,7 +14,7 @@ use crate::{Edit, Step};
 use program::edges::Edges;
 use program::refusal::Refusal;
 use program::sizes::MAX_EDGES;
-use tables::has_key;
+use tables::{has_key, in_use};
 
 // By whether the old edge is there, whether the new one is, and whether the table is full.
 fn refusal_by(e: Edit, old: bool, new: bool, full: bool) -> Result<(), Refusal>
@@ -33,7 +33,7 @@ fn has_step(t: Edges, s: Step) -> bool
     requires { Bytes (edge_frame (edge_of_step s)) }
     ensures { result ≡ has_edge (edge_of_step s) (map edge_of (edge_keys_of t)) }
 {
-    has_key(&t.keys, t.count, step_key(s))
+    has_key(&t.keys[..in_use(t.count, MAX_EDGES)], step_key(s))
 }
 
 // 14: drop or replace, and the step is not there; 15: add or replace, and the wanted step is there; 16: add, and the

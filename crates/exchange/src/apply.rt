@@ -76,7 +76,7 @@ pub fn exchanged(p: DecodedProgram, x: DecodedExchange) -> DecodedProgram
     ensures { program_of result ≡ exchanged_program (exchange_of x) (program_of p) }
 {
     let rest = others_of(p.edges, x.routine);
-    let at = first_from(&rest.keys, rest.count, first_key(x.routine as u32));
+    let at = first_from(&rest.keys[..rest.count], first_key(x.routine as u32));
     let edges = joined(rest, at, x.edges);
     let nodes = with_nodes(p.nodes, x.routine, x.nodes);
     DecodedProgram { nodes, edges, ..p }

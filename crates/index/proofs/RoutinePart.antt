@@ -1,12 +1,11 @@
 -- The edges of one routine are a part of the table of edges, since the table ascends.
 use Prim.Native.Nat.{ℕ, zero, suc, min, ◌+◌, ◌-◌, ◌≤◌, ◌<◌}
-use mathlib.Core.Path.{◌≡◌, refl, sym, ap, ◌∙◌}
+use mathlib.Core.Path.{◌≡◌, sym, ap}
 use mathlib.Core.Logic.{◌≢◌}
 use mathlib.Core.List.{List, [], ◌∷◌, map}
 use native.Mathlib.Omega.{arith}
 use native.Mathlib.Decide.{ℕ_discrete}
-use lib.ListN.{length, get_or, take, drop, length-take}
-use lib.Seq.{get_or-take, take-take}
+use lib.ListN.{length, get_or, take}
 use Rattle.program.specs.Sizes.{max_edges}
 use Rattle.program.specs.Frames.{edge_key}
 use Rattle.tables.specs.Keys.{Ascending}
@@ -39,19 +38,13 @@ rising low (k ∷ ks) a (suc i) (suc j) l h = rising (edge_key (edge_of k)) ks a
 
 -- ---- of the keys in use
 
-in_use_part : (n a c : ℕ) (l : List ℕ) → a + n ≤ c → take n (drop a (take c l)) ≡ take n (drop a l)
-in_use_part n zero c l h = take-take n c l (omega arith)
-in_use_part n (suc a) zero l h = absurd (omega arith)
-in_use_part n (suc a) (suc c) [] h = refl
-in_use_part n (suc a) (suc c) (x ∷ l) h = in_use_part n a c l (omega arith)
-
 -- the keys in use are the edges of the program
 pub table_edges : (d : DecodedProgram) → length d.edges.keys ≡ max_edges → {u : ℕ} → u ≡ min d.edges.count max_edges
     → (program_of d).edges ≡ map edge_of (take u d.edges.keys)
 table_edges d room e = ap (map edge_of) (sym (in_use_same d.edges.count d.edges.keys room e))
 
 -- the part from where the routines not below f begin to where those not below f + 1 do
-module _ {keys : List ℕ} {count f a b : ℕ} (x : FirstOf keys count f a) (y : FirstOf keys count (f + 1) b) where
+module _ {ks : List ℕ} {f a b : ℕ} (x : FirstOf ks (length ks) f a) (y : FirstOf ks (length ks) (f + 1) b) where
   pub part_starts : a ≤ b
   part_starts =
       elim (ℕ_discrete (a - b) 0) [
@@ -59,35 +52,14 @@ module _ {keys : List ℕ} {count f a b : ℕ} (x : FirstOf keys count f a) (y :
         | no e ↦ absurd (omega (arith, x.below b (omega arith), y.not-below (omega (arith, x.within))))
       ]
 
-  pub part_in_use : take (b - a) (drop a (take count keys)) ≡ take (b - a) (drop a keys)
-  part_in_use = in_use_part (b - a) a count keys (omega (arith, part_starts, y.within))
+  pub before_part : (j : ℕ) → j < a → routine_at ks j ≢ f
+  before_part j h = λ e. omega (arith, x.below j h)
 
-  module _ (fits : count ≤ length keys) where
-    abbrev ks : List ℕ
-    ks = take count keys
+  module _ (up : Ascending 0 (map edge_key (map edge_of ks))) where
+    pub in_part : (j : ℕ) → a ≤ j → j < b → routine_at ks j ≡ f
+    in_part j l h =
+        let k : j < length ks = omega (arith, y.within) in
+        omega (arith, y.below j h, x.not-below (omega arith), rising 0 ks up a j l k)
 
-    len : length ks ≡ count
-    len = length-take count keys ∙ omega arith
-
-    at : (j : ℕ) → j < count → routine_at ks j ≡ routine_at keys j
-    at j h = ap (λ (k : ℕ). (edge_of k).routine) (get_or-take count keys j 0 h)
-
-    pub part_ends : b ≤ length ks
-    part_ends = omega (arith, len, y.within)
-
-    pub before_part : (j : ℕ) → j < a → routine_at ks j ≢ f
-    before_part j h = λ e. omega (arith, at j (omega (arith, x.within)), x.below j h)
-
-    module _ (up : Ascending 0 (map edge_key (map edge_of ks))) where
-      routines_rise : (i j : ℕ) → i ≤ j → j < count → routine_at keys i ≤ routine_at keys j
-      routines_rise i j l h = omega (arith, rising 0 ks up i j l (omega (arith, len)), at i (omega arith), at j h)
-
-      pub in_part : (j : ℕ) → a ≤ j → j < b → routine_at ks j ≡ f
-      in_part j l h =
-          let k : j < count = omega (arith, y.within) in
-          omega (arith, at j k, y.below j h, x.not-below (omega arith), routines_rise a j l k)
-
-      pub after_part : (j : ℕ) → b ≤ j → j < length ks → routine_at ks j ≢ f
-      after_part j l h =
-          let k : j < count = omega (arith, len) in
-          λ e. omega (arith, at j k, y.not-below (omega arith), routines_rise b j l k)
+    pub after_part : (j : ℕ) → b ≤ j → j < length ks → routine_at ks j ≢ f
+    after_part j l h = λ e. omega (arith, y.not-below (omega arith), rising 0 ks up b j l h)

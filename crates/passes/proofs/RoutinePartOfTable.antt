@@ -1,6 +1,6 @@
 -- The edges of one routine, as a program's list of them, are a part of the table of edges.
 use Prim.Native.Nat.{ℕ, zero, suc, min, ◌+◌, ◌-◌, ◌≤◌, ◌<◌}
-use mathlib.Core.Path.{◌≡◌, sym, ap, subst, ◌∙◌}
+use mathlib.Core.Path.{◌≡◌, ap}
 use mathlib.Core.Bool.{Bool, true, false}
 use mathlib.Core.List.{List, [], ◌∷◌, map}
 use native.Mathlib.Omega.{arith}
@@ -14,7 +14,7 @@ use Rattle.tables.specs.Keys.{Ascending}
 use Rattle.program.specs.Decoded.{edge_of}
 use Rattle.base.proofs.EntriesInUse.{in_use_same}
 use Rattle.index.specs.Part.{FirstOf}
-use Rattle.index.proofs.RoutinePart.{routine_at, part_starts, part_in_use, part_ends, before_part, in_part, after_part}
+use Rattle.index.proofs.RoutinePart.{routine_at, part_starts, before_part, in_part, after_part}
 use Rattle.passes.specs.Passes.{edges_of}
 use Rattle.passes.specs.PassParts.{is}
 
@@ -41,21 +41,19 @@ part_of c (k ∷ ks) zero (suc b) l h low mid high =
     let s : suc b - 0 ≡ suc b = omega arith in
     rw (mid 0 (omega arith) (omega arith), s) (ap (λ (es : List Edge). edge_of k ∷ es) (rw (sub-zero b) at e))
 
-module _ {keys : List ℕ} {count f a b : ℕ} (x : FirstOf keys count f a) (y : FirstOf keys count (f + 1) b) (fits : count ≤ length keys)
-    (up : Ascending 0 (map edge_key (map edge_of (take count keys)))) where
-  routine_part : edges_of (is f) (map edge_of (take count keys)) ≡ map edge_of (take (b - a) (drop a keys))
+module _ {ks : List ℕ} {f a b : ℕ} (x : FirstOf ks (length ks) f a) (y : FirstOf ks (length ks) (f + 1) b)
+    (up : Ascending 0 (map edge_key (map edge_of ks))) where
+  routine_part : edges_of (is f) (map edge_of ks) ≡ map edge_of (take (b - a) (drop a ks))
   routine_part =
-      let ks = take count keys in
-      part_of (is f) ks a b (part_starts x y) (part_ends x y fits)
-      (λ j h. ne_eqb (routine_at ks j) f (before_part x y fits j h))
-      (λ j l h. eq-eqb (routine_at ks j) f (in_part x y fits up j l h))
-      (λ j l h. ne_eqb (routine_at ks j) f (after_part x y fits up j l h))
-      ∙ ap (map edge_of) (part_in_use x y)
+      part_of (is f) ks a b (part_starts x y) y.within (λ j h. ne_eqb (routine_at ks j) f (before_part x y j h))
+      (λ j l h. eq-eqb (routine_at ks j) f (in_part x y up j l h))
+      (λ j l h. ne_eqb (routine_at ks j) f (after_part x y up j l h))
 
 -- the keys of a table: a count above its size means all of them
-module _ {keys : List ℕ} (n : ℕ) {u f a b : ℕ} (room : length keys ≡ max_edges) (e : u ≡ min n max_edges) (x : FirstOf keys u f a) (y : FirstOf keys u (f + 1) b) where
-  pub routine_edges : Ascending 0 (map edge_key (map edge_of (take n keys))) → edges_of (is f) (map edge_of (take n keys)) ≡ map edge_of (take (b - a) (drop a keys))
+module _ (keys : List ℕ) (n : ℕ) {u f a b : ℕ} (room : length keys ≡ max_edges) (e : u ≡ min n max_edges)
+    (x : FirstOf (take u keys) (length (take u keys)) f a) (y : FirstOf (take u keys) (length (take u keys)) (f + 1) b) where
+  pub routine_edges : Ascending 0 (map edge_key (map edge_of (take n keys)))
+      → edges_of (is f) (map edge_of (take n keys)) ≡ map edge_of (take (b - a) (drop a (take u keys)))
   routine_edges up =
       let same = in_use_same n keys room e in
-      subst (λ (ks : List ℕ). edges_of (is f) (map edge_of ks) ≡ map edge_of (take (b - a) (drop a keys))) same
-      (routine_part x y (omega arith) (subst (λ (ks : List ℕ). Ascending 0 (map edge_key (map edge_of ks))) (sym same) up))
+      rw (← same) (routine_part x y (rw (← same) at up))

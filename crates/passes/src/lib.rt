@@ -77,10 +77,9 @@ fn turn(
     let low = number_of(z, f, 0, 0, 0);
     let span = routine_span(z);
     let edges = p.edges;
-    let keys = edges.keys;
-    let count = in_use(edges.count, MAX_EDGES);
-    let from = first_of(&keys, count, f as u32);
-    let to = first_of(&keys, count, f as u32 + 1);
+    let keys = &edges.keys[..in_use(edges.count, MAX_EDGES)];
+    let from = first_of(keys, f as u32);
+    let to = first_of(keys, f as u32 + 1);
     follow_part(z, &keys[from..to], next, marks, low, low + span);
 }
 

@@ -137,8 +137,8 @@ fn keep_routine(z: Sizes, keys: &[u32], next: &[u16], marks: &[u8], kept: &mut [
     ensures { Passed z (keeps_at z keys.now next.now marks.now) kept.old
         kept.new result (f * routine_span z) (f * routine_span z + routine_span z) }
 {
-    let from = first_of(keys, keys.len(), f as u32);
-    let to = first_of(keys, keys.len(), f as u32 + 1);
+    let from = first_of(keys, f as u32);
+    let to = first_of(keys, f as u32 + 1);
     keep_numbers(z, keys, &keys[from..to], next, marks, kept, f)
 }
 

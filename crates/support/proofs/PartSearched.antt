@@ -9,7 +9,6 @@ use native.Mathlib.Omega.{arith}
 use native.Mathlib.Nat.{sub-zero}
 use lib.Dec.{eqb}
 use lib.ListN.{length, get_or, take, drop}
-use lib.Seq.{take-length}
 use borrow.Author.Tests.{ne_eqb}
 use Rattle.program.specs.Frames.{edge_key}
 use Rattle.tables.specs.Keys.{Ascending}
@@ -43,13 +42,11 @@ met_in_part t (k ∷ ks) zero (suc b) l h low high =
 
 pub its_part : {keys : List ℕ} {f a b : ℕ} → FirstOf keys (length keys) f a → FirstOf keys (length keys) (f + 1) b
     → Ascending 0 (map edge_key (map edge_of keys)) → PartOf keys f (take (b - a) (drop a keys))
-its_part {keys} {f} {a} {b} x y up =
-    let all = take-length keys in
-    let fits : length keys ≤ length keys = omega arith in
+its_part {keys} {a = a} {b} x y up =
     record {
       decides = λ t other.
-          met_in_part t keys a b (part_starts x y) y.within (λ j h. other (get_or keys j 0) (rw all at (before_part x y fits j h)))
-          (λ j l h. other (get_or keys j 0) (rw all at (after_part x y fits (rw all up) j l (rw all h))));
+          met_in_part t keys a b (part_starts x y) y.within (λ j h. other (get_or keys j 0) (before_part x y j h))
+          (λ j l h. other (get_or keys j 0) (after_part x y up j l h));
     }
 
 module _ (Z : Sizes) where

@@ -1,4 +1,5 @@
-// Tables of keys: the first `count` entries of a slice are in use, and a count above its length means all of them.
+// Tables of keys. What only asks takes the keys in use alone; what changes a table takes the whole slice, of which the
+// first `count` entries are in use: there may be room behind them. A count above the length means all of them.
 #![tactic(auto)]
 
 ghost use Rattle.std.specs.Prelude.{◌≡◌, [], ◌∷◌, ◌++◌, min, ◌+◌, ◌≤◌, ◌<◌, length, take};
@@ -12,22 +13,19 @@ pub fn in_use(count: usize, size: usize) -> usize
 }
 
 // Whether a key is in a table.
-pub fn has_key(keys: &[u32], count: usize, key: u32) -> bool
-    ensures { result ≡ member key (take count keys.now) }
+pub fn has_key(keys: &[u32], key: u32) -> bool
+    ensures { result ≡ member key keys.now }
 {
-    let used = in_use(count, keys.len());
-    keys[..used].contains(&key)
+    keys.contains(&key)
 }
 
 // Where the keys that are not below `low` begin, in a table that ascends: the first that is not below it, or the end.
-pub fn first_from(keys: &[u32], count: usize, low: u64) -> usize
-    ensures { FirstFrom low (take count keys.now) result }
+pub fn first_from(keys: &[u32], low: u64) -> usize
+    ensures { FirstFrom low keys.now result }
 {
-    let used = in_use(count, keys.len());
-    keys[..used]
-        .iter()
+    keys.iter()
         .position(|key| low <= u64::from(*key))
-        .unwrap_or(used)
+        .unwrap_or(keys.len())
 }
 
 // The list with one entry more at its end. Each changes the slice and returns the new count; the caller has judged that
@@ -45,7 +43,7 @@ pub fn insert_key(keys: &mut [u32], count: usize, key: u32) -> usize
     requires { count < length keys.old }
     ensures { Holds keys.new result (inserted_key key (take count keys.old)) }
 {
-    let at = first_from(keys, count, u64::from(key) + 1);
+    let at = first_from(&keys[..count], u64::from(key) + 1);
     keys.copy_within(at..count, at + 1);
     keys[at] = key;
     count + 1

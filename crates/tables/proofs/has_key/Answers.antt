@@ -3,7 +3,6 @@ use Rattle.std.proofs.Common.{rules, ◌≡◌, ℕ, List, ◌||◌, refl}
 use Rattle.std.specs.List.{list_any}
 use Rattle.std.proofs.lemmas.List.Recursion.{same_from_clauses}
 use lib.Dec.{eqb}
-use Rattle.base.proofs.EntriesInUse.{in_use_all}
 use Rattle.tables.specs.Keys.{member}
 use Rattle.tables.proofs.has_key.Goals as goal
 
@@ -13,6 +12,4 @@ member_any key =
     same_from_clauses (member key) (list_any (λ y. eqb y key)) (λ y b. eqb y key || b) refl (λ _ _. refl) (λ _ _. refl)
 
 pub returns : goal.returns
-returns c =
-    let a = c.args in
-    rw (← (in_use_all a.count a.keys.now), member_any) (search rules)
+returns c = rw member_any (search rules)
