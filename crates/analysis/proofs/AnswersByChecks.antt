@@ -1,13 +1,12 @@
 -- The answers, by what the checks say.
 use Prim.Native.Nat.{ℕ}
 use mathlib.Core.Path.{◌≡◌, refl, sym, ap, subst, ◌∙◌}
-use mathlib.Core.Bool.{Bool, true, false, not, cond}
-use mathlib.Core.Option.{some, none}
+use mathlib.Core.Bool.{Bool, true, false, not}
 use mathlib.Core.List.{List, [], ◌∷◌}
 use native.Mathlib.Omega.{arith}
-use lib.Dec.{eqb, ltb}
+use lib.Dec.{eqb}
 use borrow.Author.Tests.{eqb-true, eq-eqb}
-use Rattle.program.specs.Chosen.{sizes_of, numbers}
+use Rattle.program.specs.Chosen.{sizes_of}
 use Rattle.program.specs.Program.{Program}
 use Rattle.program.specs.Reading.{read_file}
 use Rattle.program.specs.Checks.{row, first_met, verdict_of, followed_by}
@@ -15,9 +14,9 @@ use Rattle.program.specs.Verdicts.{Verdict}
 use Rattle.program.specs.Verdicts.{Accepted, Refused}
 use Rattle.base.proofs.Bools.{both}
 use Rattle.reach.specs.Configurations.{none_set}
-use Rattle.reach.specs.Marks.{fresh_marks, violations, violations_from, first_from, within}
-use Rattle.std.specs.Prelude.{Ok}
-use Rattle.std.specs.Bool.{then_some}
+use Rattle.reach.specs.Marks.{fresh_marks, violations, violations_from, first_from}
+use Rattle.violations.specs.Views.{option_view}
+use Rattle.std.specs.Prelude.{Option, Some, None, Ok}
 use Rattle.analysis.specs.NextAnswers.{next_answer_by}
 use Rattle.analysis.specs.Answers.{checked_marks, limited, analyze_by, analyze_answer, on_success, marks_after, work_after, same, owned, found_of, found_by, next_answer}
 
@@ -67,10 +66,10 @@ same_decides r l k h = go r h (same l k) refl
 
 -- ---- the program's own marks, or foreign ones
 
--- what a search gives: a number past the end says that there is none
-found_is : (t : Bool) (i : ℕ) → next_answer_by (Ok (then_some t i)) ≡ found_of (cond t (some i) none)
-found_is true i = refl
-found_is false i = refl
+-- what a search gives
+found_is : (o : Option ℕ) → next_answer_by (Ok o) ≡ found_of (option_view o)
+found_is None = refl
+found_is (Some i) = refl
 
 module _ (p : Program) (marks : List ℕ) where
   pub own_accepted : same marks (fresh_marks p) ≡ true → Accepted ≡ owned p marks
@@ -99,6 +98,7 @@ module _ (p : Program) (marks : List ℕ) where
   refused_foreign {n} {line} =
       by_marks (λ v. v ≡ Refused n line → n ≡ 17) (λ t e. absurd (let z : ◌≡◌ {A = ℕ} 0 1 = cc in omega arith)) (λ t e. cc)
 
-  pub own_found : (low i : ℕ) → owned p marks ≡ Accepted → first_from low (violations_from (sizes_of p) p marks 0) ≡ within (numbers (sizes_of p)) i
-      → next_answer_by (Ok (then_some (ltb i (numbers (sizes_of p))) i)) ≡ found_by (owned p marks) (first_from low (violations p))
-  own_found low i e f = rw e (found_is (ltb i (numbers (sizes_of p))) i ∙ ap found_of (sym (rw (accepted_own e) at f)))
+  pub own_found : (low : ℕ) (o : Option ℕ) → owned p marks ≡ Accepted
+      → first_from low (violations_from (sizes_of p) p marks 0) ≡ option_view o
+      → next_answer_by (Ok o) ≡ found_by (owned p marks) (first_from low (violations p))
+  own_found low o e f = rw e (found_is o ∙ ap found_of (sym (rw (accepted_own e) at f)))

@@ -131,6 +131,5 @@ pub fn next_violation(
     let p = checked_program(file, Some(marks.len()), None, Some(work.len()))?;
     check_own(p, marks, work)?;
     let rejecting = rejecting_flags(p.automaton);
-    let i = first_violation(sizes_of(p), marks, &rejecting.flags, low);
-    Ok((i < marks.len()).then_some(i))
+    Ok(first_violation(sizes_of(p), marks, &rejecting.flags, low))
 }

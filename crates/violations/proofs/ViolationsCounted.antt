@@ -7,13 +7,14 @@ use native.Mathlib.Numerals.{add-one}
 use native.Mathlib.Omega.{arith}
 use lib.ListN.{length, drop, get_or, drop_of_length-le}
 use lib.Seq.{drop-cons}
-use borrow.Author.Tests.{le-leb, lt-leb, lt-ltb, le-ltb}
+use borrow.Author.Tests.{le-leb, lt-leb}
 use Rattle.program.specs.declared.sizes.Sizes.{Sizes}
 use Rattle.program.specs.Program.{Program}
-use Rattle.reach.specs.Marks.{violates, front_when, violations_from, first_from, within}
+use Rattle.reach.specs.Marks.{violates, front_when, violations_from, first_from}
 use Rattle.std.specs.List.{filter, find, range_with_len}
-use Rattle.std.specs.Option.{unwrap_or}
 use Rattle.std.specs.Prelude.{Option, Some}
+use mathlib.Core.Option.{some, none}
+use Rattle.violations.specs.Views.{option_view}
 
 -- what is below low is no answer
 skip : (low : ℕ) (t : Bool) (i : ℕ) (is : List ℕ) → i < low → first_from low (front_when t i is) ≡ first_from low is
@@ -61,17 +62,16 @@ module _ (Z : Sizes) where
     unfolding violations_from
     next_mark h = rw (s.decide, drop-cons l i 0 h, add-one)
 
-    pub sought_here : {size : ℕ} → i < size → i < length l → violates Z p (get_or l i 0) i ≡ true
-        → first_from low (violations_from Z p l 0) ≡ within size i
+    pub sought_here : i < length l → violates Z p (get_or l i 0) i ≡ true → first_from low (violations_from Z p l 0) ≡ some i
     unfolding first_from
-    sought_here {size} k h e = rw (next_mark h, e, le-leb low i s.far, lt-ltb i size k)
+    sought_here h e = rw (next_mark h, e, le-leb low i s.far)
 
     pub sought_more : i < length l → violates Z p (get_or l i 0) i ≡ false → Sought p l low (i + 1)
     sought_more h e = record { far = omega (arith, s.far); decide = rw e at (next_mark h) }
 
-    pub sought_all : {size at : ℕ} → size ≤ at → length l ≤ i → first_from low (violations_from Z p l 0) ≡ within size at
+    pub sought_all : length l ≤ i → first_from low (violations_from Z p l 0) ≡ none
     unfolding first_from violations_from
-    sought_all {size} {at} k h = rw (s.decide, drop_of_length-le l h, le-ltb at size k)
+    sought_all h = rw (s.decide, drop_of_length-le l h)
 
   -- so the first of k numbers from i on that passes the test decides
   module _ (p : Program) (l : List ℕ) (low : ℕ) where
@@ -79,14 +79,14 @@ module _ (Z : Sizes) where
     found k i = find (λ j. violates Z p (get_or l j 0) j) (range_with_len i k)
 
     abbrev Decides : Option ℕ → Type 0
-    Decides o = first_from low (violations_from Z p l 0) ≡ within (length l) (unwrap_or o (length l))
+    Decides o = first_from low (violations_from Z p l 0) ≡ option_view o
 
     decides_step : (k i : ℕ) (t : Bool) → violates Z p (get_or l i 0) i ≡ t → i < length l → Sought p l low i
         → (Sought p l low (i + 1) → Decides (found k (i + 1))) → Decides (cond t (Some i) (found k (i + 1)))
-    decides_step k i true e h s next = sought_here s h h e
+    decides_step k i true e h s next = sought_here s h e
     decides_step k i false e h s next = next (sought_more s h e)
 
     pub sought_first : (k i : ℕ) → length l - i ≡ k → Sought p l low i → Decides (found k i)
-    sought_first zero i e s = sought_all s (omega arith) (omega arith)
+    sought_first zero i e s = sought_all s (omega arith)
     sought_first (suc k) i e s =
         decides_step k i (violates Z p (get_or l i 0) i) refl (omega arith) s (sought_first k (i + 1) (omega arith))

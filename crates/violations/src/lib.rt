@@ -7,7 +7,8 @@ ghost use Rattle.program.specs.Chosen.{numbers, Admitted};
 ghost use Rattle.automaton.specs.Flags.{Rejects};
 ghost use Rattle.program.specs.Program.{Program};
 ghost use Rattle.reach.specs.Configurations.{Usable};
-ghost use Rattle.reach.specs.Marks.{violates, violations_from, first_from, within};
+ghost use Rattle.reach.specs.Marks.{violates, violations_from, first_from};
+ghost use Rattle.violations.specs.Views.{option_view};
 
 use program::sizes::Sizes;
 use reach::configuration::state_of;
@@ -33,14 +34,12 @@ pub fn count_violations(z: Sizes, marks: &[u8], rejecting: &[u8]) -> usize
         .count()
 }
 
-// The first violation that is not below `from`; a number past the marks where there is none. The caller has measured
-// the marks (refusal 9), and the flags have the size of `StateFlags`: hence the `requires`.
-pub fn first_violation(z: Sizes, marks: &[u8], rejecting: &[u8], from: usize) -> usize
+// The first violation that is not below `from`, if there is one. The caller has measured the marks (refusal 9), and the
+// flags have the size of `StateFlags`: hence the `requires`.
+pub fn first_violation(z: Sizes, marks: &[u8], rejecting: &[u8], from: usize) -> Option<usize>
     requires { Usable z × Admitted z × (length marks.now ≡ numbers z) × (length rejecting.now ≡ max_states) }
     ensures { (p : Program) → Rejects p.automaton rejecting.now
-        → first_from from (violations_from z p marks.now 0) ≡ within (numbers z) result }
+        → first_from from (violations_from z p marks.now 0) ≡ option_view result }
 {
-    (from..marks.len())
-        .find(|i| is_violation(z, marks, rejecting, *i))
-        .unwrap_or(marks.len())
+    (from..marks.len()).find(|i| is_violation(z, marks, rejecting, *i))
 }

@@ -20,5 +20,4 @@ returns c p r =
     let found = sym (option_map_id c.find.result)
     ∙ find_from_yields_List t _ _ c.find.result c.find.ensures.ran
     (YieldsList-from_range a.from (length marks) k (search rules) refl) (λ x b q h. search (rules, tests)) in
-    rw (c.unwrap_or.ensures, found, ← c.requires.2)
-    (sought_first a.z p marks a.from k a.from refl (sought_none a.z p marks a.from))
+    rw found (sought_first a.z p marks a.from k a.from refl (sought_none a.z p marks a.from))
