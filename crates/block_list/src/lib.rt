@@ -26,6 +26,5 @@ pub fn next_blocked(
 {
     let p = checked_program(file, Some(marks.len()), None, Some(work.len()))?;
     check_own(p, marks, work)?;
-    let b = first_blocked(sizes_of(p), p, marks, low);
-    Ok((b.number < marks.len()).then_some(b))
+    Ok(first_blocked(sizes_of(p), p, marks, low))
 }

@@ -206,12 +206,11 @@ module _ {Z : Sizes} (U : Usable Z) {p : Program} {keys next : List ℕ} (t : Ta
         let any : any_barred Z p i ≡ true = lt-ltb (first_barred Z p i) (length p.edges) (omega (arith, many)) in
         (rw (byte_set marks i on, any) refl, rw any z)
 
-    pub cut_by_return : (marks : List ℕ) {k : ℕ} {b : Bool} → get_or marks i 0 ≢ 0 → k ≡ first_key_of keys next f n q → length keys ≤ k
+    pub cut_by_return : (marks : List ℕ) {b : Bool} → get_or marks i 0 ≢ 0 → length keys ≤ first_key_of keys next f n q
         → b ≡ no_return_key Z keys next marks f n r q → (b ≡ is_blocked Z p marks i) × (no_edge ≡ blocked_by Z p i)
     unfolding is_blocked blocked_by
-    cut_by_return marks {k} on e h d =
-        let z : k ≡ first_barred Z p i = e ∙ barred_key in
-        let none : any_barred Z p i ≡ false = le-ltb (first_barred Z p i) (length p.edges) (omega (arith, many)) in
+    cut_by_return marks on h d =
+        let none : any_barred Z p i ≡ false = le-ltb (first_barred Z p i) (length p.edges) (omega (arith, many, barred_key)) in
         (rw (byte_set marks i on, none) (d ∙ no-return-key marks), rw none refl)
 
 pub not_marked : (Z : Sizes) (p : Program) (marks : List ℕ) (i : ℕ) → get_or marks i 0 ≡ 0 → false ≡ is_blocked Z p marks i

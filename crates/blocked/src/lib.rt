@@ -2,7 +2,7 @@
 // automaton does not allow there.
 #![tactic(auto)]
 
-ghost use Rattle.std.specs.Prelude.{◌≡◌, true, false, ◌<◌, length, MatchOption};
+ghost use Rattle.std.specs.Prelude.{◌≡◌, true, false, ◌≤◌, ◌<◌, length, MatchOption};
 ghost use Rattle.program.specs.Sizes.{max_routines, max_nodes};
 ghost use Rattle.program.specs.Chosen.{numbers, Admitted};
 ghost use Rattle.program.specs.Program.{Program};
@@ -12,7 +12,8 @@ ghost use Rattle.reach.specs.Configurations.{Usable};
 ghost use Rattle.reach.specs.Ranged.{Sized};
 ghost use Rattle.index.specs.Index.{Indexed};
 ghost use Rattle.support.specs.Parts.{Tables};
-ghost use Rattle.blocked.specs.Blocks.{is_blocked, blocked_by, block_in, block_from};
+ghost use Rattle.blocked.specs.Blocks.{is_blocked, blocked_by, block_from};
+ghost use Rattle.blocked.specs.BlockView.{block_view};
 ghost use Rattle.blocked.specs.Parts.{first_key_of, calls_with, called_key, no_return_key};
 
 use automaton::next::{next_after, next_states};
@@ -28,29 +29,29 @@ use tables::in_use;
 // Told in the place of an edge where it is the return that is not allowed.
 pub const NO_EDGE: usize = 4294967295;
 
-// Where runs are cut off: the number of the configuration, which is past the marks where there is none, and the place
-// of the edge.
-#[derive(Clone, Copy)]
+// Where runs are cut off: the number of the configuration, and the place of the edge.
+#[derive(Clone, Copy, Debug, PartialEq, Eq)]
 pub struct Blocked {
     pub number: usize,
     pub edge: usize,
 }
 
-// The first edge from a configuration's node that the automaton does not allow in its state; past the edges where each
-// is allowed. The index is that of the keys, and has this node: hence the `requires`.
-fn first_barred(keys: &[u32], index: &[u16], next: &[u16], c: Configuration) -> usize
+// The first edge from a configuration's node that the automaton does not allow in its state, if there is one. The index
+// is that of the keys, and has this node: hence the `requires`.
+fn first_barred(keys: &[u32], index: &[u16], next: &[u16], c: Configuration) -> Option<usize>
     requires { Indexed keys.now index.now × (c.routine < max_routines) × (c.node < max_nodes) }
-    ensures { result ≡ first_key_of keys.now next.now c.routine c.node c.state }
+    ensures { MatchOption result (length keys.now ≤ first_key_of keys.now next.now c.routine c.node c.state)
+        (λ at. (at ≡ first_key_of keys.now next.now c.routine c.node c.state) × (at < length keys.now)) }
 {
     let mut i = first_edge(index, c.routine, c.node);
     while i < keys.len() {
         let e = edge(keys[i]);
         if next_after(next, c.state, e.label) == 0 {
-            return i;
+            return Some(i);
         }
         i = next_edge(index, i);
     }
-    i
+    None
 }
 
 // Whether this edge calls g with root s from a marked configuration. A routine past the sizes has no label: hence the
@@ -108,8 +109,7 @@ fn cut_of(
         return None;
     }
     let c = parts_of(z, i);
-    let first = first_barred(keys, index, next, c);
-    if first < keys.len() {
+    if let Some(first) = first_barred(keys, index, next, c) {
         Some(first)
     } else if has_no_return(z, keys, next, marks, c) {
         Some(NO_EDGE)
@@ -127,27 +127,24 @@ fn search_marks(
     next: &[u16],
     marks: &[u8],
     low: usize,
-) -> Blocked
+) -> Option<Blocked>
     requires { Usable z × Admitted z × (length marks.now ≡ numbers z) × Indexed keys.now index.now }
     ensures { (p : Program) → Tables z p keys.now next.now
-        → block_from z p marks.now low ≡ block_in z result.number result.edge }
+        → block_from z p marks.now low ≡ block_view result }
 {
     for i in low..marks.len() {
         if let Some(edge) = cut_of(z, keys, index, next, marks, i) {
-            return Blocked { number: i, edge };
+            return Some(Blocked { number: i, edge });
         }
     }
-    Blocked {
-        number: marks.len(),
-        edge: 0,
-    }
+    None
 }
 
-// The first configuration from `low` on at which runs are cut off, by these marks. The reader accepts only well-formed
+// The first configuration from `low` on at which runs are cut off, by these marks, if there is one. The reader accepts only well-formed
 // programs, and the caller has measured the marks (refusal 9): hence the `requires`.
-pub fn first_blocked(z: Sizes, p: DecodedProgram, marks: &[u8], low: usize) -> Blocked
+pub fn first_blocked(z: Sizes, p: DecodedProgram, marks: &[u8], low: usize) -> Option<Blocked>
     requires { WellFormed (program_of p) × Sized z (program_of p) × (length marks.now ≡ numbers z) }
-    ensures { block_from z (program_of p) marks.now low ≡ block_in z result.number result.edge }
+    ensures { block_from z (program_of p) marks.now low ≡ block_view result }
 {
     let rule = p.automaton;
     let edges = p.edges;

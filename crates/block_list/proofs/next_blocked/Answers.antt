@@ -1,16 +1,12 @@
 -- `block_list::next_blocked` meets its contract: what the checks pass is searched for the first place.
-use Rattle.std.proofs.Common.{ℕ, refl, sym, ap, ◌∙◌}
+use Rattle.std.proofs.Common.{refl, sym, ap, ◌∙◌}
 use Rattle.std.proofs.lemmas.Result.{err_from_is_err_and}
-use Rattle.std.specs.Prelude.{Option, Ok, ltb}
-use Rattle.std.specs.Bool.{then_some}
 use Rattle.program.specs.Chosen.{numbers}
 use Rattle.program.specs.Decoded.{program_of}
 use Rattle.program.specs.Verdicts.{Verdict}
 use Rattle.analysis.proofs.LimitDecides.{own_sized}
 use Rattle.blocked.specs.Blocks.{next_block}
-use Rattle.blocked.specs.declared.Blocked.{Blocked}
 use Rattle.block_list.specs.Answers.{block_by}
-use Rattle.block_list.specs.BlockAnswers.{block_answer_by}
 use Rattle.block_list.proofs.AnswersByBlocks.{block_answered, own_block}
 use Rattle.block_list.proofs.next_blocked.Goals as goal
 
@@ -30,8 +26,8 @@ returns-in_err-check_own c =
     let p = err_from_is_err_and r.result r.ensures.1 in
     rw (p.1, p.2) (ap (λ (v : Verdict). block_by v (next_block (program_of c.in_ok-p.p) z.low)) o.0 ∙ w.0, o.1 ∙ w.1)
 
-pub first_blocked-b-requires : goal.first_blocked-b-requires
-first_blocked-b-requires c =
+pub first_blocked-requires : goal.first_blocked-requires
+first_blocked-requires c =
     let k = c.in_ok-p.ensures.passed in
     let e = c.sizes_of.ensures in
     (k.well_formed, own_sized (program_of c.in_ok-p.p) e k.well_formed, k.sized.marks-length ∙ ap numbers (sym e))
@@ -42,10 +38,5 @@ returns c =
     let k = c.in_ok-p.ensures in
     let w = block_answered z.file.now z.marks.now z.work.now k.verdict k.passed.program z.low in
     let o = c.in_ok-check_own.ensures in
-    let b = c.first_blocked-b in (
-      ap (λ (f : Option Blocked). block_answer_by (Ok f)) c.then_some.ensures
-          ∙ ap (λ (n : ℕ). block_answer_by (Ok (then_some (ltb b.result.number n) b.result))) k.passed.sized.marks-length
-          ∙ own_block (program_of c.in_ok-p.p) _ z.low b.result c.sizes_of.ensures (sym o.0) b.ensures
-          ∙ w.0,
-      o.1 ∙ w.1,
-    )
+    let b = c.first_blocked in
+    (own_block (program_of c.in_ok-p.p) _ z.low b.result c.sizes_of.ensures (sym o.0) b.ensures ∙ w.0, o.1 ∙ w.1)

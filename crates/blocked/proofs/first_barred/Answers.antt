@@ -30,8 +30,11 @@ looked c =
 pub returns-then-next_after-eq0 : goal.returns-then-next_after-eq0
 unfolding first_key_of
 returns-then-next_after-eq0 c =
-    let h = c.loop-i-test in
-    chain_here _ _ c.loop-i.invariant (omega arith) (eq-eqb _ 0 (sym (looked (goal.at.returns-then-next_after-eq0 c).After-next_after) ∙ c.if-next_after-eq0.true))
+    let h = c.loop-i-test in (
+      chain_here _ _ c.loop-i.invariant (omega arith)
+          (eq-eqb _ 0 (sym (looked (goal.at.returns-then-next_after-eq0 c).After-next_after) ∙ c.if-next_after-eq0.true)),
+      omega arith,
+    )
 
 -- the index has the next edge from the node
 chained : (c : After-next_edge-i)
@@ -55,4 +58,4 @@ loop-i-preserved c =
 
 pub returns : goal.returns
 unfolding first_key_of
-returns c = chain_end _ _ c.loop-i.invariant (omega arith)
+returns c = omega (arith, chain_end _ _ c.loop-i.invariant (omega arith))

@@ -3,25 +3,26 @@ use mathlib.Core.Path.{◌≡◌, refl}
 use mathlib.Core.Bool.{true}
 use mathlib.Core.List.{List}
 use native.Mathlib.Omega.{arith}
-use borrow.Author.Tests.{le-ltb}
+use mathlib.Core.Option.{some, none}
+use borrow.Author.Tests.{lt-ltb, le-ltb}
 use Rattle.program.specs.declared.sizes.Sizes.{Sizes}
 use Rattle.program.specs.Chosen.{numbers}
 use Rattle.program.specs.Program.{Program}
 use Rattle.base.specs.Searches.{seek}
-use Rattle.blocked.specs.Blocks.{is_blocked, blocked_by, block_in, block_from}
+use Rattle.blocked.specs.Blocks.{is_blocked, blocked_by, block_from}
 use Rattle.blocked.proofs.EdgesSought.{Seeking, seek_start, seek_next, seek_here, seek_out}
 use Rattle.blocked.proofs.search_marks.Goals as goal
 use Rattle.blocked.proofs.search_marks.Goals.{In-loop-i}
 
 module _ (Z : Sizes) (p : Program) (marks : List ℕ) {low i : ℕ} (s : Seeking (is_blocked Z p marks) (numbers Z) low i) where
-  block_here : {k : ℕ} → i < numbers Z → is_blocked Z p marks i ≡ true → k ≡ blocked_by Z p i → block_from Z p marks low ≡ block_in Z i k
+  block_here : {k : ℕ} → i < numbers Z → is_blocked Z p marks i ≡ true → k ≡ blocked_by Z p i
+      → block_from Z p marks low ≡ some (record { number = i; edge = k })
   unfolding block_from
-  block_here h t e = rw (seek_here s h t, e) refl
+  block_here h t e = rw (seek_here s h t, lt-ltb i (numbers Z) h, e) refl
 
-  block_nowhere : (n k : ℕ) → numbers Z ≤ i → numbers Z ≤ n → block_from Z p marks low ≡ block_in Z n k
+  block_nowhere : numbers Z ≤ i → block_from Z p marks low ≡ none
   unfolding block_from
-  block_nowhere n k h l =
-      rw (le-ltb (seek (is_blocked Z p marks) (numbers Z - low) low) (numbers Z) (seek_out s h), le-ltb n (numbers Z) l) refl
+  block_nowhere h = rw (le-ltb (seek (is_blocked Z p marks) (numbers Z - low) low) (numbers Z) (seek_out s h)) refl
 
 pub loop-i-init : goal.loop-i-init
 loop-i-init c p t = seek_start _ _ _
@@ -46,4 +47,4 @@ loop-i-preserved c p t =
 
 pub returns : goal.returns
 returns c p t =
-    block_nowhere _ p _ (c.loop-i.invariant p t) _ 0 (omega (arith, c.requires.2)) (omega (arith, c.requires.2))
+    block_nowhere _ p _ (c.loop-i.invariant p t) (omega (arith, c.requires.2))
