@@ -6,7 +6,7 @@ ghost use Rattle.exchange.specs.Changing.{with_nodes};
 ghost use Rattle.exchange_text.specs.ExchangeText.{bad_frame, bounded_by, outside, astray};
 
 use exchange::apply::with_nodes;
-use frames::{key_of, kind_of, number, size_of};
+use frames::{FrameKind, key_of, kind_of, number, size_of};
 use ranges::{Limits, in_range};
 use text::Line;
 
@@ -14,23 +14,29 @@ use text::Line;
 pub fn is_bad(l: Line) -> bool
     ensures { result ≡ bad_frame l }
 {
-    let k = kind_of(l);
-    l.count == 0 || !(k == 2 || k == 3) || l.count != size_of(0, k)
+    match kind_of(l) {
+        Some(kind @ (FrameKind::Routine | FrameKind::Edge)) => l.count == 0
+            || l.count != size_of(0, kind),
+        _ => true,
+    }
 }
 
 // 13, by what bounds the numbers: no more of a program has to be known.
 pub fn is_outside(h: Limits, l: Line) -> bool
     ensures { result ≡ outside (limits_of h) l }
 {
-    !in_range(h, kind_of(l), l)
+    match kind_of(l) {
+        Some(kind) => !in_range(h, kind, l),
+        None => true,
+    }
 }
 
 // 21, for a line after the first: it is no edge of routine f above the one before it.
 pub fn is_astray(f: u8, last: u64, l: Line) -> bool
     ensures { result ≡ astray f last l }
 {
-    let k = kind_of(l);
-    k != 3 || number(l, 1) != f || key_of(k, l) <= last
+    let kind = kind_of(l);
+    kind != Some(FrameKind::Edge) || number(l, 1) != f || key_of(kind, l) <= last
 }
 
 // With the count of nodes that a frame 52 says.
@@ -45,7 +51,7 @@ fn with_count(h: Limits, l: Line) -> Limits
 pub fn bounded_by(h: Limits, first: Line) -> Limits
     ensures { limits_of result ≡ bounded_by (first ∷ []) (limits_of h) }
 {
-    if kind_of(first) == 2 {
+    if kind_of(first) == Some(FrameKind::Routine) {
         with_count(h, first)
     } else {
         h

@@ -14,7 +14,7 @@ ghost use Rattle.exchange_text.specs.Parts.{edges_of, found_of, begun, found_aft
 use crate::line::{is_astray, is_outside};
 use exchange::DecodedExchange;
 use exchange::apply::{others_of, program_with_nodes};
-use frames::{edge_in, key_of, kind_of, number};
+use frames::{FrameKind, edge_in, key_of, kind_of, number};
 use program::DecodedProgram;
 use program::chosen::sizes_of;
 use program::edges::{Edges, no_edges};
@@ -42,7 +42,7 @@ pub fn start_scan(h: Limits, first: Line) -> Scan
     Scan {
         last: 0,
         outside: is_outside(h, first),
-        astray: kind_of(first) != 2,
+        astray: kind_of(first) != Some(FrameKind::Routine),
         crowded: false,
         edges: no_edges(),
     }

@@ -7,40 +7,59 @@ ghost use Rattle.rows.specs.Decoded.{row_of};
 ghost use Rattle.program.specs.Frames.{kind_order, row_size, size, num, kind, word, rest, key_of};
 ghost use Rattle.program.specs.Reading.{edge_in, narrow_row, wide_row, row_in};
 ghost use Rattle.program.specs.Decoded.{edge_of};
+ghost use Rattle.frames.specs.Kinds.{place, place_of};
 
 use program::edges::edge_key;
 use program::frames::pack;
 use rows::row_key;
 use text::Line;
 
-fn kind_order(k: u8) -> u8
-    ensures { result ≡ kind_order k }
+// The kinds of frames, in the order in which they stand in a file.
+#[derive(Clone, Copy, Debug, PartialEq, Eq)]
+pub enum FrameKind {
+    Header,
+    Routine,
+    Edge,
+    Transition,
+    Row,
+    Initial,
+    Rejecting,
+    End,
+}
+
+impl FrameKind {
+    // Its place in the table of kinds, from 1.
+    fn place(self) -> u8
+        ensures { result ≡ place self }
+    {
+        match self {
+            FrameKind::Header => 1,
+            FrameKind::Routine => 2,
+            FrameKind::Edge => 3,
+            FrameKind::Transition => 4,
+            FrameKind::Row => 5,
+            FrameKind::Initial => 6,
+            FrameKind::Rejecting => 7,
+            FrameKind::End => 8,
+        }
+    }
+}
+
+// The kind that a line's first number names; none is named by another number.
+fn kind_by(byte: u8) -> Option<FrameKind>
+    ensures { place_of result ≡ kind_order byte }
 {
-    if k == 0x50 {
-        return 1;
+    match byte {
+        0x50 => Some(FrameKind::Header),
+        0x52 => Some(FrameKind::Routine),
+        0x53 => Some(FrameKind::Edge),
+        0x54 => Some(FrameKind::Transition),
+        0x55 => Some(FrameKind::Row),
+        0x49 => Some(FrameKind::Initial),
+        0x46 => Some(FrameKind::Rejecting),
+        0x45 => Some(FrameKind::End),
+        _ => None,
     }
-    if k == 0x52 {
-        return 2;
-    }
-    if k == 0x53 {
-        return 3;
-    }
-    if k == 0x54 {
-        return 4;
-    }
-    if k == 0x55 {
-        return 5;
-    }
-    if k == 0x49 {
-        return 6;
-    }
-    if k == 0x46 {
-        return 7;
-    }
-    if k == 0x45 {
-        return 8;
-    }
-    0
 }
 
 fn row_size(states: u8) -> usize
@@ -52,30 +71,19 @@ fn row_size(states: u8) -> usize
     7
 }
 
-// How many numbers a frame of kind k has, its kind among them, where there are so many states.
-pub fn size_of(states: u8, k: u8) -> usize
-    ensures { result ≡ size states k }
+// How many numbers a frame of this kind has, its kind among them, where there are so many states.
+pub fn size_of(states: u8, kind: FrameKind) -> usize
+    ensures { result ≡ size states (place kind) }
 {
-    let in_row = row_size(states);
-    if k == 1 {
-        return 4;
+    match kind {
+        FrameKind::Header => 4,
+        FrameKind::Routine => 3,
+        FrameKind::Edge => 5,
+        FrameKind::Transition => 4,
+        FrameKind::Row => row_size(states),
+        FrameKind::Initial | FrameKind::Rejecting => 2,
+        FrameKind::End => 3,
     }
-    if k == 2 {
-        return 3;
-    }
-    if k == 3 {
-        return 5;
-    }
-    if k == 4 {
-        return 4;
-    }
-    if k == 5 {
-        return in_row;
-    }
-    if k == 8 {
-        return 3;
-    }
-    2
 }
 
 // A number of a line. Every caller names one of those that a line keeps: hence the `requires`.
@@ -87,10 +95,20 @@ pub fn number(l: Line, i: usize) -> u8
     v[i]
 }
 
-pub fn kind_of(l: Line) -> u8
-    ensures { result ≡ kind l }
+// The kind of a line: none where its first number names none.
+pub fn kind_of(l: Line) -> Option<FrameKind>
+    ensures { place_of result ≡ kind l }
 {
-    kind_order(number(l, 0))
+    kind_by(number(l, 0))
+}
+
+fn place_of(kind: Option<FrameKind>) -> u8
+    ensures { result ≡ place_of kind }
+{
+    match kind {
+        Some(k) => k.place(),
+        None => 0,
+    }
 }
 
 fn word_of(l: Line) -> u32
@@ -99,14 +117,15 @@ fn word_of(l: Line) -> u32
     pack(number(l, 1), number(l, 2), number(l, 3), number(l, 4))
 }
 
-pub fn key_of(k: u8, l: Line) -> u64
-    ensures { result ≡ key_of k (word l) (rest l) }
+// The key of a line, by its kind: a line of an unknown kind has one too.
+pub fn key_of(kind: Option<FrameKind>, l: Line) -> u64
+    ensures { result ≡ key_of (place_of kind) (word l) (rest l) }
 {
     let w = word_of(l);
     let a = number(l, 5);
     let b = number(l, 6);
     let c = number(l, 7);
-    let front = (k as u64) * 0x100000000 + (w as u64);
+    let front = (place_of(kind) as u64) * 0x100000000 + (w as u64);
     ((front * 256 + (a as u64)) * 256 + (b as u64)) * 256 + (c as u64)
 }
 

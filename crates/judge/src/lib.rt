@@ -16,26 +16,25 @@ use text::Line;
 pub fn fault_by(last: u64, n: Counts, h: Limits, l: Line) -> Result<(), Refusal>
     ensures { number_met result ≡ judged_by last n h l }
 {
-    let k = kind_of(l);
     if l.count == 0 {
         return Err(Refusal::BadLine);
     }
-    if k == 0 {
+    let Some(kind) = kind_of(l) else {
         return Err(Refusal::UnknownKind);
-    }
-    if l.count != size_of(h.states, k) {
+    };
+    if l.count != size_of(h.states, kind) {
         return Err(Refusal::WrongCount);
     }
-    if !in_order(last, n, h.routines, k, l) {
+    if !in_order(last, n, h.routines, kind, l) {
         return Err(Refusal::OutOfOrder);
     }
-    if !in_range(h, k, l) {
+    if !in_range(h, kind, l) {
         return Err(Refusal::OutOfRange);
     }
-    if is_full(n, k) {
+    if is_full(n, kind) {
         return Err(Refusal::TableFull);
     }
-    if is_miscounted(n.frames, k, l) {
+    if is_miscounted(n.frames, kind, l) {
         return Err(Refusal::EndCount);
     }
     Ok(())

@@ -4,9 +4,10 @@
 
 ghost use Rattle.std.specs.Prelude.{◌≡◌};
 ghost use Rattle.program.specs.Reading.{due, in_place, ordered, full, miscounted};
+ghost use Rattle.frames.specs.Kinds.{place};
 
 use automaton::sizes::MAX_TRANSITIONS;
-use frames::{key_of, number};
+use frames::{FrameKind, key_of, number};
 use program::sizes::MAX_EDGES;
 use rows::MAX_ROWS;
 use text::Line;
@@ -29,34 +30,40 @@ fn is_due(routines: u8, done: usize, f: u8) -> bool
     (i == done) | ((r <= done) & (done < i))
 }
 
-fn is_in_place(frames: usize, routines: u8, done: usize, k: u8, l: Line) -> bool
-    ensures { result ≡ in_place frames routines done k l }
+fn is_in_place(frames: usize, routines: u8, done: usize, kind: FrameKind, l: Line) -> bool
+    ensures { result ≡ in_place frames routines done (place kind) l }
 {
-    let d = is_due(routines, done, number(l, 1));
-    ((k == 1) & (frames == 0))
-        | ((k == 2) & (0 < frames) & d)
-        | ((2 < k) & (0 < frames) & (done == (routines as usize)))
+    match kind {
+        FrameKind::Header => frames == 0,
+        FrameKind::Routine => 0 < frames && is_due(routines, done, number(l, 1)),
+        _ => 0 < frames && done == routines as usize,
+    }
 }
 
-pub fn in_order(last: u64, n: Counts, routines: u8, k: u8, l: Line) -> bool
-    ensures { result ≡ ordered last n.frames routines n.nodes n.transitions k l }
+pub fn in_order(last: u64, n: Counts, routines: u8, kind: FrameKind, l: Line) -> bool
+    ensures { result ≡ ordered last n.frames routines n.nodes n.transitions (place kind) l }
 {
-    let x = key_of(k, l);
-    (last < x) & is_in_place(n.frames, routines, n.nodes, k, l) & !((k == 5) & (0 < n.transitions))
+    let x = key_of(Some(kind), l);
+    (last < x)
+        && is_in_place(n.frames, routines, n.nodes, kind, l)
+        && !(kind == FrameKind::Row && 0 < n.transitions)
 }
 
-pub fn is_full(n: Counts, k: u8) -> bool
-    ensures { result ≡ full n.edges n.transitions n.rows k }
+pub fn is_full(n: Counts, kind: FrameKind) -> bool
+    ensures { result ≡ full n.edges n.transitions n.rows (place kind) }
 {
-    ((k == 3) & (MAX_EDGES <= n.edges))
-        | ((k == 4) & (MAX_TRANSITIONS <= n.transitions))
-        | ((k == 5) & (MAX_ROWS <= n.rows))
+    match kind {
+        FrameKind::Edge => MAX_EDGES <= n.edges,
+        FrameKind::Transition => MAX_TRANSITIONS <= n.transitions,
+        FrameKind::Row => MAX_ROWS <= n.rows,
+        _ => false,
+    }
 }
 
-pub fn is_miscounted(frames: usize, k: u8, l: Line) -> bool
-    ensures { result ≡ miscounted frames k l }
+pub fn is_miscounted(frames: usize, kind: FrameKind, l: Line) -> bool
+    ensures { result ≡ miscounted frames (place kind) l }
 {
     let a = number(l, 1);
     let b = number(l, 2);
-    (k == 8) & !((a as usize) * 256 + (b as usize) == frames)
+    kind == FrameKind::End && (a as usize) * 256 + (b as usize) != frames
 }

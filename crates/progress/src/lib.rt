@@ -11,12 +11,13 @@ ghost use Rattle.program.specs.Frames.{kind};
 ghost use Rattle.program.specs.Reading.{start, transition_in, row_in, more, automaton_after, program_after, after};
 ghost use Rattle.program.specs.Decoded.{nodes_of, edge_keys_of, program_of};
 ghost use Rattle.program.specs.RoomParts.{RoomInAutomaton, Room, RoomForRow};
+ghost use Rattle.frames.specs.Kinds.{place_of};
 ghost use Rattle.progress.specs.Progress.{progress_of};
 
 use automaton::transitions::{Transitions, transition_key};
 use automaton::{DecodedAutomaton, States};
 use base::choose;
-use frames::{edge_in, key_of, kind_of, number, row_in};
+use frames::{FrameKind, edge_in, key_of, kind_of, number, row_in};
 use program::edges::Edges;
 use program::{DecodedProgram, Nodes, no_program};
 use rows::{Rows, add_row};
@@ -98,38 +99,39 @@ fn transition_in(l: Line) -> u32
     transition_key(number(l, 1), number(l, 2), number(l, 3))
 }
 
-fn automaton_after(a: DecodedAutomaton, k: u8, l: Line) -> DecodedAutomaton
-    requires { RoomInAutomaton (automaton_of a) k }
-    ensures { automaton_of result ≡ automaton_after (automaton_of a) k l }
+fn automaton_after(a: DecodedAutomaton, kind: Option<FrameKind>, l: Line) -> DecodedAutomaton
+    requires { RoomInAutomaton (automaton_of a) (place_of kind) }
+    ensures { automaton_of result ≡ automaton_after (automaton_of a) (place_of kind) l }
 {
     let t = a.transitions;
     let i = a.initial;
     let j = a.rejecting;
     let q = number(l, 1);
-    let transitions = add_transition(t, k == 4, transition_in(l));
-    let initial = add_state(i, k == 6, q);
-    let rejecting = add_state(j, k == 7, q);
+    let transitions = add_transition(t, kind == Some(FrameKind::Transition), transition_in(l));
+    let initial = add_state(i, kind == Some(FrameKind::Initial), q);
+    let rejecting = add_state(j, kind == Some(FrameKind::Rejecting), q);
+    let in_header = kind == Some(FrameKind::Header);
     DecodedAutomaton {
-        states: choose(k == 1, number(l, 2), a.states),
-        actions: choose(k == 1, number(l, 3), a.actions),
+        states: choose(in_header, number(l, 2), a.states),
+        actions: choose(in_header, number(l, 3), a.actions),
         transitions,
         initial,
         rejecting,
     }
 }
 
-fn program_after(p: DecodedProgram, k: u8, l: Line) -> DecodedProgram
-    requires { Room (program_of p) k }
-    ensures { program_of result ≡ program_after (program_of p) k l }
+fn program_after(p: DecodedProgram, kind: Option<FrameKind>, l: Line) -> DecodedProgram
+    requires { Room (program_of p) (place_of kind) }
+    ensures { program_of result ≡ program_after (program_of p) (place_of kind) l }
 {
     let n = p.nodes;
     let e = p.edges;
     let a = p.automaton;
-    let nodes = add_node(n, k == 2, number(l, 2));
-    let edges = add_edge(e, k == 3, edge_in(l));
-    let automaton = automaton_after(a, k, l);
+    let nodes = add_node(n, kind == Some(FrameKind::Routine), number(l, 2));
+    let edges = add_edge(e, kind == Some(FrameKind::Edge), edge_in(l));
+    let automaton = automaton_after(a, kind, l);
     DecodedProgram {
-        routines: choose(k == 1, number(l, 1), p.routines),
+        routines: choose(kind == Some(FrameKind::Header), number(l, 1), p.routines),
         nodes,
         edges,
         automaton,
@@ -137,18 +139,19 @@ fn program_after(p: DecodedProgram, k: u8, l: Line) -> DecodedProgram
 }
 
 // All but the rows. A frame without a fault always finds room, and no file has 2^63 frames: hence the `requires`.
+#[tactic(auto, unfolding(program::specs::Reading::after, program::specs::Reading::after_as))]
 pub fn after_frame(s: Reader, l: Line) -> Reader
     requires { Room (program_of s.program) (kind l) × (s.frames < 2 ^ 63) }
     ensures { (rows : List TableRow)
         → progress_of result (more (eqb (kind l) 5) (row_in s.program.automaton.states l) rows) ≡ after (progress_of s rows) l }
 {
-    let k = kind_of(l);
+    let kind = kind_of(l);
     let p = s.program;
-    let program = program_after(p, k, l);
+    let program = program_after(p, kind, l);
     Reader {
-        last: key_of(k, l),
+        last: key_of(kind, l),
         frames: s.frames + 1,
-        ended: k == 8,
+        ended: kind == Some(FrameKind::End),
         program,
     }
 }
@@ -159,7 +162,7 @@ pub fn rows_after(states: u8, t: Rows, l: Line) -> Rows
     requires { RoomForRow (rows_of t) (kind l) }
     ensures { rows_of result ≡ more (eqb (kind l) 5) (row_in states l) (rows_of t) }
 {
-    if kind_of(l) == 5 {
+    if kind_of(l) == Some(FrameKind::Row) {
         add_row(t, row_in(states, l))
     } else {
         t

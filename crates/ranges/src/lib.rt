@@ -6,11 +6,12 @@ ghost use Rattle.rows.specs.Rows.{row_fits};
 ghost use Rattle.program.specs.Program.{within, counts_fit, placed, edge_fits, transition_fits};
 ghost use Rattle.program.specs.Reading.{edge_in, transition_in, row_in, ranged};
 ghost use Rattle.program.specs.Decoded.{nodes_of};
+ghost use Rattle.frames.specs.Kinds.{place};
 ghost use Rattle.ranges.specs.Limits.{limits, limits_of};
 
 use automaton::labels::{event_fits, label_fits};
 use automaton::sizes::{MAX_ACTIONS, MAX_STATES};
-use frames::{number, row_in};
+use frames::{FrameKind, number, row_in};
 use program::sizes::{MAX_NODES, MAX_ROUTINES};
 use program::{DecodedProgram, Nodes};
 use rows::row_fits;
@@ -95,18 +96,19 @@ fn is_row_in_range(h: Limits, l: Line) -> bool
     row_fits(row_in(h.states, l), h.states, h.actions)
 }
 
-// Whether the numbers of a frame of kind k are in range, by what bounds them.
-pub fn in_range(h: Limits, k: u8, l: Line) -> bool
-    ensures { result ≡ ranged (limits_of h) k l }
+// Whether the numbers of a frame of this kind are in range, by what bounds them.
+pub fn in_range(h: Limits, kind: FrameKind, l: Line) -> bool
+    ensures { result ≡ ranged (limits_of h) (place kind) l }
 {
     let a = number(l, 1);
     let b = number(l, 2);
-    let c = number(l, 3);
-    ((k == 1) & counts_fit(a, b, c))
-        | ((k == 2) & (a < h.routines) & inside(2, MAX_NODES as u8, b))
-        | ((k == 3) & edge_fits(h, l))
-        | ((k == 4) & transition_fits(h, l))
-        | ((k == 5) & is_row_in_range(h, l))
-        | (inside(6, 7, k) & (a < h.states))
-        | (k == 8)
+    match kind {
+        FrameKind::Header => counts_fit(a, b, number(l, 3)),
+        FrameKind::Routine => a < h.routines && inside(2, MAX_NODES as u8, b),
+        FrameKind::Edge => edge_fits(h, l),
+        FrameKind::Transition => transition_fits(h, l),
+        FrameKind::Row => is_row_in_range(h, l),
+        FrameKind::Initial | FrameKind::Rejecting => a < h.states,
+        FrameKind::End => true,
+    }
 }

@@ -1,4 +1,0 @@
-use Rattle.order.proofs.is_miscounted.Goals as goal
-
-pub returns : goal.returns
-returns c = cc
