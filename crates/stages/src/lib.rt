@@ -7,13 +7,12 @@
 
 ghost use Rattle.std.specs.Prelude.{◌≡◌, ◌≤◌, length, replicate};
 ghost use Rattle.base.specs.Filled.{Filled};
-ghost use Rattle.program.specs.Chosen.{numbers, Admitted};
+ghost use Rattle.program.specs.Chosen.{numbers};
 ghost use Rattle.program.specs.Decoded.{program_of};
 ghost use Rattle.exchange.specs.Changes.{whole};
 ghost use Rattle.exchange.specs.Changing.{exchanged_program};
 ghost use Rattle.exchange.specs.Decoded.{exchange_of};
-ghost use Rattle.reach.specs.Configurations.{Usable};
-ghost use Rattle.resize.specs.Resized.{Alike, renumbered};
+ghost use Rattle.resize.specs.Resized.{renumbered};
 ghost use Rattle.gained.specs.Parts.{FlagsOf};
 ghost use Rattle.inside_out.specs.Reanalyzed.{ReanalyzedBy, Told};
 ghost use Rattle.stages.specs.Parts.{Exchanges, Buffers, Exchanged};
@@ -53,7 +52,7 @@ fn in_stages<
     second: &mut [u8],
     work: &mut [u8],
 ) -> (D, A)
-    requires sized { Admitted z × Usable y × Alike z y }
+    requires exchanges { Exchanges z y (exchange_of x) (program_of p) }
     requires buffers { (length marks.now ≡ numbers z) × (length second.old ≡ numbers y)
         × (numbers z ≤ length work.old) × (numbers y ≤ length work.old) }
     requires droppable { (m : _) (w : _) → m.now ≡ marks.now → length w.now ≡ numbers z

@@ -24,16 +24,6 @@ before-sized s = own_sized _ s.requires.exchanges.before s.requires.exchanges.we
 long : (s : Start) → length s.args.marks.now ≡ numbers s.args.z
 long s = ap length s.requires.buffers.own ∙ marks-length s.args.z (before-sized s).usable (program_of s.args.p)
 
-sized : (s : Start) → Admitted s.args.z × Usable s.args.y × Alike s.args.z s.args.y
-sized s =
-    let x = exchange_of s.args.x in
-    let p = program_of s.args.p in
-    let e = s.requires.exchanges in
-    ((before-sized s).admitted, (exchanged_after x p e).usable, sizes_alike x p e)
-
-pub in_stages-requires-clause-sized : goal.in_stages-requires-clause-sized
-in_stages-requires-clause-sized c = sized (goal.at.in_stages-requires-clause-sized c).Start
-
 pub in_stages-requires-clause-buffers : goal.in_stages-requires-clause-buffers
 in_stages-requires-clause-buffers c =
     let b = c.requires.buffers in
@@ -46,9 +36,6 @@ in_stages-requires-clause-addable c =
     let e = c.requires.exchanges in
     λ d m w m' w' s v dropped copied room resized room-after.
     ((e.well_formed, e.fits, left_after x p e, exchanged_after x p e), (left_resized x p e dropped.2.0 resized, room-after))
-
-pub in_stages-requires-2-clause-sized : goal.in_stages-requires-2-clause-sized
-in_stages-requires-2-clause-sized c = sized (goal.at.in_stages-requires-2-clause-sized c).Start
 
 pub in_stages-requires-2-clause-buffers : goal.in_stages-requires-2-clause-buffers
 in_stages-requires-2-clause-buffers c =
