@@ -1,8 +1,8 @@
 -- The stages of an exchange: the drop in the sizes before, the same marks in the sizes after, and the add there.
 use mathlib.Core.Path.{◌≡◌, sym, ap, ◌∙◌}
-use mathlib.Core.List.{List, ◌++◌}
+use mathlib.Core.List.{List}
 use Prim.Native.Nat.{ℕ, ◌≤◌}
-use lib.ListN.{length, take, drop, replicate, length-replicate}
+use lib.ListN.{length, take, replicate, length-replicate}
 use lib.Seq.{length-take-le}
 use Rattle.base.specs.Filled.{Filled}
 use Rattle.automaton.specs.declared.Event.{Event}
@@ -11,9 +11,7 @@ use Rattle.program.specs.Chosen.{numbers}
 use Rattle.program.specs.Program.{Program}
 use Rattle.reach.specs.Runs.{step_of, HasStep}
 use Rattle.reach.specs.Ranged.{Ranged, Sized}
-use Rattle.reach.specs.Marks.{Shows, fresh_at}
-use Rattle.reach.proofs.MarksCopied.{copied_is}
-use Rattle.prune.specs.Pruning.{Kept}
+use Rattle.reach.specs.Marks.{fresh_at}
 use Rattle.resize.specs.Resized.{Alike, renumbered}
 use Rattle.resize.proofs.MarksResized.{resized_fresh}
 use Rattle.exchange.specs.Changes.{Exchange}
@@ -56,7 +54,7 @@ module _ {Z Y : Sizes} (x : Exchange) (p : Program) (s : Exchanges Z Y x p) wher
         states = ap (λ (z : Sizes). z.states) s.before ∙ sym (ap (λ (z : Sizes). z.states) s.after);
       }
 
-  pub left_before : Sized Z (emptied x.routine p)
+  left_before : Sized Z (emptied x.routine p)
   left_before = emptied_sized x.routine p s.well_formed s.before
 
   pub exchanged_after : Sized Y (exchanged_program x p)
@@ -83,8 +81,3 @@ zero_throughout n e = e ∙ ap (λ (k : ℕ). replicate k 0) (sym (ap length e �
 -- of the working buffer so much is lent
 pub part_room : (n : ℕ) (work : List ℕ) → n ≤ length work → n ≡ length (take n work)
 part_room n work h = sym (length-take-le {A = ℕ} n work h)
-
--- what is kept of a copy is what is kept of the marks
-pub kept_of_copy : {Z : Sizes} (p : Program) (marks room : List ℕ) → length marks ≡ length room
-    → (copy new : List ℕ) → copy ≡ take (length marks) marks ++ drop (length marks) room → Shows Z (Kept Z p copy) new → Shows Z (Kept Z p marks) new
-kept_of_copy p marks room h copy new e k = rw (copied_is marks room e h) at k

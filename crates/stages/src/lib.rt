@@ -6,15 +6,13 @@
 #![tactic(auto)]
 
 ghost use Rattle.std.specs.Prelude.{◌≡◌, ◌≤◌, length, replicate};
-ghost use Rattle.program.specs.Chosen.{sizes_of, numbers};
-ghost use Rattle.program.specs.WellFormed.{WellFormed};
+ghost use Rattle.base.specs.Filled.{Filled};
+ghost use Rattle.program.specs.Chosen.{numbers};
 ghost use Rattle.program.specs.Decoded.{program_of};
 ghost use Rattle.exchange.specs.Changes.{whole};
-ghost use Rattle.exchange.specs.Changing.{emptied, exchanged_program};
+ghost use Rattle.exchange.specs.Changing.{exchanged_program};
 ghost use Rattle.exchange.specs.Decoded.{exchange_of};
-ghost use Rattle.reach.specs.Marks.{Shows, fresh_at};
-ghost use Rattle.prune.specs.Pruning.{Kept};
-ghost use Rattle.callgraph.specs.Components.{Reanalyzed, Gained};
+ghost use Rattle.resize.specs.Resized.{renumbered};
 ghost use Rattle.gained.specs.Parts.{FlagsOf};
 ghost use Rattle.inside_out.specs.Reanalyzed.{ReanalyzedBy, Told};
 ghost use Rattle.stages.specs.Parts.{Exchanges, Buffers, Exchanged};
@@ -29,39 +27,6 @@ use program::DecodedProgram;
 use program::sizes::{MARKS_MOST, MAX_ROUTINES, Sizes};
 use resize::resize;
 
-// The edges of routine f are dropped forward, on a copy of the marks: what the program without them keeps of whatever
-// marks are lent, and no fresh working.
-fn drop_copied(z: Sizes, p: DecodedProgram, f: u8, marks: &[u8], kept: &mut [u8], work: &mut [u8])
-    requires well_formed { WellFormed (program_of p) × (z ≡ sizes_of (program_of p)) }
-    requires marks_len { (length marks.now ≡ numbers z) × (length kept.old ≡ numbers z)
-        × (numbers z ≤ length work.old) }
-    ensures { Shows z (Kept z (emptied f (program_of p)) marks.now) kept.new }
-{
-    let size = kept.len();
-    let _copied = base::bytes::copy(marks, kept);
-    drop_routine(z, p, f, kept, &mut work[..size]);
-}
-
-// The same inside-out, where the marks are the program's own.
-fn drop_copied_inside_out(
-    z: Sizes,
-    p: DecodedProgram,
-    f: u8,
-    marks: &[u8],
-    own: &mut [u8],
-    work: &mut [u8],
-) -> Routines
-    requires well_formed { WellFormed (program_of p) × (z ≡ sizes_of (program_of p)) }
-    requires marks_value { (marks.now ≡ fresh_at z (program_of p)) × (length own.old ≡ numbers z)
-        × (numbers z ≤ length work.old) }
-    ensures { (own.new ≡ fresh_at z (emptied f (program_of p)))
-        × FlagsOf (Reanalyzed (program_of p) (emptied f (program_of p)) f) result.flags }
-{
-    let size = own.len();
-    let _copied = base::bytes::copy(marks, own);
-    drop_routine_inside_out(z, p, f, own, &mut work[..size])
-}
-
 // A working buffer may be longer than the part that was lent of it.
 pub fn clear_whole(work: &mut [u8])
     ensures { work.new ≡ replicate (length work.new) 0 }
@@ -69,98 +34,16 @@ pub fn clear_whole(work: &mut [u8])
     clear(work);
 }
 
-// What the drop has left, in the sizes after, and the new edges.
-fn add_resized(
-    z: Sizes,
-    y: Sizes,
-    p: DecodedProgram,
-    x: DecodedExchange,
-    own: &[u8],
-    second: &mut [u8],
-    work: &mut [u8],
-) -> DecodedProgram
-    requires exchanges { Exchanges z y (exchange_of x) (program_of p) }
-    requires own_value { (own.now ≡ fresh_at z (emptied x.routine (program_of p))) × (length second.old ≡ numbers y)
-        × (numbers y ≤ length work.old) }
-    ensures { Exchanged y (exchanged_program (exchange_of x) (program_of p)) (program_of result) second.new
-        work.new }
-{
-    let size = second.len();
-    resize(z, y, own, second);
-    let added = add_routine(y, p, x, second, &mut work[..size]);
-    clear_whole(work);
-    added
-}
-
-// The same, with the routines that gain by the new edges.
-fn add_resized_inside_out(
-    z: Sizes,
-    y: Sizes,
-    p: DecodedProgram,
-    x: DecodedExchange,
-    own: &[u8],
-    second: &mut [u8],
-    work: &mut [u8],
-) -> Reworked
-    requires exchanges { Exchanges z y (exchange_of x) (program_of p) }
-    requires own_value { (own.now ≡ fresh_at z (emptied x.routine (program_of p))) × (length second.old ≡ numbers y)
-        × (numbers y ≤ length work.old) }
-    ensures { Exchanged y (exchanged_program (exchange_of x) (program_of p)) (program_of result.program)
-        second.new work.new
-        × FlagsOf (Gained (emptied x.routine (program_of p)) (exchanged_program (exchange_of x) (program_of p)))
-        result.routines.flags }
-{
-    let size = second.len();
-    resize(z, y, own, second);
-    let added = add_routine_inside_out(y, p, x, second, &mut work[..size]);
-    clear_whole(work);
-    added
-}
-
-// The stages, with room for the copy of the marks.
-fn exchange_beside(
-    z: Sizes,
-    y: Sizes,
-    p: DecodedProgram,
-    x: DecodedExchange,
-    marks: &[u8],
-    own: &mut [u8],
-    second: &mut [u8],
-    work: &mut [u8],
-) -> DecodedProgram
-    requires exchanges { Exchanges z y (exchange_of x) (program_of p) }
-    requires buffers { Buffers z y (program_of p) marks.now second.old work.old × (length own.old ≡ numbers z) }
-    ensures { Exchanged y (exchanged_program (exchange_of x) (program_of p)) (program_of result) second.new
-        work.new }
-{
-    drop_copied(z, p, x.routine, marks, own, work);
-    add_resized(z, y, p, x, own, second, work)
-}
-
-fn exchange_beside_inside_out(
-    z: Sizes,
-    y: Sizes,
-    p: DecodedProgram,
-    x: DecodedExchange,
-    marks: &[u8],
-    own: &mut [u8],
-    second: &mut [u8],
-    work: &mut [u8],
-) -> Reworked
-    requires exchanges { Exchanges z y (exchange_of x) (program_of p) }
-    requires buffers { Buffers z y (program_of p) marks.now second.old work.old × (length own.old ≡ numbers z) }
-    ensures { Exchanged y (exchanged_program (exchange_of x) (program_of p)) (program_of result.program)
-        second.new work.new
-        × FlagsOf (ReanalyzedBy (whole (exchange_of x)) (program_of p)) result.routines.flags }
-{
-    let dropped = drop_copied_inside_out(z, p, x.routine, marks, own, work);
-    let added = add_resized_inside_out(z, y, p, x, own, second, work);
-    let routines = join(dropped, added.routines);
-    let program = added.program;
-    Reworked { program, routines }
-}
-
-fn exchange_forward(
+// The edges of the routine are dropped on a copy of whatever marks are lent, what the drop leaves is written in the sizes
+// after, and the new edges are added there. What the drop and the add do to the two buffers is for the caller to say.
+fn in_stages<
+    D,
+    A,
+    F: FnOnce(Sizes, DecodedProgram, u8, &mut [u8], &mut [u8]) -> D,
+    G: FnOnce(Sizes, DecodedProgram, DecodedExchange, &mut [u8], &mut [u8]) -> A,
+>(
+    drop: F,
+    add: G,
     z: Sizes,
     y: Sizes,
     p: DecodedProgram,
@@ -168,35 +51,31 @@ fn exchange_forward(
     marks: &[u8],
     second: &mut [u8],
     work: &mut [u8],
-) -> DecodedProgram
+) -> (D, A)
     requires exchanges { Exchanges z y (exchange_of x) (program_of p) }
-    requires buffers { Buffers z y (program_of p) marks.now second.old work.old }
-    ensures { Exchanged y (exchanged_program (exchange_of x) (program_of p)) (program_of result) second.new
-        work.new }
+    requires buffers { (length marks.now ≡ numbers z) × (length second.old ≡ numbers y)
+        × (numbers z ≤ length work.old) × (numbers y ≤ length work.old) }
+    requires droppable { (m : _) (w : _) → m.now ≡ marks.now → length w.now ≡ numbers z
+        → F.pre drop z p x.routine m w }
+    requires addable { (d : _) (m : _) (w : _) (m' : _) (w' : _) (s : _) (v : _)
+        → F.post drop z p x.routine m w d m' w' → m.now ≡ marks.now → length w.now ≡ numbers z
+        → Filled (renumbered z y m'.now) (numbers y) s.now → length v.now ≡ numbers y → G.pre add y p x s v }
+    ensures staged { (m : _) × (w : _) × (m' : _) × (w' : _) × (s : _) × (v : _) × (s' : _) × (v' : _)
+        × (m.now ≡ marks.now) × (length w.now ≡ numbers z) × F.post drop z p x.routine m w result.0 m' w'
+        × Filled (renumbered z y m'.now) (numbers y) s.now × (length v.now ≡ numbers y)
+        × G.post add y p x s v result.1 s' v' × (s'.now ≡ second.new) }
+    ensures clear { work.new ≡ replicate (length work.new) 0 }
 {
     let size = marks.len();
-    let mut own = [0u8; MARKS_MOST];
-    exchange_beside(z, y, p, x, marks, &mut own[..size], second, work)
-}
-
-fn exchange_inside_out(
-    z: Sizes,
-    y: Sizes,
-    p: DecodedProgram,
-    x: DecodedExchange,
-    marks: &[u8],
-    second: &mut [u8],
-    work: &mut [u8],
-) -> Reworked
-    requires exchanges { Exchanges z y (exchange_of x) (program_of p) }
-    requires buffers { Buffers z y (program_of p) marks.now second.old work.old }
-    ensures { Exchanged y (exchanged_program (exchange_of x) (program_of p)) (program_of result.program)
-        second.new work.new
-        × FlagsOf (ReanalyzedBy (whole (exchange_of x)) (program_of p)) result.routines.flags }
-{
-    let size = marks.len();
-    let mut own = [0u8; MARKS_MOST];
-    exchange_beside_inside_out(z, y, p, x, marks, &mut own[..size], second, work)
+    let mut room = [0u8; MARKS_MOST];
+    let own = &mut room[..size];
+    own.copy_from_slice(marks);
+    let dropped = drop(z, p, x.routine, own, &mut work[..size]);
+    resize(z, y, own, second);
+    let size_after = second.len();
+    let added = add(y, p, x, second, &mut work[..size_after]);
+    clear_whole(work);
+    (dropped, added)
 }
 
 // The marks of the exchanged program are made in the second buffer, in the way that is asked for: inside-out, which tells
@@ -218,9 +97,22 @@ pub fn mend_exchange(
         × FlagsOf (Told inward (ReanalyzedBy (whole (exchange_of x)) (program_of p))) result.routines.flags }
 {
     if inward {
-        return exchange_inside_out(z, y, p, x, marks, second, work);
+        let (dropped, added) = in_stages(
+            drop_routine_inside_out,
+            add_routine_inside_out,
+            z,
+            y,
+            p,
+            x,
+            marks,
+            second,
+            work,
+        );
+        let routines = join(dropped, added.routines);
+        let program = added.program;
+        return Reworked { program, routines };
     }
-    let program = exchange_forward(z, y, p, x, marks, second, work);
+    let ((), program) = in_stages(drop_routine, add_routine, z, y, p, x, marks, second, work);
     let routines = Routines {
         flags: [0u8; MAX_ROUTINES],
     };
