@@ -14,11 +14,10 @@ use text::Line;
 pub fn is_bad(l: Line) -> bool
     ensures { result ≡ bad_frame l }
 {
-    match kind_of(l) {
-        Some(kind @ (FrameKind::Routine | FrameKind::Edge)) => l.count == 0
-            || l.count != size_of(0, kind),
-        _ => true,
-    }
+    let Some(kind @ (FrameKind::Routine | FrameKind::Edge)) = kind_of(l) else {
+        return true;
+    };
+    l.count == 0 || l.count != size_of(0, kind)
 }
 
 // 13, by what bounds the numbers: no more of a program has to be known.
