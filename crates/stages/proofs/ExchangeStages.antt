@@ -24,7 +24,8 @@ use Rattle.forward.proofs.ExchangedSteps.{in_inserted_all}
 use Rattle.forward.proofs.ExchangedMarks.{emptied_sized}
 
 -- every step that is left is one of the exchanged program
-left_step : (x : Exchange) (p : Program) {f n m : ℕ} {l : Event} → HasStep (emptied x.routine p) f n l m → HasStep (exchanged_program x p) f n l m
+left_step : (x : Exchange) (p : Program) {f n m : ℕ} {l : Event} → HasStep (emptied x.routine p) f n l m
+    → HasStep (exchanged_program x p) f n l m
 unfolding emptied exchanged_program
 left_step x p h = in_inserted_all step_of x.edges _ h
 
@@ -65,13 +66,15 @@ module _ {Z Y : Sizes} (x : Exchange) (p : Program) (s : Exchanges Z Y x p) wher
       record { usable = exchanged_after.usable; admitted = exchanged_after.admitted; ranged = left_ranged x p exchanged_after.ranged }
 
   -- what the drop leaves, in the sizes after
-  pub left_resized : {own second : List ℕ} → own ≡ fresh_at Z (emptied x.routine p) → Filled (renumbered Z Y own) (numbers Y) second
+  pub left_resized : {own second : List ℕ} → own ≡ fresh_at Z (emptied x.routine p)
+      → Filled (renumbered Z Y own) (numbers Y) second
       → second ≡ fresh_at Y (emptied x.routine p)
   left_resized o w =
       resized_fresh left_before.usable left_after.usable (emptied x.routine p) left_before.ranged left_after.ranged sizes_alike o w
 
 -- the whole working buffer is cleared
-pub cleared : {Y : Sizes} {wanted p : Program} {second part work : List ℕ} → Repaired Y wanted p second part → work ≡ replicate (length work) 0
+pub cleared : {Y : Sizes} {wanted p : Program} {second part work : List ℕ} → Repaired Y wanted p second part
+    → work ≡ replicate (length work) 0
     → Exchanged Y wanted p second work
 cleared r e = record { is_wanted = r.is_wanted; own = r.own; clear = e }
 

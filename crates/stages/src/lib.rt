@@ -1,7 +1,7 @@
 // The marks after an exchange, in stages, each in one numbering: the old edges of the routine are dropped on a copy of
-// the program's own marks, in the sizes before; what is left is written into the second buffer in the sizes after; there
-// all new edges are added. The old marks are lent for reading. The exchanges that come here were not refused (12, 13,
-// 16, 21, 23), the marks are the program's own (17), and the buffers have their lengths (9 and 11): hence each
+// the program's own marks, in the sizes before; what is left is written into the second buffer in the sizes after;
+// there all new edges are added. The old marks are lent for reading. The exchanges that come here were not refused (12,
+// 13, 16, 21, 23), the marks are the program's own (17), and the buffers have their lengths (9 and 11): hence each
 // `requires`.
 #![tactic(auto)]
 
@@ -34,8 +34,9 @@ pub fn clear_whole(work: &mut [u8])
     clear(work);
 }
 
-// The edges of the routine are dropped on a copy of whatever marks are lent, what the drop leaves is written in the sizes
-// after, and the new edges are added there. What the drop and the add do to the two buffers is for the caller to say.
+// The edges of the routine are dropped on a copy of whatever marks are lent, what the drop leaves is written in the
+// sizes after, and the new edges are added there. What the drop and the add do to the two buffers is for the caller to
+// say.
 fn in_stages<
     D,
     A,
@@ -78,8 +79,8 @@ fn in_stages<
     (dropped, added)
 }
 
-// The marks of the exchanged program are made in the second buffer, in the way that is asked for: inside-out, which tells
-// the reanalyzed routines, or forward, which tells none.
+// The marks of the exchanged program are made in the second buffer, in the way that is asked for: inside-out, which
+// tells the reanalyzed routines, or forward, which tells none.
 pub fn mend_exchange(
     inward: bool,
     z: Sizes,
@@ -110,11 +111,12 @@ pub fn mend_exchange(
         );
         let routines = join(dropped, added.routines);
         let program = added.program;
-        return Reworked { program, routines };
+        Reworked { program, routines }
+    } else {
+        let ((), program) = in_stages(drop_routine, add_routine, z, y, p, x, marks, second, work);
+        let routines = Routines {
+            flags: [0u8; MAX_ROUTINES],
+        };
+        Reworked { program, routines }
     }
-    let ((), program) = in_stages(drop_routine, add_routine, z, y, p, x, marks, second, work);
-    let routines = Routines {
-        flags: [0u8; MAX_ROUTINES],
-    };
-    Reworked { program, routines }
 }

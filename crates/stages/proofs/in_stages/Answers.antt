@@ -3,7 +3,6 @@ use Rattle.forward.proofs.ChangedMarks.{own_sized}
 use Rattle.stages.proofs.ExchangeStages.{sizes_alike, exchanged_after}
 use Rattle.exchange.specs.Decoded.{exchange_of}
 use Rattle.program.specs.Decoded.{program_of}
-use native.Mathlib.Omega.{arith}
 use borrow.Author.Rules.{rules}
 use Rattle.stages.proofs.in_stages.Goals as goal
 
