@@ -1,5 +1,5 @@
 // The refusals 14 to 16 of an edit that was read.
-ghost use Rattle.std.specs.Prelude.{◌≡◌, map};
+ghost use Rattle.std.specs.Prelude.{◌≡◌, map, IfOk};
 ghost use Rattle.text.specs.Lines.{Bytes};
 ghost use Rattle.program.specs.Frames.{edge_frame};
 ghost use Rattle.program.specs.Decoded.{edge_keys_of, edge_of};
@@ -7,7 +7,7 @@ ghost use Rattle.program.specs.Refusals.{number_met};
 ghost use Rattle.edit.specs.Edits.{edge_of_step};
 ghost use Rattle.edit.specs.Editing.{has_edge, edit_refusal, wanted_by};
 ghost use Rattle.edit.specs.Parts.{Keyed, refusal_by};
-ghost use Rattle.edit.specs.EditReads.{Read, edit_read_of};
+ghost use Rattle.edit.specs.EditReads.{edit_read_of};
 
 use crate::key::{new_step, old_step, step_key};
 use crate::{Edit, Step};
@@ -47,11 +47,12 @@ fn edit_refusal(e: Edit, t: Edges) -> Result<(), Refusal>
     refusal_by(e, old, new, MAX_EDGES <= t.count)
 }
 
-// An edit that was read, judged by a table of edges. What was read has keys: hence the `requires`.
-pub fn wanted_by(e: Edit, t: Edges) -> Result<Edit, Refusal>
-    requires { Keyed e }
-    ensures { edit_read_of result ≡ wanted_by (Read e) (map edge_of (edge_keys_of t)) }
+// An edit that was read, judged by a table of edges; a refusal stays. What was read has keys: hence the `requires`.
+pub fn wanted_by(read: Result<Edit, Refusal>, t: Edges) -> Result<Edit, Refusal>
+    requires { IfOk read Keyed }
+    ensures { edit_read_of result ≡ wanted_by (edit_read_of read) (map edge_of (edge_keys_of t)) }
 {
+    let e = read?;
     edit_refusal(e, t)?;
     Ok(e)
 }

@@ -7,6 +7,7 @@ use native.Mathlib.Omega.{arith}
 use lib.Dec.{ltb, eqb}
 use lib.ListN.{get_or}
 use borrow.Author.Tests.{ltb-false, not-false}
+use Rattle.std.specs.Prelude.{Result, Ok, Err, IfOk}
 use Rattle.text.specs.declared.Line.{Line}
 use Rattle.automaton.specs.Sizes.{first_call}
 use Rattle.automaton.specs.Automaton.{label_fits}
@@ -14,12 +15,13 @@ use Rattle.program.specs.Program.{Program, edge_fits, placed}
 use Rattle.program.specs.Frames.{num}
 use Rattle.program.specs.Reading.{edge_in}
 use Rattle.program.specs.WellFormed.{WellFormed}
+use Rattle.program.specs.declared.refusal.Refusal.{Refusal}
 use Rattle.edit.specs.Edits.{event_of, label_number, edge_of_step}
 use Rattle.edit.specs.Parts.{Keyed}
 use Rattle.edit.specs.declared.Label.TheVariants.{Action, Call}
 use Rattle.edit.specs.declared.Edit.{Edit}
 use Rattle.edit.specs.declared.Edit.TheVariants.{Add, Drop, Replace}
-use Rattle.edit.specs.EditReads.{Read, Refused}
+use Rattle.edit.specs.EditReads.{Read, Refused, edit_read_of}
 use Rattle.edit.proofs.EditRefusals.{Fits, FitsRead, fits_keyed}
 use Rattle.edit_line.specs.EditLines.{only_line, bad_line, out_of_range, step_in, edit_in, edit_from, read_edit}
 use Rattle.base.proofs.Bools.{neither}
@@ -82,5 +84,6 @@ read_fits p line = go (bad_line l) (out_of_range p l) (edit_fits p l)
     go false true h = tt
     go false false h = h refl refl
 
-pub line_keyed : (p : Program) → WellFormed p → (line : List ℕ) → {e : Edit} → Read e ≡ read_edit p line → Keyed e
-line_keyed p w line {e} h = fits_keyed p w e (rw (← h) at (read_fits p line))
+pub line_keyed : (p : Program) → WellFormed p → (line : List ℕ) → (r : Result Edit Refusal) → edit_read_of r ≡ read_edit p line → IfOk r Keyed
+line_keyed p w line (Ok e) h = fits_keyed p w e (rw (← h) at (read_fits p line))
+line_keyed p w line (Err n) h = tt

@@ -31,6 +31,5 @@ pub fn wanted_edit(p: DecodedProgram, line: &[u8]) -> Result<Edit, Refusal>
     requires { WellFormed (program_of p) }
     ensures { edit_read_of result ≡ wanted_edit (program_of p) line.now }
 {
-    let e = read_edit(p, line)?;
-    wanted_by(e, p.edges)
+    wanted_by(read_edit(p, line), p.edges)
 }

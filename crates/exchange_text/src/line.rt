@@ -14,7 +14,7 @@ use text::Line;
 pub fn is_bad(l: Line) -> bool
     ensures { result ≡ bad_frame l }
 {
-    let Some(kind @ (FrameKind::Routine | FrameKind::Edge)) = kind_of(l) else {
+    let kind @ Some(FrameKind::Routine | FrameKind::Edge) = kind_of(l) else {
         return true;
     };
     l.count == 0 || l.count != size_of(0, kind)
@@ -24,10 +24,7 @@ pub fn is_bad(l: Line) -> bool
 pub fn is_outside(h: Limits, l: Line) -> bool
     ensures { result ≡ outside (limits_of h) l }
 {
-    match kind_of(l) {
-        Some(kind) => !in_range(h, kind, l),
-        None => true,
-    }
+    !in_range(h, kind_of(l), l)
 }
 
 // 21, for a line after the first: it is no edge of routine f above the one before it.

@@ -71,18 +71,20 @@ fn row_size(states: u8) -> usize
     7
 }
 
-// How many numbers a frame of this kind has, its kind among them, where there are so many states.
-pub fn size_of(states: u8, kind: FrameKind) -> usize
-    ensures { result ≡ size states (place kind) }
+// How many numbers a frame of this kind has, its kind among them, where there are so many states: two where the kind is
+// unknown.
+pub fn size_of(states: u8, kind: Option<FrameKind>) -> usize
+    ensures { result ≡ size states (place_of kind) }
 {
     match kind {
-        FrameKind::Header => 4,
-        FrameKind::Routine => 3,
-        FrameKind::Edge => 5,
-        FrameKind::Transition => 4,
-        FrameKind::Row => row_size(states),
-        FrameKind::Initial | FrameKind::Rejecting => 2,
-        FrameKind::End => 3,
+        Some(FrameKind::Header) => 4,
+        Some(FrameKind::Routine) => 3,
+        Some(FrameKind::Edge) => 5,
+        Some(FrameKind::Transition) => 4,
+        Some(FrameKind::Row) => row_size(states),
+        Some(FrameKind::Initial | FrameKind::Rejecting) => 2,
+        Some(FrameKind::End) => 3,
+        None => 2,
     }
 }
 

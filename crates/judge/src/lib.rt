@@ -19,7 +19,7 @@ pub fn fault_by(last: u64, n: Counts, h: Limits, l: Line) -> Result<(), Refusal>
     if l.count == 0 {
         return Err(Refusal::BadLine);
     }
-    let Some(kind) = kind_of(l) else {
+    let kind @ Some(_) = kind_of(l) else {
         return Err(Refusal::UnknownKind);
     };
     if l.count != size_of(h.states, kind) {

@@ -4,7 +4,7 @@
 
 ghost use Rattle.std.specs.Prelude.{◌≡◌};
 ghost use Rattle.program.specs.Reading.{due, in_place, ordered, full, miscounted};
-ghost use Rattle.frames.specs.Kinds.{place};
+ghost use Rattle.frames.specs.Kinds.{place_of};
 
 use automaton::sizes::MAX_TRANSITIONS;
 use frames::{FrameKind, key_of, number};
@@ -30,40 +30,45 @@ fn is_due(routines: u8, done: usize, f: u8) -> bool
     (i == done) | ((r <= done) & (done < i))
 }
 
-fn is_in_place(frames: usize, routines: u8, done: usize, kind: FrameKind, l: Line) -> bool
-    ensures { result ≡ in_place frames routines done (place kind) l }
+// A line of an unknown kind is never in its place.
+fn is_in_place(frames: usize, routines: u8, done: usize, kind: Option<FrameKind>, l: Line) -> bool
+    ensures { result ≡ in_place frames routines done (place_of kind) l }
 {
     match kind {
-        FrameKind::Header => frames == 0,
-        FrameKind::Routine => 0 < frames && is_due(routines, done, number(l, 1)),
-        _ => 0 < frames && done == routines as usize,
+        Some(FrameKind::Header) => frames == 0,
+        Some(FrameKind::Routine) => 0 < frames && is_due(routines, done, number(l, 1)),
+        Some(_) => 0 < frames && done == routines as usize,
+        None => false,
     }
 }
 
-pub fn in_order(last: u64, n: Counts, routines: u8, kind: FrameKind, l: Line) -> bool
-    ensures { result ≡ ordered last n.frames routines n.nodes n.transitions (place kind) l }
+// Whether a line of this kind is in order after what was read: never where its kind is unknown.
+pub fn in_order(last: u64, n: Counts, routines: u8, kind: Option<FrameKind>, l: Line) -> bool
+    ensures { result ≡ ordered last n.frames routines n.nodes n.transitions (place_of kind) l }
 {
-    let x = key_of(Some(kind), l);
+    let x = key_of(kind, l);
     (last < x)
         && is_in_place(n.frames, routines, n.nodes, kind, l)
-        && !(kind == FrameKind::Row && 0 < n.transitions)
+        && !(kind == Some(FrameKind::Row) && 0 < n.transitions)
 }
 
-pub fn is_full(n: Counts, kind: FrameKind) -> bool
-    ensures { result ≡ full n.edges n.transitions n.rows (place kind) }
+// Whether the table that a line of this kind goes into is full: an unknown kind has none.
+pub fn is_full(n: Counts, kind: Option<FrameKind>) -> bool
+    ensures { result ≡ full n.edges n.transitions n.rows (place_of kind) }
 {
     match kind {
-        FrameKind::Edge => MAX_EDGES <= n.edges,
-        FrameKind::Transition => MAX_TRANSITIONS <= n.transitions,
-        FrameKind::Row => MAX_ROWS <= n.rows,
+        Some(FrameKind::Edge) => MAX_EDGES <= n.edges,
+        Some(FrameKind::Transition) => MAX_TRANSITIONS <= n.transitions,
+        Some(FrameKind::Row) => MAX_ROWS <= n.rows,
         _ => false,
     }
 }
 
-pub fn is_miscounted(frames: usize, kind: FrameKind, l: Line) -> bool
-    ensures { result ≡ miscounted frames (place kind) l }
+// Whether a line is an end frame whose count is wrong: none of another kind or of an unknown one is.
+pub fn is_miscounted(frames: usize, kind: Option<FrameKind>, l: Line) -> bool
+    ensures { result ≡ miscounted frames (place_of kind) l }
 {
     let a = number(l, 1);
     let b = number(l, 2);
-    kind == FrameKind::End && (a as usize) * 256 + (b as usize) != frames
+    kind == Some(FrameKind::End) && (a as usize) * 256 + (b as usize) != frames
 }

@@ -6,7 +6,7 @@ ghost use Rattle.rows.specs.Rows.{row_fits};
 ghost use Rattle.program.specs.Program.{within, counts_fit, placed, edge_fits, transition_fits};
 ghost use Rattle.program.specs.Reading.{edge_in, transition_in, row_in, ranged};
 ghost use Rattle.program.specs.Decoded.{nodes_of};
-ghost use Rattle.frames.specs.Kinds.{place};
+ghost use Rattle.frames.specs.Kinds.{place_of};
 ghost use Rattle.ranges.specs.Limits.{limits, limits_of};
 
 use automaton::labels::{event_fits, label_fits};
@@ -96,19 +96,20 @@ fn is_row_in_range(h: Limits, l: Line) -> bool
     row_fits(row_in(h.states, l), h.states, h.actions)
 }
 
-// Whether the numbers of a frame of this kind are in range, by what bounds them.
-pub fn in_range(h: Limits, kind: FrameKind, l: Line) -> bool
-    ensures { result ≡ ranged (limits_of h) (place kind) l }
+// Whether the numbers of a frame of this kind are in range, by what bounds them: never where the kind is unknown.
+pub fn in_range(h: Limits, kind: Option<FrameKind>, l: Line) -> bool
+    ensures { result ≡ ranged (limits_of h) (place_of kind) l }
 {
     let a = number(l, 1);
     let b = number(l, 2);
     match kind {
-        FrameKind::Header => counts_fit(a, b, number(l, 3)),
-        FrameKind::Routine => a < h.routines && inside(2, MAX_NODES as u8, b),
-        FrameKind::Edge => edge_fits(h, l),
-        FrameKind::Transition => transition_fits(h, l),
-        FrameKind::Row => is_row_in_range(h, l),
-        FrameKind::Initial | FrameKind::Rejecting => a < h.states,
-        FrameKind::End => true,
+        Some(FrameKind::Header) => counts_fit(a, b, number(l, 3)),
+        Some(FrameKind::Routine) => a < h.routines && inside(2, MAX_NODES as u8, b),
+        Some(FrameKind::Edge) => edge_fits(h, l),
+        Some(FrameKind::Transition) => transition_fits(h, l),
+        Some(FrameKind::Row) => is_row_in_range(h, l),
+        Some(FrameKind::Initial | FrameKind::Rejecting) => a < h.states,
+        Some(FrameKind::End) => true,
+        None => false,
     }
 }

@@ -6,10 +6,11 @@ use Rattle.judge.proofs.fault_by.Goals as goal
 
 pub returns-then-l-size_of : goal.returns-then-l-size_of
 returns-then-l-size_of c =
+    let size = rw c.in-Some.is at c.size_of.ensures in
     rw (
       ne_eqb _ _ c.if-l-eq0.false,
       ← c.in-Some.ensures,
-      is_known c.in-Some.kind,
-      ← c.size_of.ensures,
+      is_known c.in-Some.field-0,
+      ← size,
       ne_eqb _ _ c.if-l-size_of.true,
     ) refl
