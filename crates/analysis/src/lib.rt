@@ -18,7 +18,7 @@ ghost use Rattle.worklist.specs.Parts.{Analyzed};
 
 use automaton::flags::rejecting_flags;
 use base::flags::{clear, count_set};
-use checks::checked_program;
+use checks::passed_program;
 use own::is_own;
 use program::DecodedProgram;
 use program::chosen::sizes_of;
@@ -98,7 +98,7 @@ pub fn analyze(
         × (marks.new ≡ marks_after file.now marks.old work.old limit)
         × (work.new ≡ work_after file.now marks.old work.old) }
 {
-    let p = checked_program(file, Some(marks.len()), None, Some(work.len()))?;
+    let p = passed_program(file, Some(marks.len()), None, Some(work.len()))?;
     analyze_counts(p, marks, work, limit)
 }
 
@@ -128,7 +128,7 @@ pub fn next_violation(
     ensures { (next_answer_by result ≡ next_answer file.now marks.now work.old low)
         × (work.new ≡ work_after file.now marks.now work.old) }
 {
-    let p = checked_program(file, Some(marks.len()), None, Some(work.len()))?;
+    let p = passed_program(file, Some(marks.len()), None, Some(work.len()))?;
     check_own(p, marks, work)?;
     let rejecting = rejecting_flags(p.automaton);
     Ok(first_violation(sizes_of(p), marks, &rejecting.flags, low))

@@ -8,7 +8,7 @@ ghost use Rattle.block_list.specs.BlockAnswers.{block_answer_by};
 
 use analysis::check_own;
 use blocked::{Blocked, first_blocked};
-use checks::checked_program;
+use checks::passed_program;
 use program::chosen::sizes_of;
 use program::refusal::RefusedAt;
 
@@ -24,7 +24,7 @@ pub fn next_blocked(
     ensures { (block_answer_by result ≡ block_answer file.now marks.now work.old low)
         × (work.new ≡ work_after file.now marks.now work.old) }
 {
-    let p = checked_program(file, Some(marks.len()), None, Some(work.len()))?;
+    let p = passed_program(file, Some(marks.len()), None, Some(work.len()))?;
     check_own(p, marks, work)?;
     Ok(first_blocked(sizes_of(p), p, marks, low))
 }

@@ -9,7 +9,7 @@ ghost use Rattle.reach.specs.Marks.{fresh_marks};
 ghost use Rattle.transcript.specs.Transcript.{held_of, nothing, TurnGives, file_of, begun_by, begun};
 
 use analysis::analyze;
-use checks::checked_program;
+use checks::passed_program;
 use input::INPUT_SIZE;
 use program::chosen::sizes_of;
 use program::refusal::{Refusal, RefusedAt};
@@ -44,7 +44,7 @@ fn held_at_first(file: &[u8]) -> Result<Held, RefusedAt>
     ensures verdict { verdict_by result ≡ (read_file file.now).verdict }
     ensures held { IfOk result (λ h. held_of h ≡ record { file = file.now; marks = fresh_marks (read_file file.now).program }) }
 {
-    let program = checked_program(file, None, None, None)?;
+    let program = passed_program(file, None, None, None)?;
     let size = length_of(sizes_of(program));
     let mut marks = [0u8; MARKS_MOST];
     let mut work = [0u8; MARKS_MOST];

@@ -27,7 +27,7 @@ use automaton::flags::initial_flags;
 use automaton::next::next_states;
 use automaton::sizes::MAX_STATES;
 use base::flags::{clear, is_set, set_flag};
-use checks::checked_program;
+use checks::passed_program;
 use index::part::first_of;
 use program::DecodedProgram;
 use program::chosen::sizes_of;
@@ -225,7 +225,7 @@ pub fn prune(file: &[u8], marks: &mut [u8], work: &mut [u8]) -> Result<(), Refus
         (read_file file.now).program marks.old marks.new
         × (work.new ≡ work_after file.now marks.old work.old) }
 {
-    let p = checked_program(file, Some(marks.len()), None, Some(work.len()))?;
+    let p = passed_program(file, Some(marks.len()), None, Some(work.len()))?;
     prune_program(sizes_of(p), p, marks, work);
     Ok(())
 }

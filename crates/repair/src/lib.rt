@@ -19,7 +19,7 @@ ghost use Rattle.writer.specs.WriteAnswers.{write_answer_by};
 
 use analysis::check_own;
 use callgraph::routines::bits_of;
-use checks::checked_program;
+use checks::passed_program;
 use edit::Edit;
 use edit_line::wanted_edit;
 use program::DecodedProgram;
@@ -102,7 +102,7 @@ fn repair_file(
         (wanted_change EditLine (read_file file.now).program text.now)
         (read_file file.now).program (reanalyzed (repair_answer_by result))) }
 {
-    let p = checked_program(
+    let p = passed_program(
         file,
         Some(marks.len()),
         Some(output.len()),

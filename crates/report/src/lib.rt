@@ -8,7 +8,7 @@ ghost use Rattle.text.specs.Lines.{line_of};
 ghost use Rattle.program.specs.Refusals.{number};
 ghost use Rattle.report.specs.Report.{block_text, edit_refusal, file_refusal, Printed};
 
-use checks::checked_program;
+use checks::passed_program;
 use listing::LINE_SIZE;
 use program::chosen::sizes_of;
 use program::refusal::{Refusal, RefusedAt};
@@ -24,7 +24,7 @@ pub fn block(file: &[u8], marks: &[u8], output: &mut [u8]) -> usize
     ensures { Printed (block_text file.now marks.now (length output.old))
         output.old output.new result }
 {
-    let Ok(p) = checked_program(file, Some(marks.len()), None, None) else {
+    let Ok(p) = passed_program(file, Some(marks.len()), None, None) else {
         return 0;
     };
     if output.len() < BLOCK_SIZE {

@@ -26,7 +26,7 @@ ghost use Rattle.rewrite.specs.Room.{room_wanted, room_answer};
 
 use analysis::check_own;
 use callgraph::routines::bits_of;
-use checks::checked_program;
+use checks::passed_program;
 use exchange::DecodedExchange;
 use exchange::lengths::{check_lengths, lengths_of, sizes_after};
 use exchange_text::wanted_exchange;
@@ -164,7 +164,7 @@ fn exchange_file(
         (wanted_change ExchangeText (read_file file.now).program text.now)
         (read_file file.now).program (reanalyzed (repair_answer_by result))) }
 {
-    let p = checked_program(file, Some(marks.len()), Some(output.len()), None)?;
+    let p = passed_program(file, Some(marks.len()), Some(output.len()), None)?;
     exchange_wanted(inward, p, marks, text, output, work, second)
 }
 

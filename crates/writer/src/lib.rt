@@ -7,7 +7,7 @@ ghost use Rattle.std.specs.Prelude.{◌≡◌};
 ghost use Rattle.writer.specs.Answers.{write_answer, output_after};
 ghost use Rattle.writer.specs.WriteAnswers.{write_answer_by};
 
-use checks::checked_program;
+use checks::passed_program;
 use program::refusal::RefusedAt;
 use put::write_program;
 
@@ -17,6 +17,6 @@ pub fn write(file: &[u8], output: &mut [u8]) -> Result<usize, RefusedAt>
     ensures { (write_answer_by result ≡ write_answer file.now output.old)
         × (output.new ≡ output_after file.now output.old) }
 {
-    let program = checked_program(file, None, Some(output.len()), None)?;
+    let program = passed_program(file, None, Some(output.len()), None)?;
     Ok(write_program(output, program))
 }
