@@ -63,26 +63,30 @@ fn states_to_try(z: Sizes, e: DecodedEdge, f: u8, n: u8) -> u8
     }
 }
 
-// The search ends at the first support found. The configuration is in range: hence the `requires`.
+// The search ends at the first support found: a labelled break leaves both loops. The configuration is in range: hence
+// the `requires`.
 fn supported(z: Sizes, keys: &[u32], next: &[u16], kept: &[u8], c: Configuration) -> bool
     requires { c.routine < max_routines }
     ensures { result ≡ supports z keys.now next.now kept.now c.routine c.node
         c.root c.state }
 {
-    for key in keys {
+    let mut found = false;
+    'scan: for key in keys {
         let e = edge(*key);
         if call_supports(z, next, kept, e, c) {
-            return true;
+            found = true;
+            break 'scan;
         }
         let end = states_to_try(z, e, c.routine, c.node);
         let base = number_of(z, c.routine, e.source, c.root, 0);
         for x in 0..end {
             if move_kept(next, kept, base, x, e.label, c.state) {
-                return true;
+                found = true;
+                break 'scan;
             }
         }
     }
-    false
+    found
 }
 
 // A called entry may have its support in any routine: the whole table is searched. Every other configuration has it by

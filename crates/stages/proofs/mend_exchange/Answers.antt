@@ -34,7 +34,7 @@ in_stages-requires-clause-addable c =
     let x = exchange_of c.args.x in
     let p = program_of c.args.p in
     let e = c.requires.exchanges in
-    λ d m w m' w' s v dropped copied room resized room-after. (
+    λ d l m w m' w' s v dropped lent room resized room-after. (
       (e.well_formed, e.fits, left_after x p e, exchanged_after x p e),
       (left_resized x p e dropped.2.0 resized, room-after),
     )
@@ -48,8 +48,8 @@ pub in_stages-requires-else-inward-clause-droppable : goal.in_stages-requires-el
 in_stages-requires-else-inward-clause-droppable c =
     let e = c.requires.exchanges in
     let n = long (goal.at.in_stages-requires-else-inward-clause-droppable c).Start in
-    λ m w copied room.
-    ((e.well_formed, e.before), (ap length copied ∙ n, room))
+    λ l m w lent room space.
+    ((e.well_formed, e.before), (ap length lent ∙ n, room, space))
 
 pub in_stages-requires-else-inward-clause-addable : goal.in_stages-requires-else-inward-clause-addable
 in_stages-requires-else-inward-clause-addable c =
@@ -57,8 +57,8 @@ in_stages-requires-else-inward-clause-addable c =
     let p = program_of c.args.p in
     let e = c.requires.exchanges in
     let f = c.args.x.routine in
-    λ d m w m' w' s v dropped copied room resized room-after.
-    let own = routine_dropped f p e.well_formed e.before (copied ∙ c.requires.buffers.own) dropped.2.0 in (
+    λ d l m w m' w' s v dropped lent room resized room-after.
+    let own = routine_dropped f p e.well_formed e.before (lent ∙ c.requires.buffers.own) dropped.2 in (
       (e.well_formed, e.fits, left_after x p e, exchanged_after x p e),
       (left_resized x p e own resized, room-after),
     )
@@ -69,7 +69,7 @@ returns-then-inward c =
     let p = program_of c.args.p in
     let p' = exchanged_program x p in
     let e = c.in_stages.ensures in
-    let r : Repaired c.args.y p' (program_of c.in_stages.result.1.program) c.in_stages.new.second e.staged.7.now =
+    let r : Repaired c.args.y p' (program_of c.in_stages.result.1.program) c.in_stages.new.second e.staged.8.now =
     search rules in
     let dropped : FlagsOf (Reanalyzed p (emptied x.routine p) x.routine) c.in_stages.result.0.flags = search rules in
     let added : FlagsOf (Gained (emptied x.routine p) p') c.in_stages.result.1.routines.flags = search rules in
@@ -79,5 +79,5 @@ pub returns-else-inward : goal.returns-else-inward
 returns-else-inward c =
     let p' = exchanged_program (exchange_of c.args.x) (program_of c.args.p) in
     let s = c.in_stages-else-inward in
-    let r : Repaired c.args.y p' (program_of s.result.1) s.new.second s.ensures.staged.7.now = search rules in
+    let r : Repaired c.args.y p' (program_of s.result.1) s.new.second s.ensures.staged.8.now = search rules in
     (cleared r s.ensures.clear, none_told _ c.if-inward.false)

@@ -14,34 +14,41 @@ pub returns-then-call_supports : goal.returns-then-call_supports
 unfolding supports
 returns-then-call_supports c =
     let calls = sym c.call_supports.ensures ∙ c.if-call_supports.true in
-    key_met _ _ _ c.loop-key-test.true
+    key_met _ _ _ c.scan-test.true
     (by_key (edge_supports _ _ _ _ _ _ _) c.edge-e.ensures (edge_calls _ _ _ _ _ _ _ _ calls))
 
 pub loop-x-init : goal.loop-x-init
-loop-x-init c = try_all _ _
+loop-x-init c = record { none_yet = c.scan.invariant.none_yet; asked = try_all _ _ }
 
 pub returns-then-move_kept : goal.returns-then-move_kept
 unfolding supports
 returns-then-move_kept c =
     let no-call = sym c.call_supports.ensures ∙ c.if-call_supports.false in
     let one = sym c.move_kept.ensures ∙ c.if-move_kept.true in
-    key_met _ _ _ c.loop-key-test.true
+    key_met _ _ _ c.scan-test.true
     (by_key (edge_supports _ _ _ _ _ _ _) c.edge-e.ensures
     (sym (edge_is _ _ _ _ _ _ _ _ no-call c.states_to_try-end.ensures c.number_of-base.ensures.0)
-    ∙ sym (try_found c.loop-x.invariant c.loop-x-test.true one)))
+    ∙ sym (try_found c.loop-x.invariant.asked c.loop-x-test.true one)))
 
 pub loop-x-preserved : goal.loop-x-preserved
-loop-x-preserved c =
-    try_next c.loop-x.invariant c.loop-x-test.true (sym c.move_kept.ensures ∙ c.if-move_kept.false)
+loop-x-preserved c = record {
+  none_yet = c.loop-x.invariant.none_yet;
+  asked = try_next c.loop-x.invariant.asked c.loop-x-test.true (sym c.move_kept.ensures ∙ c.if-move_kept.false);
+}
 
-pub loop-key-preserved : goal.loop-key-preserved
-loop-key-preserved c =
+pub scan-preserved : goal.scan-preserved
+scan-preserved c =
     let no-call = sym c.call_supports.ensures ∙ c.if-call_supports.false in
-    below_more _ _ c.loop-key.invariant
-    (by_key (edge_supports _ _ _ _ _ _ _) c.edge-e.ensures
-    (sym (edge_is _ _ _ _ _ _ _ _ no-call c.states_to_try-end.ensures c.number_of-base.ensures.0)
-    ∙ sym (try_none c.loop-x.invariant c.loop-x-test.false)))
+    record {
+      none_yet = c.loop-x.invariant.none_yet;
+      asked =
+          below_more _ _ c.scan.invariant.asked
+          (by_key (edge_supports _ _ _ _ _ _ _) c.edge-e.ensures
+          (sym (edge_is _ _ _ _ _ _ _ _ no-call c.states_to_try-end.ensures c.number_of-base.ensures.0)
+          ∙ sym (try_none c.loop-x.invariant.asked c.loop-x-test.false)));
+    }
 
-pub returns : goal.returns
+pub returns-after-scan : goal.returns-after-scan
 unfolding supports
-returns c = none_met _ _ (λ k h. c.loop-key.invariant k (omega arith))
+returns-after-scan c =
+    c.scan.invariant.none_yet ∙ none_met _ _ (λ k h. c.scan.invariant.asked k (omega arith))
