@@ -2,9 +2,11 @@
 use Prim.Native.Nat.{ℕ, ◌+◌}
 use mathlib.Core.Path.{◌≡◌, refl}
 use mathlib.Core.Logic.{◌≢◌}
-use mathlib.Core.Bool.{Bool, true, false, cond}
+use mathlib.Core.Bool.{Bool, true, false, cond, ◌&&◌}
 use mathlib.Core.List.{List, [], ◌∷◌, ◌++◌}
 use native.Mathlib.Omega.{arith}
+use lib.Dec.{eqb}
+use borrow.Author.Tests.{eqb-true, eqb-false}
 use Rattle.rows.specs.Rows.{TableRow, Pair, meets, times_met, next_state}
 
 module _ (p : Pair) where
@@ -36,3 +38,12 @@ module _ (p : Pair) where
       go : (b : Bool) {n : ℕ} → (times_met p rs ≡ 0 → n ≡ r.next) → cond b 1 0 + times_met p rs ≡ 0 → cond b x.next n ≡ r.next
       go true f h = absurd (omega arith)
       go false f h = f (omega arith)
+
+  -- what one row more says: its next state where it is the first that meets the pair
+  pub next_more : (rs : List TableRow) (r : TableRow) → next_state p (rs ++ r ∷ []) ≡ cond (meets p r && eqb (times_met p rs) 0) r.next (next_state p rs)
+  next_more rs r = go (meets p r) refl (eqb (times_met p rs) 0) refl
+    where
+      go : (b : Bool) → meets p r ≡ b → (t : Bool) → eqb (times_met p rs) 0 ≡ t → next_state p (rs ++ r ∷ []) ≡ cond (b && t) r.next (next_state p rs)
+      go true e true h = next_first rs r e (eqb-true (times_met p rs) 0 h)
+      go true e false h = next_later rs r (eqb-false (times_met p rs) 0 h)
+      go false e t h = next_unmet rs r e

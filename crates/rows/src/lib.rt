@@ -10,6 +10,7 @@ ghost use Rattle.rows.specs.Decoded.{row_of, row_keys_of, rows_of, pair_of, faul
 use automaton::sizes::MAX_TRANSITIONS;
 use automaton::transitions::{Transitions, transition_key};
 use base::bits::has_bit;
+use base::choose;
 use tables::{in_use, with_entry};
 
 pub const MAX_ROWS: usize = 256;
@@ -103,7 +104,8 @@ fn meets_pair(key: u64, pair: FaultyPair) -> bool
     has_bit(pair.state, key / 0x10000000000) & has_bit(pair.action, key / 0x100 % 0x100000000)
 }
 
-// What the rows say of a pair: the first of them that meets it says the next state.
+// What the rows say of a pair: the first of them that meets it says the next state. Every pair asks every row, and which
+// rows meet it follows no pattern: hence no branch.
 fn met_by(keys: &[u64], pair: FaultyPair) -> Met
     ensures { (result.times ≡ times_met (pair_of pair) (map row_of keys.now))
         × (result.next ≡ next_state (pair_of pair) (map row_of keys.now)) }
@@ -112,12 +114,8 @@ fn met_by(keys: &[u64], pair: FaultyPair) -> Met
     let mut next = 0;
     for key in keys {
         let meets = meets_pair(*key, pair);
-        if meets {
-            if times == 0 {
-                next = (*key % 256) as u8;
-            }
-            times += 1;
-        }
+        next = choose(meets & (times == 0), (*key % 256) as u8, next);
+        times += usize::from(meets);
     }
     Met { times, next }
 }

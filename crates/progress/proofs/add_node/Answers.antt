@@ -5,7 +5,7 @@ use Rattle.program.specs.Sizes.{max_routines}
 use Rattle.progress.proofs.ListsKept.{room_for}
 use Rattle.progress.proofs.add_node.Goals as goal
 
-pub add_entry-count-requires : goal.add_entry-count-requires
-add_entry-count-requires c =
-    let size : length c.args.n.list ≡ max_routines = search rules in
-    room_for c.args.n.count c.args.n.list size c.requires
+pub add_entry-n-requires : goal.add_entry-n-requires
+add_entry-n-requires c =
+    let size : length c.args.n.now.list ≡ max_routines = search rules in
+    room_for c.args.n.now.count c.args.n.now.list size c.requires

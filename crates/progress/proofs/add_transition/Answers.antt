@@ -5,7 +5,7 @@ use Rattle.automaton.specs.Sizes.{max_transitions}
 use Rattle.progress.proofs.ListsKept.{room_for}
 use Rattle.progress.proofs.add_transition.Goals as goal
 
-pub add_entry-count-requires : goal.add_entry-count-requires
-add_entry-count-requires c =
-    let size : length c.args.t.keys ≡ max_transitions = search rules in
-    room_for c.args.t.count c.args.t.keys size c.requires
+pub add_entry-t-requires : goal.add_entry-t-requires
+add_entry-t-requires c =
+    let size : length c.args.t.now.keys ≡ max_transitions = search rules in
+    room_for c.args.t.now.count c.args.t.now.keys size c.requires

@@ -14,7 +14,6 @@ use Rattle.rows.specs.Rows.{TableRow}
 use Rattle.rows.specs.Decoded.{rows_of}
 use Rattle.program.proofs.RefusalsSmall.{judge_small}
 use Rattle.program.proofs.RefusalNumbers.{line_alone, some_number}
-use borrow.Author.Tests.{not-true, not-false}
 use Rattle.reader.proofs.read.Goals as goal
 use Rattle.reader.proofs.read.Goals.{After-fault_of, At-loop-at, In_default}
 
@@ -70,17 +69,17 @@ no_fault c =
     sym (c.in_default.ensures (rows_at p) c.row_count.ensures
     ∙ ap (λ (x : ReadLine). judge (progress_of c.loop-at.s (rows_at p)) x.line) c.read_line-next.ensures)
 
-pub after_frame-s-requires : goal.after_frame-s-requires
-after_frame-s-requires c =
-    let p = (goal.at.after_frame-s-requires c).At-loop-at in (
-      rw c.read_line-next.ensures (has_room (file_of p) c.loop-at.s (rows_at p) c.loop-at.at c.loop-at.invariant c.if-s.false (no_fault (goal.at.after_frame-s-requires c).In_default)),
+pub note_frame-requires : goal.note_frame-requires
+note_frame-requires c =
+    let p = (goal.at.note_frame-requires c).At-loop-at in (
+      rw c.read_line-next.ensures (has_room (file_of p) c.loop-at.s (rows_at p) c.loop-at.at c.loop-at.invariant c.if-s.false (no_fault (goal.at.note_frame-requires c).In_default)),
       omega (arith, some-frames p),
     )
 
-pub rows_after-rows-requires : goal.rows_after-rows-requires
-rows_after-rows-requires c =
-    let p = (goal.at.rows_after-rows-requires c).At-loop-at in
-    rw c.read_line-next.ensures (has_room_for_row (file_of p) c.loop-at.s (rows_at p) c.loop-at.at c.loop-at.invariant c.if-s.false (no_fault c))
+pub note_row-requires : goal.note_row-requires
+note_row-requires c =
+    let p = (goal.at.note_row-requires c).At-loop-at in
+    rw c.read_line-next.ensures (has_room_for_row (file_of p) c.loop-at.s (rows_at p) c.loop-at.at c.loop-at.invariant c.if-s.false (no_fault (goal.at.note_row-requires c).In_default))
 
 pub loop-at-smaller : goal.loop-at-smaller
 loop-at-smaller c =
@@ -94,22 +93,22 @@ loop-at-preserved c =
     let p = (goal.at.loop-at-preserved c).At-loop-at in
     let h = in-file (goal.at.loop-at-preserved c).After-fault_of in
     let l = c.read_line-next.ensures in
-    let known = c.after_frame-s in
+    let known = c.note_frame in
     rw l (
     continues (file_of p) c.loop-at.s (rows_at p) c.loop-at.at c.loop-at.invariant c.if-s.false (no_fault (goal.at.loop-at-preserved c).In_default) h _ _
-    (ap (progress_of known.result) c.rows_after-rows.ensures ∙ known.ensures (rows_at p)
+    (ap (progress_of known.new.s) c.note_row.ensures ∙ known.ensures (rows_at p)
     ∙ ap (λ (x : ReadLine). after (progress_of c.loop-at.s (rows_at p)) x.line) l)
     )
 
 pub finish-requires : goal.finish-requires
-finish-requires c = let p = (goal.at.finish-requires c).At-loop-at in small (file_of p) c.loop-at.s (rows_at p) c.loop-at.at c.loop-at.invariant (not-false _ c.if-not-s.false)
+finish-requires c = let p = (goal.at.finish-requires c).At-loop-at in small (file_of p) c.loop-at.s (rows_at p) c.loop-at.at c.loop-at.invariant c.if-not-s.false
 
 pub returns-then-not-s : goal.returns-then-not-s
 returns-then-not-s c =
     let p = (goal.at.returns-then-not-s c).At-loop-at in
-    sym (cut_short (file_of p) c.loop-at.s (rows_at p) c.loop-at.at c.loop-at.invariant (omega arith) (not-true _ c.if-not-s.true))
+    sym (cut_short (file_of p) c.loop-at.s (rows_at p) c.loop-at.at c.loop-at.invariant (omega arith) c.if-not-s.true)
 
 pub returns : goal.returns
 returns c =
     let p = (goal.at.returns c).At-loop-at in
-    c.finish.ensures ∙ sym (complete (file_of p) c.loop-at.s (rows_at p) c.loop-at.at c.loop-at.invariant (omega arith) (not-false _ c.if-not-s.false))
+    c.finish.ensures ∙ sym (complete (file_of p) c.loop-at.s (rows_at p) c.loop-at.at c.loop-at.invariant (omega arith) c.if-not-s.false)
